@@ -21,6 +21,7 @@ impl Pattern {
     };
 
     /// The bit at a pixel in window coordinates, which may be negative.
+    #[tactic(auto, unfolding(crate::specs::Pattern::pattern_bit))]
     pub fn bit(self, x: i32, y: i32) -> bool
         ensures { result ≡ pattern_bit self.rows x y }
     {
@@ -30,6 +31,7 @@ impl Pattern {
 }
 
 /// Where a coordinate falls in a pattern, 0 to 7.
+#[tactic(auto, unfolding(crate::specs::Pattern::place_in_pattern))]
 fn place_in_pattern(coordinate: i32) -> usize
     ensures place { result ≡ place_in_pattern coordinate }
     ensures within { result < 8 }
