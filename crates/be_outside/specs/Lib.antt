@@ -1,0 +1,4 @@
+pub mod Edge
+pub mod Faults
+pub mod InMemory
+pub mod Telling

@@ -1,0 +1,69 @@
+ghost use Rattle.std.specs.Prelude.{◌≡◌, ◌≤◌, ◌↔◌, ◌++◌, min, length, take, drop, vec_len, Some, IsErr, IfOk, OnErr, Contains};
+ghost use Rattle.be_outside.specs.Faults.{one_more};
+ghost use Rattle.be_outside.specs.InMemory.{Supply};
+
+use crate::calls::Calls;
+use crate::{Failed, Source};
+use std::marker::Model;
+
+/// A source of bytes in memory, which fails where a test wants it to. It tells its bytes. A call
+/// costs what it gives, and a look at each number in the list of failing calls.
+#[derive(Drop)]
+pub struct MemorySource {
+    bytes: Vec<u8>,
+    taken: usize,
+    calls: Calls,
+}
+
+impl Model for MemorySource {
+    ghost Value = { Supply };
+
+    ghost view = { λ s. record {
+      left = drop s.taken s.bytes.items;
+      failing = s.calls.failing.items;
+      calls = s.calls.made;
+      faults = s.calls.faults;
+    } };
+
+    ghost invariant = { λ s. s.taken ≤ vec_len s.bytes };
+}
+
+impl MemorySource {
+    /// Call k, counted from 0, fails where k is in `failing`.
+    pub fn new(bytes: Vec<u8>, failing: Vec<u64>) -> MemorySource
+        ensures { result ≡ record { left = bytes.items; failing = failing.items; calls = 0; faults = 0 } }
+    {
+        MemorySource {
+            bytes,
+            taken: 0,
+            calls: Calls::new(failing),
+        }
+    }
+}
+
+impl Source for MemorySource {
+    ghost left = { λ s. Some s.left };
+
+    ghost faults = { λ s. s.faults };
+
+    fn read(&mut self, buf: &mut [u8]) -> Result<usize, Failed>
+        ensures fails { IsErr result ↔ Contains self.old.failing self.old.calls }
+        ensures count { IfOk result (λ n. n ≡ min (length buf.old) (length self.old.left)) }
+        ensures filled { IfOk result (λ n. buf.new ≡ take n self.old.left ++ drop n buf.old) }
+        ensures ok { IfOk result (λ n. self.new
+            ≡ record self.old { left = drop n self.old.left; calls = one_more self.old.calls }) }
+        ensures err { OnErr result (self.new
+            ≡ record self.old { calls = one_more self.old.calls; faults = one_more self.old.faults }) }
+        ensures untouched { OnErr result (buf.new ≡ buf.old) }
+        ensures never_falls { self.old.faults ≤ self.new.faults }
+    {
+        if self.calls.begin() {
+            return Err(self.calls.fail());
+        }
+        let left = &self.bytes[self.taken..];
+        let count = left.len().min(buf.len());
+        buf[..count].copy_from_slice(&left[..count]);
+        self.taken += count;
+        Ok(count)
+    }
+}
