@@ -1,0 +1,7 @@
+use Rattle.std.proofs.Common.{arith}
+use Rattle.std.proofs.lemmas.Int.{ints, clamps}
+use Rattle.be_region.proofs.FrameLemmas.{same_rects}
+use Rattle.be_region.proofs.edges.around.Goals as goal
+
+pub returns : goal.returns
+returns c = same_rects _ _ _ _ _ _ _ _ (omega (arith, ints, clamps)) (omega (arith, ints, clamps)) (omega (arith, ints, clamps)) (omega (arith, ints, clamps))

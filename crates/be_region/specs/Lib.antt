@@ -1,0 +1,3 @@
+pub mod Regions
+pub mod Frames
+pub mod Pieces

@@ -1,0 +1,142 @@
+ghost use Rattle.std.specs.Prelude.{◌≡◌, ◌≤◌, ◌↔◌, length, slice_get, IsErr, IsNone, IfOk, IfSome, OnOk, OnErr};
+ghost use Rattle.be_region.specs.Regions.{region_has, HasNone, HasPixelsOf, SamePixels, IsUnion, IsDifference, IsIntersection, IsMoved, SomePixelLeaves, AreDisjointRects};
+ghost use Rattle.be_region.specs.Frames.{IsFrame};
+
+use crate::common::common;
+use crate::edges::{are_movable, frame_of, has_pixel, move_all};
+use crate::without::without_all;
+use be_geom::{NoMemory, OutOfRange, Rect};
+use std::alloc::Global;
+use std::marker::Model;
+
+/// A set of pixels: `BRegion`.
+///
+/// Its rectangles are disjoint, none is empty, together they are the set, and they come in any
+/// order.
+#[derive(Debug, Drop)]
+pub struct Region {
+    rects: Vec<Rect>,
+}
+
+impl Model for Region {
+    ghost use Rattle.std.specs.Prelude.{List};
+    ghost use Rattle.be_geom.specs.declared.rect.Rect.{Rect};
+    ghost use Rattle.be_region.specs.Regions.{AreDisjointRects};
+
+    ghost Value = { List Rect };
+
+    ghost view = { λ r. r.rects.items };
+
+    ghost invariant = { λ r. AreDisjointRects r.rects.items };
+}
+
+impl Region {
+    /// The set without pixels.
+    pub fn empty(alloc: Global) -> Region
+        ensures { HasNone result }
+    {
+        Region {
+            rects: Vec::new(alloc),
+        }
+    }
+
+    /// The pixels of a rectangle, which may be empty.
+    pub fn from_rect(alloc: Global, rect: Rect) -> Result<Region, NoMemory>
+        ensures { IfOk result (λ region. HasPixelsOf region rect) }
+    {
+        let mut rects = Vec::new(alloc);
+        if !rect.is_empty() {
+            rects.push(rect)?;
+        }
+        Ok(Region { rects })
+    }
+
+    /// Adds the pixels of another set: `BRegion::Include`.
+    pub fn include(&mut self, other: &Region) -> Result<(), NoMemory>
+        ensures ok { OnOk result (IsUnion self.new self.old other.now) }
+        ensures err { OnErr result (self.new ≡ self.old) }
+    {
+        let alloc = *self.rects.allocator();
+        let added = without_all(alloc, &other.rects, &self.rects)?;
+        self.rects.extend_from_slice(&added)?;
+        Ok(())
+    }
+
+    /// Takes the pixels of another set away: `BRegion::Exclude`.
+    pub fn exclude(&mut self, other: &Region) -> Result<(), NoMemory>
+        ensures ok { OnOk result (IsDifference self.new self.old other.now) }
+        ensures err { OnErr result (self.new ≡ self.old) }
+    {
+        let alloc = *self.rects.allocator();
+        self.rects = without_all(alloc, &self.rects, &other.rects)?;
+        Ok(())
+    }
+
+    /// Keeps the pixels that another set has too: `BRegion::IntersectWith`.
+    pub fn intersect(&mut self, other: &Region) -> Result<(), NoMemory>
+        ensures ok { OnOk result (IsIntersection self.new self.old other.now) }
+        ensures err { OnErr result (self.new ≡ self.old) }
+    {
+        let alloc = *self.rects.allocator();
+        self.rects = common(alloc, &self.rects, &other.rects)?;
+        Ok(())
+    }
+
+    /// The same set, on the same allocator.
+    pub fn copy(&self) -> Result<Region, NoMemory>
+        ensures { IfOk result (λ region. SamePixels region self.now) }
+    {
+        let alloc = *self.rects.allocator();
+        Ok(Region {
+            rects: Vec::from_slice(alloc, &self.rects)?,
+        })
+    }
+
+    /// Moves each pixel by `dx` to the right and `dy` down: `BRegion::OffsetBy`.
+    pub fn offset(&mut self, dx: i32, dy: i32) -> Result<(), OutOfRange>
+        ensures ok { OnOk result (IsMoved self.new self.old dx dy) }
+        ensures out { IsErr result ↔ SomePixelLeaves self.old dx dy }
+        ensures err { OnErr result (self.new ≡ self.old) }
+    {
+        if !are_movable(&self.rects, dx, dy) {
+            return Err(OutOfRange);
+        }
+        move_all(&mut self.rects, dx, dy);
+        Ok(())
+    }
+
+    /// Whether the pixel is in the set: `BRegion::Contains`.
+    pub fn contains(&self, x: i32, y: i32) -> bool
+        ensures { result ≡ region_has self.now x y }
+    {
+        self.rects.iter().any(|rect| has_pixel(*rect, x, y))
+    }
+
+    /// The number of rectangles: `BRegion::CountRects`.
+    pub fn count(&self) -> usize
+        ensures number { result ≡ length self.now }
+        ensures disjoint { AreDisjointRects self.now }
+    {
+        self.rects.len()
+    }
+
+    /// A rectangle by its place, counted from 0: `BRegion::RectAt`.
+    pub fn rect_at(&self, place: usize) -> Option<Rect>
+        ensures none { IsNone result ↔ (length self.now ≤ place) }
+        ensures at_place { result ≡ slice_get self.now place }
+        ensures disjoint { AreDisjointRects self.now }
+    {
+        self.rects.get(place).copied()
+    }
+
+    /// The smallest rectangle that holds the set: `BRegion::Frame`. None where the set is empty.
+    pub fn frame(&self) -> Option<Rect>
+        ensures none { IsNone result ↔ HasNone self.now }
+        ensures some { IfSome result (λ frame. IsFrame frame self.now) }
+    {
+        frame_of(&self.rects)
+    }
+}
+
+#[cfg(test)]
+mod tests;
