@@ -1,9 +1,20 @@
 -- How told bytes add up over several reads and puts, for callers that are generic in their source or sink.
-use Rattle.std.proofs.Common.{◌≡◌, ℕ, ◌+◌, ◌<◌, List, [], ◌++◌, Option, Some, None, length, get_or, take, drop, refl, sym, ap, ◌∙◌, append_assoc, append-nil}
+use Rattle.std.proofs.Common.{◌≡◌, ℕ, ◌+◌, ◌<◌, List, [], ◌++◌, Option, Some, None, length, get_or, take, drop, IfSome, refl, sym, ap, subst, ◌∙◌, append_assoc, append-nil}
 use Rattle.std.specs.Prelude.{flat_map}
 use Rattle.std.proofs.lemmas.List.{take-append-drop, drop_more}
 use Rattle.std.proofs.lemmas.List.Concat.{flat_map-append}
-use Rattle.be_outside.specs.Telling.{with_end, TakesPrefix}
+use Rattle.be_outside.specs.Telling.{with_front, with_end, IsDrained, TakesPrefix}
+
+-- The source gave these bytes and came to its end: what is true of them is true of all that it told.
+pub IfSome-drained : (P : List ℕ → Type 0) (bytes : List ℕ) (old new : Option (List ℕ)) → old ≡ with_front bytes new → IsDrained new → P bytes → IfSome old P
+IfSome-drained P bytes old None given end holds = subst (λ o. IfSome o P) (sym given) tt
+IfSome-drained P bytes old (Some rest) given end holds =
+    subst (λ o. IfSome o P) (sym given) (subst P (sym (ap (λ l. bytes ++ l) end ∙ append-nil bytes)) holds)
+
+-- The source gave these bytes: what is true of them with any others behind is true of all that it told.
+pub IfSome-given : (P : List ℕ → Type 0) (bytes : List ℕ) (old new : Option (List ℕ)) → old ≡ with_front bytes new → ((rest : List ℕ) → P (bytes ++ rest)) → IfSome old P
+IfSome-given P bytes old None given holds = subst (λ o. IfSome o P) (sym given) tt
+IfSome-given P bytes old (Some rest) given holds = subst (λ o. IfSome o P) (sym given) (holds rest)
 
 pub with_end-nil : (told : Option (List ℕ)) → with_end told [] ≡ told
 with_end-nil None = refl

@@ -1,7 +1,8 @@
 //! The program's edge: where its bytes come from, where they go, and where a test may hold it up.
 //!
-//! What a source has left and what a sink holds is told or isn't: a clause on bytes holds where they
-//! are told. The source and the sink in memory tell theirs, those over a reader and a writer don't.
+//! A source tells from its making on what it has left, or never does, and so does a sink what it
+//! holds. A clause on bytes says something where they are told. The source and the sink in memory
+//! tell theirs, those over a reader and a writer don't.
 #![tactic(auto)]
 
 mod calls;
