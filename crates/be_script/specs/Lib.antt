@@ -1,1 +1,11 @@
 pub mod Script
+pub mod Work
+pub mod Words
+pub mod Lines
+pub mod FirstWords
+pub mod Statements
+pub mod Scope
+pub mod Reasons
+pub mod Judging
+pub mod Grammar
+pub mod Seen

@@ -4,12 +4,29 @@
 //! declaration, and what stands elsewhere in it names a window or an application by its place there.
 #![tactic(auto)]
 
+mod body;
 mod command;
+mod cost;
+mod first_word;
+mod line;
+mod number;
 mod program;
+mod reader;
+mod reading;
+mod reason;
 mod script;
 mod text;
+mod windows;
+mod word;
+mod words;
 
 pub use command::Command;
+pub use cost::work;
 pub use program::{Instruction, Program};
+pub use reading::read;
+pub use reason::{Reason, ScriptFault};
 pub use script::{AppLine, Script, WindowLine};
 pub use text::Text;
+
+#[cfg(test)]
+mod tests;

@@ -1,7 +1,9 @@
-ghost use Rattle.std.specs.Prelude.{◌≡◌, List, length, slice_get};
+ghost use Rattle.std.specs.Prelude.{◌≡◌, ◌++◌, ◌∷◌, [], List, length, slice_get, OnOk, OnErr};
 ghost use Rattle.std.specs.Option.{option_copied};
 
 use crate::command::Command;
+use be_geom::NoMemory;
+use std::alloc::Global;
 use std::marker::Model;
 
 /// One step of a program. A window is named by its place among the windows.
@@ -31,6 +33,23 @@ impl Model for Program {
 }
 
 impl Program {
+    /// No instruction yet. It takes no memory.
+    pub fn new(alloc: Global) -> Program
+        ensures { result ≡ [] }
+    {
+        Program {
+            steps: Vec::new(alloc),
+        }
+    }
+
+    /// One more instruction at the end.
+    pub fn push(&mut self, step: Instruction) -> Result<(), NoMemory>
+        ensures ok { OnOk result (self.new ≡ self.old ++ step ∷ []) }
+        ensures err { OnErr result (self.new ≡ self.old) }
+    {
+        Ok(self.steps.push(step)?)
+    }
+
     /// How many instructions there are.
     pub fn len(&self) -> usize
         ensures { result ≡ length self.now }

@@ -1,0 +1,6 @@
+pub mod Splits
+pub mod Numbers
+pub mod LineLemmas
+pub mod Costs
+pub mod LineTests
+pub mod ScriptLines

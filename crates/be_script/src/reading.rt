@@ -1,0 +1,68 @@
+ghost use Rattle.be_script.specs.Grammar.{script_of, finished};
+ghost use Rattle.be_script.specs.Seen.{seen, Reads};
+
+use crate::cost::work;
+use crate::line::Line;
+use crate::reader::Reader;
+use crate::reason::{Reason, ScriptFault};
+use crate::script::Script;
+use std::alloc::Global;
+
+const SCRIPT_BYTES: usize = 1_048_576;
+
+const WORK: u64 = 262_144;
+
+/// Reads a script. It costs a number of steps that is linear in the bytes, and memory for what the
+/// script says alone.
+pub fn read(alloc: Global, bytes: &[u8]) -> Result<Script, ScriptFault>
+    ensures { Reads result (script_of bytes.now) }
+{
+    if bytes.len() > SCRIPT_BYTES {
+        return Err(ScriptFault::At {
+            line: 0,
+            reason: Reason::TooLong,
+        });
+    }
+    let mut reader = Reader::new(alloc);
+    let mut rest = bytes;
+    let mut number = 1;
+    while let Some((line, behind)) = Line::first_of(rest) {
+        if let Err(fault) = reader.line(&line) {
+            return Err(fault.at(number));
+        }
+        rest = behind;
+        number += 1;
+    }
+    finish(reader, number)
+}
+
+// The script whose lines were read; it would have the next line with this number.
+#[tactic(auto, unfolding(crate::specs::Grammar::finished))]
+fn finish(reader: Reader, line: u64) -> Result<Script, ScriptFault>
+    ensures { Reads result (finished line (seen reader) reader.screen) }
+{
+    let Some(screen) = reader.screen else {
+        return Err(ScriptFault::At {
+            line,
+            reason: Reason::Unfinished,
+        });
+    };
+    if reader.body.is_some() {
+        return Err(ScriptFault::At {
+            line,
+            reason: Reason::Unfinished,
+        });
+    }
+    let script = Script {
+        screen,
+        windows: reader.windows.into_lines(),
+        apps: reader.apps,
+    };
+    if work(&script) > WORK {
+        return Err(ScriptFault::At {
+            line,
+            reason: Reason::TooMuchWork,
+        });
+    }
+    Ok(script)
+}
