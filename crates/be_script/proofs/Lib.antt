@@ -4,3 +4,4 @@ pub mod LineLemmas
 pub mod Costs
 pub mod LineTests
 pub mod ScriptLines
+pub mod Soundness

@@ -1,7 +1,10 @@
 -- Which bytes are a script and what it says, and which fault all others have.
-use Rattle.std.specs.Prelude.{ℕ, ◌+◌, nat_lt, is_some, if◌then◌else◌, List, [], ◌∷◌, length, Option, Some, None, Result, Ok, Err}
+use Rattle.std.specs.Prelude.{◌≡◌, ℕ, ◌+◌, nat_lt, is_some, if◌then◌else◌, List, [], ◌∷◌, length, Option, Some, None, Result, Ok, Err}
 use Rattle.be_script.specs.declared.reason.Reason.{Reason}
 use Rattle.be_script.specs.declared.reason.Reason.TheVariants.{TooLong, Unfinished, TooMuchWork}
+use Rattle.be_script.specs.declared.reason.ScriptFault.{ScriptFault}
+use Rattle.be_script.specs.declared.reason.ScriptFault.TheVariants.{At, NoMemory}
+use Rattle.be_script.specs.Limits.{most_script_bytes, most_work}
 use Rattle.be_script.specs.Script.{Declared}
 use Rattle.be_script.specs.Work.{work_of}
 use Rattle.be_script.specs.Lines.{Line, lines_of}
@@ -25,7 +28,7 @@ said_in scope size = record { width = size.0; height = size.1; windows = scope.w
 unfoldable pub finished : ℕ → Scope → Option (ℕ × ℕ) → Result Declared Fault
 finished line scope None = fault line Unfinished
 finished line scope (Some size) =
-    if is_some scope.body then fault line Unfinished else (if nat_lt 262144 (work_of (said_in scope size)) then fault line TooMuchWork else Ok (said_in scope size))
+    if is_some scope.body then fault line Unfinished else (if nat_lt most_work (work_of (said_in scope size)) then fault line TooMuchWork else Ok (said_in scope size))
 
 -- ---- the lines
 
@@ -41,4 +44,9 @@ read_lines number scope (line ∷ lines) = and_then number (read_line scope line
 
 -- what a script says; a script has at most 1,048,576 bytes
 unfoldable pub script_of : List ℕ → Result Declared Fault
-script_of bytes = if nat_lt 1048576 (length bytes) then fault 0 TooLong else read_lines 1 opening (lines_of bytes)
+script_of bytes = if nat_lt most_script_bytes (length bytes) then fault 0 TooLong else read_lines 1 opening (lines_of bytes)
+
+-- a fault is the script's, but for memory
+abbrev pub IsFaultOf : ScriptFault → Result Declared Fault → Type 0
+IsFaultOf (At line reason) said = said ≡ fault line reason
+IsFaultOf NoMemory said = Unit {0}

@@ -7,6 +7,7 @@ use Rattle.be_geom.specs.Points.{between}
 use Rattle.be_geom.specs.Rects.{rect_fits}
 use Rattle.be_script.specs.declared.reason.Reason.{Reason}
 use Rattle.be_script.specs.declared.reason.Reason.TheVariants.{Shape, Range, NameTaken, UnknownName, TooMany}
+use Rattle.be_script.specs.Limits.{most_windows, most_apps, most_steps}
 use Rattle.be_script.specs.Lines.{Line, text_of}
 use Rattle.be_script.specs.Words.{words_of, is_reserved}
 use Rattle.be_script.specs.FirstWords.{first_word_of}
@@ -43,13 +44,13 @@ names_unknown scope (Lock name) = is_none (window_named scope.windows name)
 names_unknown scope (Fill view rect) = not (bytes_eq view (codes "root"))
 names_unknown scope _ = false
 
--- there is room for one window, for one application, and in it for 1,024 steps
+-- there are as many windows, applications, or steps of the open application as a script may have
 abbrev pub has_no_room : Scope → Statement → Bool
 has_no_room scope (Screen width height) = false
-has_no_room scope (Window name frame) = nat_le 1 (length scope.windows)
-has_no_room scope (App name) = nat_le 1 (length scope.apps)
+has_no_room scope (Window name frame) = nat_le most_windows (length scope.windows)
+has_no_room scope (App name) = nat_le most_apps (length scope.apps)
 has_no_room scope End = false
-has_no_room scope _ = holds scope.body (λ body. nat_le 1024 (length body.program))
+has_no_room scope _ = holds scope.body (λ body. nat_le most_steps (length body.program))
 
 -- None stands for words of the wrong form
 abbrev pub tests_of_statement : Scope → Option Statement → List (Reason × Bool)

@@ -1,11 +1,14 @@
 pub mod Script
+pub mod Limits
 pub mod Work
 pub mod Words
 pub mod Lines
 pub mod FirstWords
+pub mod Unbuilt
 pub mod Statements
 pub mod Scope
 pub mod Reasons
 pub mod Judging
 pub mod Grammar
+pub mod WithinLimits
 pub mod Seen

@@ -5,9 +5,11 @@ use Rattle.be_script.specs.declared.reason.Reason.{Reason}
 use Rattle.be_script.specs.declared.reason.Reason.TheVariants.{LongLine, BadByte, UnknownWord, NotBuilt, Place, NotHere}
 use Rattle.be_script.specs.declared.first_word.FirstWord.{FirstWord}
 use Rattle.be_script.specs.declared.first_word.FirstWord.TheVariants as first
+use Rattle.be_script.specs.Limits.{most_line_bytes}
 use Rattle.be_script.specs.Lines.{Line, has_return, text_of}
 use Rattle.be_script.specs.Words.{words_of, has_stray_space, is_listed}
-use Rattle.be_script.specs.FirstWords.{first_word_of, words_to_come, has_unbuilt_word}
+use Rattle.be_script.specs.FirstWords.{first_word_of}
+use Rattle.be_script.specs.Unbuilt.{words_to_come, has_unbuilt_word}
 use Rattle.be_script.specs.Scope.{Scope, locked_in}
 
 -- a value is there, and the test holds of it
@@ -23,7 +25,7 @@ is_bad_byte b = nat_lt b 32 || nat_lt 126 b
 -- a line has at most 2,048 bytes, each of 32 to 126
 abbrev pub tests_of_bytes : Line → List (Reason × Bool)
 tests_of_bytes line =
-    (LongLine, nat_lt 2048 (length line.bytes)) ∷ (BadByte, list_any is_bad_byte (text_of line)) ∷ []
+    (LongLine, nat_lt most_line_bytes (length line.bytes)) ∷ (BadByte, list_any is_bad_byte (text_of line)) ∷ []
 
 -- ---- of the first word
 

@@ -13,8 +13,7 @@ use Rattle.be_script.specs.declared.script.AppLine.{AppLine}
 use Rattle.be_script.specs.declared.body.Body.{Body}
 use Rattle.be_script.specs.Statements.{Statement, Screen, Window, App, End, Lock, Unlock, Show, Fill}
 
--- the screen, where it is said; the windows and the applications that are closed; the application that is open, with
--- the window that it has locked
+-- the screen, where one was said; the windows; the applications that are closed, and the one that is open
 pub record Scope : Type 0 where
   pub screen : Option (ℕ × ℕ)
   pub windows : List WindowLine
@@ -25,6 +24,7 @@ pub record Scope : Type 0 where
 abbrev pub opening : Scope
 opening = record { screen = None; windows = []; apps = []; body = None }
 
+-- the place of the first window with this name
 abbrev pub window_named : List WindowLine → List ℕ → Option ℕ
 window_named windows name = position_from (λ window. bytes_eq window.name name) 0 windows
 
@@ -45,9 +45,11 @@ abbrev pub closed : Scope → Option Body → Scope
 closed scope None = scope
 closed scope (Some body) = record scope { apps = scope.apps ++ record { name = body.name; program = body.program } ∷ []; body = None }
 
+-- the pattern `high`
 abbrev pub high : Pattern
 high = record { rows = replicate 8 255 }
 
+-- with what a line adds
 unfoldable pub after : Scope → Statement → Scope
 after scope (Screen width height) = record scope { screen = Some (unsigned_abs width, unsigned_abs height) }
 after scope (Window name frame) = record scope { windows = scope.windows ++ record { name = name; frame = frame } ∷ [] }

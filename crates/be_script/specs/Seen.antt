@@ -11,9 +11,10 @@ use Rattle.be_script.specs.declared.reason.ScriptFault.{ScriptFault}
 use Rattle.be_script.specs.declared.reason.ScriptFault.TheVariants.{At, NoMemory}
 use Rattle.be_script.specs.declared.script.Script.{Script}
 use Rattle.be_script.specs.Script.{Declared, declared_by}
-use Rattle.be_script.specs.Grammar.{Fault, fault}
+use Rattle.be_script.specs.Grammar.{Fault, IsFaultOf}
 use Rattle.be_script.specs.declared.reason.LineFault.{LineFault}
 use Rattle.be_script.specs.declared.reason.LineFault.TheVariants.{Memory, Refused}
+use Rattle.be_script.specs.Limits.{most_steps}
 use Rattle.be_script.specs.Statements.{Statement}
 use Rattle.be_script.specs.Scope.{Scope, with_step}
 use Rattle.be_script.specs.Reasons.{holds}
@@ -53,12 +54,12 @@ Passes (Err e) failed = IsFailed e failed
 -- one more step, where there is room for it, and then this lock
 abbrev pub body_with_step : Body → Instruction → Option ℕ → Result Body Reason
 body_with_step body step locked =
-    if nat_le 1024 (length body.program) then Err TooMany else Ok (record { name = body.name; program = body.program ++ step ∷ []; locked = locked })
+    if nat_le most_steps (length body.program) then Err TooMany else Ok (record { name = body.name; program = body.program ++ step ∷ []; locked = locked })
 
 -- the same of the open application
 abbrev pub one_more_step : Scope → Instruction → Option ℕ → Result Scope Reason
 one_more_step scope step locked =
-    if holds scope.body (λ body. nat_le 1024 (length body.program)) then Err TooMany else Ok (with_step scope step locked)
+    if holds scope.body (λ body. nat_le most_steps (length body.program)) then Err TooMany else Ok (with_step scope step locked)
 
 -- the same fault of a script
 abbrev pub fault_at : ℕ → LineFault → ScriptFault
@@ -68,5 +69,4 @@ fault_at line (Refused reason) = At line reason
 -- a script that was read says what the grammar says, and a fault is the grammar's, but for memory
 abbrev pub Reads : Result Script ScriptFault → Result Declared Fault → Type 0
 Reads (Ok script) said = said ≡ Ok (declared_by script)
-Reads (Err (At line reason)) said = said ≡ fault line reason
-Reads (Err NoMemory) said = Unit {0}
+Reads (Err e) said = IsFaultOf e said

@@ -6,7 +6,7 @@ use Rattle.be_script.specs.declared.first_word.FirstWord.{FirstWord}
 use Rattle.be_script.specs.declared.first_word.FirstWord.TheVariants as first
 use Rattle.be_script.specs.Words.{is_name, is_number, number_of}
 
--- a line that is declared or ordered, with its names and numbers as they stand there
+-- what a line declares or orders, with its names and numbers as they stand in it
 pub data Statement : Type 0 where
   Screen : ℤ → ℤ → Statement
   Window : List ℕ → Rect → Statement
@@ -51,7 +51,7 @@ abbrev pub at_end : List (List ℕ) → Statement → Option Statement
 at_end [] statement = Some statement
 at_end (word ∷ words) statement = None
 
--- None where a word has the wrong form, is missing or is one too many
+-- what a line says; None where a word has the wrong form, is missing or is one too many
 unfoldable pub statement_of : FirstWord → List (List ℕ) → Option Statement
 statement_of first.Screen words = do
   width ← number_at words

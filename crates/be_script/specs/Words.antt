@@ -1,9 +1,10 @@
 -- What words a line has, and which of them are names and numbers.
-use Rattle.std.specs.Prelude.{ℕ, ℤ, pos, neg_ℤ, Bool, true, false, not, ◌==◌, ◌&&◌, ◌||◌, nat_le, if◌then◌else◌, List, [], ◌∷◌, length, filter, codes}
+use Rattle.std.specs.Prelude.{ℕ, ℤ, pos, neg_ℤ, Bool, true, false, not, ◌==◌, ◌&&◌, ◌||◌, nat_lt, if◌then◌else◌, List, [], ◌∷◌, length, filter, codes}
 use Rattle.std.specs.List.{slice_split, list_any, list_all}
 use Rattle.std.specs.Char.{is_ascii_digit, is_ascii_lowercase}
 use Rattle.std.specs.Str.{bytes_eq}
 use Rattle.std.specs.Str.Parse.{digits_value}
+use Rattle.be_script.specs.Limits.{most_name_bytes}
 
 abbrev pub is_space : ℕ → Bool
 is_space b = b == 32
@@ -31,7 +32,7 @@ is_name_byte b = (is_ascii_lowercase b || is_ascii_digit b) || (b == 95)
 -- a name: 1 to 16 of those, a letter first
 unfoldable pub is_name : List ℕ → Bool
 is_name [] = false
-is_name (b ∷ bytes) = (is_ascii_lowercase b && list_all is_name_byte bytes) && nat_le (length bytes) 15
+is_name (b ∷ bytes) = (is_ascii_lowercase b && list_all is_name_byte bytes) && nat_lt (length bytes) most_name_bytes
 
 -- no name that a line may declare
 unfoldable pub is_reserved : List ℕ → Bool

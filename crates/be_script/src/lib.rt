@@ -16,6 +16,7 @@ mod reading;
 mod reason;
 mod script;
 mod text;
+mod unbuilt;
 mod windows;
 mod word;
 mod words;

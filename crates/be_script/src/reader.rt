@@ -1,12 +1,8 @@
-ghost use Rattle.std.specs.Prelude.{◌≡◌, Some, IfOk};
-ghost use Rattle.std.specs.List.{list_any};
+ghost use Rattle.std.specs.Prelude.{◌≡◌, Some};
 ghost use Rattle.be_script.specs.declared.first_word.FirstWord.TheVariants as first;
-ghost use Rattle.be_script.specs.Lines.{text_of};
-ghost use Rattle.be_script.specs.Words.{words_of};
-ghost use Rattle.be_script.specs.FirstWords.{is_option, has_unbuilt_word};
 ghost use Rattle.be_script.specs.Statements.{statement_of};
 ghost use Rattle.be_script.specs.Scope.{opening, locked_in, app_named};
-ghost use Rattle.be_script.specs.Reasons.{word_in, tests_of_bytes, tests_of_first_word, tests_of_place};
+ghost use Rattle.be_script.specs.Reasons.{tests_of_bytes, tests_of_place};
 ghost use Rattle.be_script.specs.Judging.{is_side, is_frame, first_reason, read_line};
 ghost use Rattle.be_script.specs.Seen.{seen, Gives, Passes, judge, one_more_step};
 
@@ -18,24 +14,20 @@ use crate::program::{Instruction, Program};
 use crate::reason::{LineFault, Reason};
 use crate::script::{AppLine, Script, WindowLine};
 use crate::text::Text;
+use crate::unbuilt::built_word;
 use crate::windows::Windows;
-use crate::word::{
-    has_bad_byte, has_stray_space, is_listed, is_option, is_other_pattern, is_reserved,
-};
+use crate::word::{has_bad_byte, is_reserved};
 use crate::words::Words;
 use be_color::Pattern;
 use be_geom::{Change, Rect};
 use std::alloc::Global;
 
-// How much a script may have.
+// The most that a line and a script may have.
 const LINE_BYTES: usize = 2048;
 
 const WINDOWS: usize = 1;
 
 const APPS: usize = 1;
-
-const WORDS_TO_COME: &[u8] =
-    b"bitmap row view handler filter on draw press release point key after note post send reply forward flush sync frame line text high low viewcolor mode pensize pen origin clip push pop copybits invalidate hide moveto moveby resizeto activate behind focus close";
 
 // What the lines so far have said.
 #[derive(Drop)]
@@ -65,7 +57,7 @@ impl Reader {
         ensures { Gives (seen self.new) result (read_line (seen self.old) line.now) }
     {
         check_bytes(line)?;
-        let word = first_word(line)?;
+        let word = built_word(line)?;
         self.check_place(word)?;
         let mut words = Words::of(line.text());
         words.next();
@@ -265,53 +257,6 @@ fn check_bytes(line: &Line<'_>) -> Result<(), LineFault>
     } else {
         Ok(())
     }
-}
-
-// What the line begins with, where it has nothing that isn't built.
-fn first_word(line: &Line<'_>) -> Result<FirstWord, LineFault>
-    ensures tests { Passes result (first_reason (tests_of_first_word line.now)) }
-    ensures word { IfOk result (λ word. word_in (words_of (text_of line.now)) ≡ Some word) }
-{
-    let text = line.text();
-    let Some(first) = Words::of(text).next() else {
-        return Err(LineFault::Refused(Reason::NotBuilt));
-    };
-    let Some(word) = FirstWord::of(first) else {
-        if matches!(first, [b'#', ..]) || is_listed(WORDS_TO_COME, first) {
-            return Err(LineFault::Refused(Reason::NotBuilt));
-        }
-        return Err(LineFault::Refused(Reason::UnknownWord));
-    };
-    if line.has_return() || has_stray_space(text) || has_unbuilt_word(word, Words::of(text)) {
-        return Err(LineFault::Refused(Reason::NotBuilt));
-    }
-    Ok(word)
-}
-
-// Whether an option stands behind a window's frame, or another pattern where a fill has its pattern.
-fn has_unbuilt_word(word: FirstWord, mut words: Words<'_>) -> bool
-    ensures { result ≡ has_unbuilt_word word words.entry }
-{
-    words.skip(6);
-    match word {
-        FirstWord::Window => has_option(words),
-        FirstWord::Fill => match words.next() {
-            Some(word) => is_other_pattern(word),
-            None => false,
-        },
-        _ => false,
-    }
-}
-
-fn has_option(mut words: Words<'_>) -> bool
-    ensures { result ≡ list_any is_option words.entry }
-{
-    while let Some(word) = words.next() {
-        if is_option(word) {
-            return true;
-        }
-    }
-    false
 }
 
 // Whether a window may have the frame: it has a pixel, and its edges aren't too far apart.

@@ -1,4 +1,7 @@
-ghost use Rattle.be_script.specs.Grammar.{script_of, finished};
+ghost use Rattle.std.specs.Prelude.{◌≡◌, Ok, IfOk, IfErr};
+ghost use Rattle.be_script.specs.Script.{declared_by};
+ghost use Rattle.be_script.specs.Grammar.{script_of, finished, IsFaultOf};
+ghost use Rattle.be_script.specs.WithinLimits.{IsWithinLimits};
 ghost use Rattle.be_script.specs.Seen.{seen, Reads};
 
 use crate::cost::work;
@@ -15,6 +18,14 @@ const WORK: u64 = 262_144;
 /// Reads a script. It costs a number of steps that is linear in the bytes, and memory for what the
 /// script says alone.
 pub fn read(alloc: Global, bytes: &[u8]) -> Result<Script, ScriptFault>
+    ensures script { IfOk result (λ script. script_of bytes.now ≡ Ok (declared_by script)) }
+    ensures fault { IfErr result (λ fault. IsFaultOf fault (script_of bytes.now)) }
+    ensures limits { IfOk result (λ script. IsWithinLimits (declared_by script)) }
+{
+    read_bytes(alloc, bytes)
+}
+
+fn read_bytes(alloc: Global, bytes: &[u8]) -> Result<Script, ScriptFault>
     ensures { Reads result (script_of bytes.now) }
 {
     if bytes.len() > SCRIPT_BYTES {

@@ -4,7 +4,6 @@ ghost use Rattle.std.specs.Char.{is_ascii_digit};
 ghost use Rattle.std.specs.Str.Parse.{digits_value};
 ghost use Rattle.be_script.specs.Words.{words_of, is_listed, has_stray_space, is_name_byte, is_name, is_reserved, is_natural, is_number};
 ghost use Rattle.be_script.specs.Reasons.{is_bad_byte};
-ghost use Rattle.be_script.specs.FirstWords.{is_hex_digit, is_color, is_capacity, is_option, is_other_pattern};
 
 use crate::words::Words;
 
@@ -145,52 +144,4 @@ pub(crate) fn natural(digits: &[u8]) -> Option<u32>
         }
     }
     Some(number)
-}
-
-// Whether the word is an option of a window, none of which is built.
-#[tactic(auto, unfolding(crate::specs::FirstWords::is_option))]
-pub(crate) fn is_option(word: &[u8]) -> bool
-    ensures { result ≡ is_option word.now }
-{
-    if let Some(capacity) = word.strip_prefix(b"port=") {
-        is_capacity(capacity)
-    } else if let Some(color) = word.strip_prefix(b"color=") {
-        is_color(color)
-    } else {
-        word == b"firstclick".as_slice() || word == b"avoidfocus".as_slice()
-    }
-}
-
-fn is_capacity(word: &[u8]) -> bool
-    ensures { result ≡ is_capacity word.now }
-{
-    is_natural(word) && matches!(natural(word), Some(1..=100))
-}
-
-fn is_color(word: &[u8]) -> bool
-    ensures { result ≡ is_color word.now }
-{
-    word == b"clear".as_slice() || word.len() == 6 && are_hex_digits(word)
-}
-
-// Whether the word is a pattern that isn't built.
-#[tactic(auto, unfolding(crate::specs::FirstWords::is_other_pattern))]
-pub(crate) fn is_other_pattern(word: &[u8]) -> bool
-    ensures { result ≡ is_other_pattern word.now }
-{
-    word == b"low".as_slice()
-        || word == b"mixed".as_slice()
-        || word.len() == 16 && are_hex_digits(word)
-}
-
-fn are_hex_digits(bytes: &[u8]) -> bool
-    ensures { result ≡ list_all is_hex_digit bytes.now }
-{
-    bytes.iter().all(|b| is_hex_digit(*b))
-}
-
-fn is_hex_digit(b: u8) -> bool
-    ensures { result ≡ is_hex_digit b }
-{
-    b.is_ascii_digit() || matches!(b, b'a'..=b'f')
 }

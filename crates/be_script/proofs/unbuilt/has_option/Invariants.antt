@@ -1,7 +1,7 @@
 use Rattle.std.proofs.Common.{◌≡◌, length}
 use Rattle.std.specs.List.{list_any}
-use Rattle.be_script.specs.FirstWords.{is_option}
-use Rattle.be_script.proofs.reader.has_option.Given as goal
+use Rattle.be_script.specs.Unbuilt.{is_option}
+use Rattle.be_script.proofs.unbuilt.has_option.Given as goal
 
 abbrev pub invariant-loop-word : goal.invariant-loop-word
 invariant-loop-word l = list_any is_option l.words ≡ list_any is_option l.fn.words

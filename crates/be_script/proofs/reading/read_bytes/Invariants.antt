@@ -3,7 +3,7 @@ use Rattle.be_script.specs.Lines.{lines_of}
 use Rattle.be_script.specs.Scope.{opening}
 use Rattle.be_script.specs.Grammar.{read_lines}
 use Rattle.be_script.specs.Seen.{seen}
-use Rattle.be_script.proofs.reading.read.Given as goal
+use Rattle.be_script.proofs.reading.read_bytes.Given as goal
 
 -- what the lines that are left make of what was said is what all lines say
 abbrev pub invariant-loop-line : goal.invariant-loop-line
