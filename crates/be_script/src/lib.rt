@@ -2,6 +2,10 @@
 //!
 //! A script declares a screen, windows and applications. Each of its lists is in the order of
 //! declaration, and what stands elsewhere in it names a window or an application by its place there.
+//!
+//! `specs/` has the language: what lines bytes are cut into, what words a line has, what a line says,
+//! for which reasons it is refused and what it adds to what was said before. `read` gives exactly what
+//! these say. It looks at each byte a fixed number of times, and finds a name among a few.
 #![tactic(auto)]
 
 mod body;

@@ -22,7 +22,8 @@ impl<'a> Model for Line<'a> {
 impl<'a> Line<'a> {
     // The first line, and the bytes behind it.
     pub(crate) fn first_of(bytes: &'a [u8]) -> Option<(Line<'a>, &'a [u8])>
-        ensures lines { MatchOption result (lines_of bytes.now ≡ []) (λ x. lines_of bytes.now ≡ x.0 ∷ lines_of x.1.now) }
+        ensures lines { MatchOption result (lines_of bytes.now ≡ [])
+            (λ x. lines_of bytes.now ≡ x.0 ∷ lines_of x.1.now) }
         ensures shorter { MatchOption result (bytes.now ≡ []) (λ x. length x.1.now < length bytes.now) }
     {
         if bytes.is_empty() {

@@ -1,8 +1,9 @@
-ghost use Rattle.std.specs.Prelude.{◌≡◌, ◌∷◌, [], ℕ, List, drop, MatchOption, Some, None};
+ghost use Rattle.std.specs.Prelude.{◌≡◌, ◌∷◌, [], drop, MatchOption};
+ghost use Rattle.std.specs.Option.{option_map};
 ghost use Rattle.be_script.specs.declared.first_word.FirstWord.TheVariants as first;
 ghost use Rattle.be_script.specs.Words.{words_of};
 ghost use Rattle.be_script.specs.Seen.{rect_of};
-ghost use Rattle.be_script.specs.Statements.{Screen, Window, App, End, Lock, Unlock, Show, Fill, name_at, number_at, rect_at, statement_of};
+ghost use Rattle.be_script.specs.Statements.{Screen, Window, App, End, Lock, Unlock, Show, Fill, name_at, number_at, rect_at, at_end, Statement, statement_of};
 
 use crate::number::{Edges, Number};
 use crate::word::{is_name, place_of, without_spaces};
@@ -54,7 +55,7 @@ impl<'a> Words<'a> {
 
     // The next word, where it is a name.
     pub(crate) fn name(&mut self) -> Option<&'a [u8]>
-        ensures { MatchOption result (name_at self.old ≡ None) (λ name. name_at self.old ≡ Some (name.now, self.new)) }
+        ensures { name_at self.old ≡ option_map (λ name. (name.now, self.new)) result }
     {
         let word = self.next()?;
         if is_name(word) { Some(word) } else { None }
@@ -62,7 +63,7 @@ impl<'a> Words<'a> {
 
     // The next word, where it is a number.
     pub(crate) fn number(&mut self) -> Option<Number<'a>>
-        ensures { MatchOption result (number_at self.old ≡ None) (λ n. number_at self.old ≡ Some (n, self.new)) }
+        ensures { number_at self.old ≡ option_map (λ n. (n, self.new)) result }
     {
         Number::of(self.next()?)
     }
@@ -70,7 +71,7 @@ impl<'a> Words<'a> {
     // The next four words, where they are numbers.
     #[tactic(auto, unfolding(crate::specs::Statements::rect_at))]
     pub(crate) fn edges(&mut self) -> Option<Edges<'a>>
-        ensures { MatchOption result (rect_at self.old ≡ None) (λ edges. rect_at self.old ≡ Some (rect_of edges, self.new)) }
+        ensures { rect_at self.old ≡ option_map (λ edges. (rect_of edges, self.new)) result }
     {
         Some(Edges {
             left: self.number()?,
@@ -82,7 +83,7 @@ impl<'a> Words<'a> {
 
     // Whether no word is left.
     pub(crate) fn end(&mut self) -> Option<()>
-        ensures { MatchOption result ((word : List ℕ) × (words : List (List ℕ)) × (self.old ≡ word ∷ words)) (λ _. self.old ≡ []) }
+        ensures { (said : Statement) → at_end self.old said ≡ option_map (λ _. said) result }
     {
         match self.next() {
             None => Some(()),
@@ -96,9 +97,9 @@ impl<'a> Words<'a> {
     // Nothing.
     #[tactic(auto, unfolding(crate::specs::Statements::statement_of))]
     pub(crate) fn nothing(mut self) -> Option<()>
-        ensures end { MatchOption result (statement_of first.End self.entry ≡ None) (λ _. statement_of first.End self.entry ≡ Some End) }
-        ensures unlock { MatchOption result (statement_of first.Unlock self.entry ≡ None) (λ _. statement_of first.Unlock self.entry ≡ Some Unlock) }
-        ensures show { MatchOption result (statement_of first.Show self.entry ≡ None) (λ _. statement_of first.Show self.entry ≡ Some Show) }
+        ensures end { statement_of first.End self.entry ≡ option_map (λ _. End) result }
+        ensures unlock { statement_of first.Unlock self.entry ≡ option_map (λ _. Unlock) result }
+        ensures show { statement_of first.Show self.entry ≡ option_map (λ _. Show) result }
     {
         self.end()
     }
@@ -106,8 +107,8 @@ impl<'a> Words<'a> {
     // A name.
     #[tactic(auto, unfolding(crate::specs::Statements::statement_of))]
     pub(crate) fn one_name(mut self) -> Option<&'a [u8]>
-        ensures app { MatchOption result (statement_of first.App self.entry ≡ None) (λ name. statement_of first.App self.entry ≡ Some (App name.now)) }
-        ensures lock { MatchOption result (statement_of first.Lock self.entry ≡ None) (λ name. statement_of first.Lock self.entry ≡ Some (Lock name.now)) }
+        ensures app { statement_of first.App self.entry ≡ option_map (λ name. App name.now) result }
+        ensures lock { statement_of first.Lock self.entry ≡ option_map (λ name. Lock name.now) result }
     {
         let name = self.name()?;
         self.end()?;
@@ -117,7 +118,7 @@ impl<'a> Words<'a> {
     // A width and a height.
     #[tactic(auto, unfolding(crate::specs::Statements::statement_of))]
     pub(crate) fn size(mut self) -> Option<(Number<'a>, Number<'a>)>
-        ensures { MatchOption result (statement_of first.Screen self.entry ≡ None) (λ x. statement_of first.Screen self.entry ≡ Some (Screen x.0 x.1)) }
+        ensures { statement_of first.Screen self.entry ≡ option_map (λ x. Screen x.0 x.1) result }
     {
         let size = (self.number()?, self.number()?);
         self.end()?;
@@ -127,7 +128,7 @@ impl<'a> Words<'a> {
     // A name and a frame.
     #[tactic(auto, unfolding(crate::specs::Statements::statement_of))]
     pub(crate) fn name_and_frame(mut self) -> Option<(&'a [u8], Edges<'a>)>
-        ensures { MatchOption result (statement_of first.Window self.entry ≡ None) (λ x. statement_of first.Window self.entry ≡ Some (Window x.0.now (rect_of x.1))) }
+        ensures { statement_of first.Window self.entry ≡ option_map (λ x. Window x.0.now (rect_of x.1)) result }
     {
         let name = self.name()?;
         let frame = self.edges()?;
@@ -138,7 +139,7 @@ impl<'a> Words<'a> {
     // A view, a rectangle and the pattern `high`.
     #[tactic(auto, unfolding(crate::specs::Statements::statement_of))]
     pub(crate) fn view_and_rect(mut self) -> Option<(&'a [u8], Edges<'a>)>
-        ensures { MatchOption result (statement_of first.Fill self.entry ≡ None) (λ x. statement_of first.Fill self.entry ≡ Some (Fill x.0.now (rect_of x.1))) }
+        ensures { statement_of first.Fill self.entry ≡ option_map (λ x. Fill x.0.now (rect_of x.1)) result }
     {
         let view = self.name()?;
         let rect = self.edges()?;
