@@ -115,7 +115,7 @@ impl Reader {
     fn screen(&mut self, words: Words<'_>) -> Result<(), LineFault>
         ensures { Gives (seen self.new) result (judge (seen self.old) (statement_of first.Screen words.entry)) }
     {
-        let (width, height) = words.size().ok_or(LineFault::Refused(Reason::Shape))?;
+        let (width, height) = words.size().ok_or(Reason::Shape)?;
         let (Some(width), Some(height)) = (width.between(1, 1024), height.between(1, 768)) else {
             return Err(LineFault::Refused(Reason::Range));
         };
@@ -127,13 +127,11 @@ impl Reader {
     fn window(&mut self, words: Words<'_>) -> Result<(), LineFault>
         ensures { Gives (seen self.new) result (judge (seen self.old) (statement_of first.Window words.entry)) }
     {
-        let (name, edges) = words
-            .name_and_frame()
-            .ok_or(LineFault::Refused(Reason::Shape))?;
+        let (name, edges) = words.name_and_frame().ok_or(Reason::Shape)?;
         let frame = edges
             .rect()
             .filter(|frame| is_frame(*frame))
-            .ok_or(LineFault::Refused(Reason::Range))?;
+            .ok_or(Reason::Range)?;
         if is_reserved(name) || self.windows.find(name).is_some() {
             return Err(LineFault::Refused(Reason::NameTaken));
         }
@@ -149,7 +147,7 @@ impl Reader {
     fn app(&mut self, words: Words<'_>) -> Result<(), LineFault>
         ensures { Gives (seen self.new) result (judge (seen self.old) (statement_of first.App words.entry)) }
     {
-        let name = words.one_name().ok_or(LineFault::Refused(Reason::Shape))?;
+        let name = words.one_name().ok_or(Reason::Shape)?;
         if is_reserved(name) || self.app_named(name).is_some() {
             return Err(LineFault::Refused(Reason::NameTaken));
         }
@@ -168,7 +166,7 @@ impl Reader {
     fn end(&mut self, words: Words<'_>) -> Result<(), LineFault>
         ensures { Gives (seen self.new) result (judge (seen self.old) (statement_of first.End words.entry)) }
     {
-        words.nothing().ok_or(LineFault::Refused(Reason::Shape))?;
+        words.nothing().ok_or(Reason::Shape)?;
         if let Some(body) = self.body.take() {
             self.apps.push(AppLine {
                 name: body.name,
@@ -182,11 +180,8 @@ impl Reader {
     fn lock(&mut self, words: Words<'_>) -> Result<(), LineFault>
         ensures { Gives (seen self.new) result (judge (seen self.old) (statement_of first.Lock words.entry)) }
     {
-        let name = words.one_name().ok_or(LineFault::Refused(Reason::Shape))?;
-        let window = self
-            .windows
-            .find(name)
-            .ok_or(LineFault::Refused(Reason::UnknownName))?;
+        let name = words.one_name().ok_or(Reason::Shape)?;
+        let window = self.windows.find(name).ok_or(Reason::UnknownName)?;
         self.step(Instruction::Lock(window), Some(window))
     }
 
@@ -194,7 +189,7 @@ impl Reader {
     fn unlock(&mut self, words: Words<'_>) -> Result<(), LineFault>
         ensures { Gives (seen self.new) result (judge (seen self.old) (statement_of first.Unlock words.entry)) }
     {
-        words.nothing().ok_or(LineFault::Refused(Reason::Shape))?;
+        words.nothing().ok_or(Reason::Shape)?;
         self.step(Instruction::Unlock, None)
     }
 
@@ -202,7 +197,7 @@ impl Reader {
     fn show(&mut self, words: Words<'_>) -> Result<(), LineFault>
         ensures { Gives (seen self.new) result (judge (seen self.old) (statement_of first.Show words.entry)) }
     {
-        words.nothing().ok_or(LineFault::Refused(Reason::Shape))?;
+        words.nothing().ok_or(Reason::Shape)?;
         let locked = self.locked();
         self.step(Instruction::Draw(Command::Change(Change::Show)), locked)
     }
@@ -211,10 +206,8 @@ impl Reader {
     fn fill(&mut self, words: Words<'_>) -> Result<(), LineFault>
         ensures { Gives (seen self.new) result (judge (seen self.old) (statement_of first.Fill words.entry)) }
     {
-        let (view, edges) = words
-            .view_and_rect()
-            .ok_or(LineFault::Refused(Reason::Shape))?;
-        let rect = edges.rect().ok_or(LineFault::Refused(Reason::Range))?;
+        let (view, edges) = words.view_and_rect().ok_or(Reason::Shape)?;
+        let rect = edges.rect().ok_or(Reason::Range)?;
         if view != b"root".as_slice() {
             return Err(LineFault::Refused(Reason::UnknownName));
         }

@@ -29,10 +29,7 @@ fn read_bytes(alloc: Global, bytes: &[u8]) -> Result<Script, ScriptFault>
     ensures { Reads result (script_of bytes.now) }
 {
     if bytes.len() > SCRIPT_BYTES {
-        return Err(ScriptFault::At {
-            line: 0,
-            reason: Reason::TooLong,
-        });
+        return Err(Reason::TooLong.at(0));
     }
     let mut reader = Reader::new(alloc);
     let mut rest = bytes;
@@ -53,16 +50,10 @@ fn finish(reader: Reader, line: u64) -> Result<Script, ScriptFault>
     ensures { Reads result (finished line (seen reader) reader.screen) }
 {
     let Some(screen) = reader.screen else {
-        return Err(ScriptFault::At {
-            line,
-            reason: Reason::Unfinished,
-        });
+        return Err(Reason::Unfinished.at(line));
     };
     if reader.body.is_some() {
-        return Err(ScriptFault::At {
-            line,
-            reason: Reason::Unfinished,
-        });
+        return Err(Reason::Unfinished.at(line));
     }
     let script = Script {
         screen,
@@ -70,10 +61,7 @@ fn finish(reader: Reader, line: u64) -> Result<Script, ScriptFault>
         apps: reader.apps,
     };
     if work(&script) > WORK {
-        return Err(ScriptFault::At {
-            line,
-            reason: Reason::TooMuchWork,
-        });
+        return Err(Reason::TooMuchWork.at(line));
     }
     Ok(script)
 }

@@ -1,5 +1,5 @@
 ghost use Rattle.std.specs.Prelude.{◌≡◌};
-ghost use Rattle.be_script.specs.declared.reason.LineFault.TheVariants.{Memory};
+ghost use Rattle.be_script.specs.declared.reason.LineFault.TheVariants.{Memory, Refused};
 ghost use Rattle.be_script.specs.Seen.{fault_at};
 
 use be_geom::NoMemory;
@@ -59,6 +59,15 @@ pub(crate) enum LineFault {
     Refused(Reason),
 }
 
+impl Reason {
+    // The fault of a script, where the line has this number.
+    pub(crate) fn at(self, line: u64) -> ScriptFault
+        ensures { result ≡ ScriptFault.At line self }
+    {
+        ScriptFault::At { line, reason: self }
+    }
+}
+
 impl LineFault {
     // The same fault of a script, where the line has this number.
     pub(crate) fn at(self, line: u64) -> ScriptFault
@@ -66,8 +75,16 @@ impl LineFault {
     {
         match self {
             LineFault::Memory => ScriptFault::NoMemory,
-            LineFault::Refused(reason) => ScriptFault::At { line, reason },
+            LineFault::Refused(reason) => reason.at(line),
         }
+    }
+}
+
+impl From<Reason> for LineFault {
+    ghost from_gives = { λ reason fault. fault ≡ Refused reason };
+
+    fn from(reason: Reason) -> LineFault {
+        LineFault::Refused(reason)
     }
 }
 

@@ -7,12 +7,12 @@ use Rattle.be_script.proofs.ScriptLines.{too_long, long_enough, goes_on, stops, 
 use Rattle.be_script.proofs.reading.read_bytes.Goals as goal
 
 pub returns-then-bytes-gt-SCRIPT_BYTES : goal.returns-then-bytes-gt-SCRIPT_BYTES
-returns-then-bytes-gt-SCRIPT_BYTES c = too_long c.args.bytes.now c.if-bytes-gt-SCRIPT_BYTES.true
+returns-then-bytes-gt-SCRIPT_BYTES c = rw c.at.ensures (too_long c.args.bytes.now c.if-bytes-gt-SCRIPT_BYTES.true)
 
 pub returns-in-Err : goal.returns-in-Err
 returns-in-Err c =
     let so_far = c.loop-line.invariant.same ∙ sym (long_enough c.args.bytes.now c.if-bytes-gt-SCRIPT_BYTES.false) in
-    rw c.at.ensures (stops c.loop-line.number (seen c.loop-line.reader) c.in-Some.line c.loop-line.rest.now c.in-Some.behind.now (script_of c.args.bytes.now) c.in-Err.fault c.in-Some.ensures.lines c.in-Err.ensures so_far)
+    rw c.at-in-Err.ensures (stops c.loop-line.number (seen c.loop-line.reader) c.in-Some.line c.loop-line.rest.now c.in-Some.behind.now (script_of c.args.bytes.now) c.in-Err.fault c.in-Some.ensures.lines c.in-Err.ensures so_far)
 
 pub loop-line-preserved : goal.loop-line-preserved
 loop-line-preserved c = record {
