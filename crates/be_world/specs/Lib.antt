@@ -1,0 +1,15 @@
+pub mod Screen
+pub mod Windows
+pub mod Drawing
+pub mod Exposure
+pub mod State
+pub mod Actors
+pub mod Legal
+pub mod Step
+pub mod History
+pub mod World
+pub mod Area
+pub mod Fits
+pub mod WellFormed
+pub mod Orderly
+pub mod Traces
