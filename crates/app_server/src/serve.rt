@@ -1,0 +1,127 @@
+ghost use Rattle.std.specs.Prelude.{◌≡◌, ◌≢◌, ◌↔◌, ℕ, None, map, string_bytes, IfOk};
+ghost use Rattle.be_outside.specs.Faults.{FaultsRose};
+ghost use Rattle.be_script.specs.declared.reason.Reason.{Reason};
+ghost use Rattle.be_script.specs.declared.reason.ScriptFault.TheVariants.{At};
+ghost use Rattle.app_server.specs.Commands.{command_of};
+ghost use Rattle.app_server.specs.Headline.{WasRead, IsRefused, IsCutShort, IsServed};
+
+use crate::command::{CommandWords, command};
+use crate::report::{ReportFault, report};
+use crate::status::Status;
+use be_geom::NoMemory;
+use be_outside::{Failed, Gate, Sink, Source};
+use be_script::ScriptFault;
+use be_world::run_serial;
+use std::alloc::Global;
+use std::sync::Wait;
+use std::thread::Threads;
+
+/// One byte more than a script may have: a source is read to its end, or to this many bytes.
+const LIMIT: usize = 1_048_577;
+
+/// Serves the words from a source to a sink, and says how it went. Of all words `serve_alone` serves those
+/// that need no threads.
+pub fn serve<R: Threads + Wait + Sync, S: Source, K: Sink, G: Gate + Sync>(
+    _rt: &R,
+    alloc: Global,
+    words: &[String],
+    source: &mut S,
+    sink: &mut K,
+    _gate: &G,
+) -> Status
+    ensures usage { (result ≡ Status.Usage) ↔ (command_of (map string_bytes words.now) ≡ None) }
+    ensures usage_leaves { result ≡ Status.Usage → (source.new ≡ source.old) × (sink.new ≡ sink.old) }
+    ensures read_fault { result ≡ Status.ReadFault → FaultsRose (S.faults source.old) (S.faults source.new) × (sink.new ≡ sink.old) }
+    ensures bad_script { (line : ℕ) (reason : Reason) → result ≡ Status.BadScript line reason
+        → IsRefused (S.left source.old) (S.left source.new) (At line reason) × (sink.new ≡ sink.old) }
+    ensures write_fault { result ≡ Status.WriteFault
+        → FaultsRose (K.faults sink.old) (K.faults sink.new) × IsCutShort (S.left source.old) (S.left source.new) (K.held sink.old) (K.held sink.new) }
+    ensures finished { result ≡ Status.Finished → IsServed (S.left source.old) (S.left source.new) (K.held sink.old) (K.held sink.new) }
+    ensures no_memory { result ≡ Status.NoMemory → sink.new ≡ sink.old }
+    ensures never_illegal { (entry : ℕ) → result ≢ Status.Illegal entry }
+{
+    serve_alone(alloc, words, source, sink)
+}
+
+/// Serves the words without threads, waits for nobody and always returns.
+pub fn serve_alone<S: Source, K: Sink>(
+    alloc: Global,
+    words: &[String],
+    source: &mut S,
+    sink: &mut K,
+) -> Status
+    ensures usage { (result ≡ Status.Usage) ↔ (command_of (map string_bytes words.now) ≡ None) }
+    ensures usage_leaves { result ≡ Status.Usage → (source.new ≡ source.old) × (sink.new ≡ sink.old) }
+    ensures read_fault { result ≡ Status.ReadFault → FaultsRose (S.faults source.old) (S.faults source.new) × (sink.new ≡ sink.old) }
+    ensures bad_script { (line : ℕ) (reason : Reason) → result ≡ Status.BadScript line reason
+        → IsRefused (S.left source.old) (S.left source.new) (At line reason) × (sink.new ≡ sink.old) }
+    ensures write_fault { result ≡ Status.WriteFault
+        → FaultsRose (K.faults sink.old) (K.faults sink.new) × IsCutShort (S.left source.old) (S.left source.new) (K.held sink.old) (K.held sink.new) }
+    ensures finished { result ≡ Status.Finished → IsServed (S.left source.old) (S.left source.new) (K.held sink.old) (K.held sink.new) }
+    ensures no_memory { result ≡ Status.NoMemory → sink.new ≡ sink.old }
+    ensures never_illegal { (entry : ℕ) → result ≢ Status.Illegal entry }
+{
+    match command(words) {
+        Some(CommandWords::Serial) => serial(alloc, source, sink),
+        None => Status::Usage,
+    }
+}
+
+fn serial<S: Source, K: Sink>(alloc: Global, source: &mut S, sink: &mut K) -> Status
+    ensures not_usage { result ≢ Status.Usage }
+    ensures read_fault { result ≡ Status.ReadFault → FaultsRose (S.faults source.old) (S.faults source.new) × (sink.new ≡ sink.old) }
+    ensures bad_script { (line : ℕ) (reason : Reason) → result ≡ Status.BadScript line reason
+        → IsRefused (S.left source.old) (S.left source.new) (At line reason) × (sink.new ≡ sink.old) }
+    ensures write_fault { result ≡ Status.WriteFault
+        → FaultsRose (K.faults sink.old) (K.faults sink.new) × IsCutShort (S.left source.old) (S.left source.new) (K.held sink.old) (K.held sink.new) }
+    ensures finished { result ≡ Status.Finished → IsServed (S.left source.old) (S.left source.new) (K.held sink.old) (K.held sink.new) }
+    ensures no_memory { result ≡ Status.NoMemory → sink.new ≡ sink.old }
+    ensures never_illegal { (entry : ℕ) → result ≢ Status.Illegal entry }
+{
+    let bytes = match read_all(alloc, source) {
+        Ok(bytes) => bytes,
+        Err(InputFault::ReadFault) => return Status::ReadFault,
+        Err(InputFault::NoMemory) => return Status::NoMemory,
+    };
+    let script = match be_script::read(alloc, bytes.as_slice()) {
+        Ok(script) => script,
+        Err(ScriptFault::At { line, reason }) => return Status::BadScript { line, reason },
+        Err(ScriptFault::NoMemory) => return Status::NoMemory,
+    };
+    let finished = match run_serial(alloc, &script) {
+        Ok(finished) => finished,
+        Err(NoMemory) => return Status::NoMemory,
+    };
+    match report(alloc, &script, &finished, sink) {
+        Ok(()) => Status::Finished,
+        Err(ReportFault::WriteFault) => Status::WriteFault,
+        Err(ReportFault::NoMemory) => Status::NoMemory,
+    }
+}
+
+/// Why a source wasn't read to its end.
+#[derive(Clone, Copy, Debug, PartialEq, Eq)]
+enum InputFault {
+    ReadFault,
+    NoMemory,
+}
+
+/// Reads a source to its end, or to `LIMIT` bytes.
+fn read_all<S: Source>(alloc: Global, source: &mut S) -> Result<Vec<u8>, InputFault>
+    ensures read { IfOk result (λ v. WasRead (S.left source.old) (S.left source.new) v.items) }
+    ensures fault { result ≡ Err InputFault.ReadFault → FaultsRose (S.faults source.old) (S.faults source.new) }
+{
+    let mut bytes = Vec::new(alloc);
+    let mut buffer = [0; 4096];
+    while bytes.len() < LIMIT {
+        let room = (LIMIT - bytes.len()).min(4096);
+        match source.read(&mut buffer[..room]) {
+            Ok(0) => return Ok(bytes),
+            Ok(count) => bytes
+                .extend_from_slice(&buffer[..count])
+                .map_err(|_| InputFault::NoMemory)?,
+            Err(Failed) => return Err(InputFault::ReadFault),
+        }
+    }
+    Ok(bytes)
+}

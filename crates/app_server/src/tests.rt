@@ -1,0 +1,96 @@
+use crate::serve::serve_alone;
+use crate::status::Status;
+use be_outside::{MemorySink, MemorySource};
+use be_script::Reason;
+use std::alloc::Global;
+use std::test::Fail;
+
+const FIRST_WINDOW: &[u8] =
+    b"screen 4 3\nwindow a 1 1 2 2\napp m\nlock a\nshow\nfill root 0 0 9 9 high\nunlock\nend\n";
+
+const FIRST_REPORT: &[u8] =
+    b"history 15\n1 app:m lock a\n2 app:m draw a 1\n3 app:m draw a 2\n4 app:m flush a 2\n5 app:m unlock a\n6 twin:a exec 1 done\n7 twin:a notify 1\n8 loop:a take 1\n9 twin:a exec 2 done\n10 loop:a begin open\n11 loop:a draw a 3\n12 loop:a flush a 1\n13 loop:a end none\n14 twin:a exec 3 done\n15 stop stop\ntraces\napp m\nloop a\ntake 1 twin:a 0 UPDT window window\nupdate root 0 0 1 1\nscreen 4 3\n0 4x336698\n1 1x336698 2x000000 1x336698\n2 1x336698 2x000000 1x336698\nend\n";
+
+const EMPTY_REPORT: &[u8] =
+    b"history 1\n1 stop stop\ntraces\nscreen 4 3\n0 4x336698\n1 4x336698\n2 4x336698\nend\n";
+
+/// What a call answers, and what its sink holds then.
+fn served(
+    alloc: Global,
+    words: &[&str],
+    script: &[u8],
+    failing_read: Option<u64>,
+    failing_put: Option<u64>,
+) -> Result<(Status, Vec<u8>), Fail> {
+    let mut owned = Vec::new(alloc);
+    for word in words {
+        owned.push(String::from_str(alloc, word)?)?;
+    }
+    let mut source = MemorySource::new(
+        Vec::from_slice(alloc, script)?,
+        listed(alloc, failing_read)?,
+    );
+    let mut sink = MemorySink::new(alloc, 65536, listed(alloc, failing_put)?)?;
+    let status = serve_alone(alloc, owned.as_slice(), &mut source, &mut sink);
+    Ok((status, Vec::from_slice(alloc, sink.held())?))
+}
+
+fn listed(alloc: Global, number: Option<u64>) -> Result<Vec<u64>, Fail> {
+    let mut numbers = Vec::new(alloc);
+    if let Some(number) = number {
+        numbers.push(number)?;
+    }
+    Ok(numbers)
+}
+
+#[test]
+fn serves_scripts(rt: HostRuntime) -> Result<(), Fail> {
+    let unfinished = Status::BadScript {
+        line: 1,
+        reason: Reason::Unfinished,
+    };
+    for (script, status, report) in [
+        (FIRST_WINDOW, Status::Finished, FIRST_REPORT),
+        (b"screen 4 3\n".as_slice(), Status::Finished, EMPTY_REPORT),
+        (b"".as_slice(), unfinished, b"".as_slice()),
+    ] {
+        let (answer, held) = served(rt.alloc(), &["serial", "0"], script, None, None)?;
+        assert_eq!(rt; answer, status);
+        assert_eq!(rt; held.as_slice(), report);
+    }
+    Ok(())
+}
+
+#[test]
+fn tells_faults(rt: HostRuntime) -> Result<(), Fail> {
+    let two_lines = b"history 15\n1 app:m lock a\n".as_slice();
+    for (read, put, status, report) in [
+        (Some(1), None, Status::ReadFault, b"".as_slice()),
+        (None, Some(2), Status::WriteFault, two_lines),
+        (Some(0), Some(0), Status::ReadFault, b"".as_slice()),
+        (None, Some(0), Status::WriteFault, b"".as_slice()),
+    ] {
+        let (answer, held) = served(rt.alloc(), &["serial", "0"], FIRST_WINDOW, read, put)?;
+        assert_eq!(rt; answer, status);
+        assert_eq!(rt; held.as_slice(), report);
+    }
+    Ok(())
+}
+
+#[test]
+fn knows_its_words(rt: HostRuntime) -> Result<(), Fail> {
+    let wrong: [&[&str]; 6] = [
+        &["serial", "01"],
+        &["serial"],
+        &["run", "x"],
+        &[],
+        &["--help"],
+        &["serial", "0", "0"],
+    ];
+    for words in wrong {
+        let (answer, held) = served(rt.alloc(), words, FIRST_WINDOW, Some(0), Some(0))?;
+        assert_eq!(rt; answer, Status::Usage);
+        assert!(rt; held.is_empty());
+    }
+    Ok(())
+}
