@@ -18,6 +18,7 @@ use std::{env, io};
 /// Serves standard input and output by the words on the command line. What the status has to say goes
 /// to standard error, and its number is the program's exit status.
 fn main(rt: HostRuntime) -> io::Result<ExitCode> {
+    // It does nothing: what counts of a law is that it is proved.
     laws::a_report_tells_one_history();
     let mut words = Vec::new(rt.alloc());
     for word in env::args(&rt)?.skip(1) {
