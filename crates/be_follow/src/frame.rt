@@ -96,6 +96,28 @@ mod tests {
     }
 
     #[test]
+    fn goes_and_comes_back(rt: HostRuntime) {
+        let centred = Follow {
+            across: Across::Center,
+            down: Down::Top,
+        };
+        let moved = Rect {
+            left: 3,
+            right: 4,
+            ..VIEW
+        };
+        assert_eq!(rt; follow(VIEW, centred, 5, 1, 8, 1), Ok(moved));
+        assert_eq!(rt; follow(moved, centred, 8, 1, 5, 1), Ok(VIEW));
+        let last = Rect {
+            left: 32767,
+            right: 32767,
+            ..VIEW
+        };
+        assert_eq!(rt; across(last, Across::Right, 5, 5), Some((32767, 32767)));
+        assert_eq!(rt; across(last, Across::Right, 5, 6), None);
+    }
+
+    #[test]
     fn follows_down(rt: HostRuntime) {
         for (mode, old, new, edges) in [
             (Down::Top, 1, 7, Some((0, 0))),
