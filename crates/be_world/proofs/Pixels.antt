@@ -8,6 +8,7 @@ use Rattle.std.proofs.lemmas.Option.{slice_get_within, slice_get_past, slice_get
 use Rattle.std.proofs.lemmas.List.{get_or_past, set-get_or, length-map, length-replicate}
 use Rattle.be_geom.specs.declared.rect.Rect.{Rect}
 use Rattle.be_geom.specs.Rects.{rect_has}
+use Rattle.be_geom.specs.declared.change.Change.{Change}
 use Rattle.be_geom.specs.declared.change.Change.TheVariants.{Show}
 use Rattle.be_color.specs.declared.colors.Color.{Color}
 use Rattle.be_color.specs.declared.patterns.Pattern.{Pattern}
@@ -26,7 +27,7 @@ use Rattle.be_world.specs.Legal.{dirty_marks}
 use Rattle.be_world.specs.Screen.{each_from, each_cell, each_mark}
 use Rattle.be_world.specs.State.{white}
 use Rattle.be_world.specs.Step.{filled_cells, changed_cells, cleaned_cells, session_has, session_at, session_of, pane_has, owner_color, view_color, top_state}
-use Rattle.be_world.specs.Windows.{owner_at, is_zero, windows_after}
+use Rattle.be_world.specs.Windows.{Windows, owner_at, is_zero, windows_after}
 use Rattle.be_world.specs.World.{windows_from, frames_of, view_colors, HasPixels, some_dirty}
 use Rattle.be_world.proofs.Cells.{any-set, length-each, slice_get-whole, same_whole, kept_whole, any_whole, marks_whole, map_whole, any-map}
 use Rattle.be_world.proofs.Owners.{owner_is, owned_is, unowned, no_such_owner, hidden_owns, frame_read, is_zero_not}
@@ -117,6 +118,13 @@ pixels_between d hides cells w e rule sound within = pixels_each d hides hides c
     let x : ℤ = pos (k % d.width) in
     let y : ℤ = pos (k / d.width) in
     cond-false (edges_have e x y) (rule x y c) c (outside (edges_have e x y) (owns d hides w k) (within x y) (ap (is_owner w) nobody)) ∙ sound.desktop k c had nobody)
+
+-- ---- changes
+
+-- a change that no script has leaves the windows
+pub other_change : (s : Windows) (w : ℕ) (change : Change) → (change ≡ Show → ⊥) → s ≡ windows_after s w change
+other_change s w Show not_show = absurd (not_show refl)
+other_change s w other not_show = refl
 
 -- ---- show
 

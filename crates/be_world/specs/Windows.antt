@@ -36,6 +36,7 @@ covers s x y w = is_shown s w && frame_has (slice_get s.frames w) x y
 unfoldable pub owner_at : Windows → ℤ → ℤ → Option ℕ
 owner_at s x y = find (covers s x y) s.order
 
--- the windows after a change of window w: Show lowers a hide count above 0 by one
+-- the windows after a change of window w: Show lowers a hide count above 0 by one; no script has another change yet
 abbrev pub windows_after : Windows → ℕ → Change → Windows
 windows_after s w Show = record s { hides = slice_set s.hides w (slice_index s.hides w - 1) }
+windows_after s w other = s

@@ -15,7 +15,7 @@ use crate::cell::Cell;
 use crate::parts::{Marks, Pane, Session};
 use crate::screen::{Edges, Rule, repaint};
 use be_color::{Color, Mode, Pattern, Rgb, blend, pick};
-use be_geom::{NoMemory, Rect};
+use be_geom::{Change, NoMemory, Rect};
 use be_script::Script;
 use std::alloc::Global;
 
@@ -116,8 +116,28 @@ pub fn fill(
     repaint(cells, script.screen, edges, &rule);
 }
 
-/// Shows a window once more, and says whether a pixel was exposed. It visits the pixels of its frame.
-pub fn show(cells: &mut Vec<Cell>, script: &Script, hides: &mut Vec<u32>, window: u16) -> bool
+/// Changes a window, and says whether a pixel was exposed. It visits the pixels of the window's frame.
+pub fn change(
+    cells: &mut Vec<Cell>,
+    script: &Script,
+    hides: &mut Vec<u32>,
+    window: u16,
+    change: Change,
+) -> bool
+    requires { HasPixels (declared_by script.now) hides.old.items cells.old.items }
+    ensures changed { windows_from (declared_by script.now) hides.new.items ≡ windows_after (windows_from (declared_by script.now) hides.old.items) window change }
+    ensures exposed { cells.new.items ≡ changed_cells (windows_from (declared_by script.now) hides.old.items) (windows_from (declared_by script.now) hides.new.items) (view_colors (declared_by script.now)) cells.old.items }
+    ensures dirty { some_dirty cells.new.items ≡ (result || some_dirty cells.old.items) }
+    ensures pixels { HasPixels (declared_by script.now) hides.new.items cells.new.items }
+{
+    match change {
+        Change::Show => show(cells, script, hides, window),
+        _ => false,
+    }
+}
+
+/// Shows a window once more, and says whether a pixel was exposed.
+fn show(cells: &mut Vec<Cell>, script: &Script, hides: &mut Vec<u32>, window: u16) -> bool
     requires { HasPixels (declared_by script.now) hides.old.items cells.old.items }
     ensures shown { windows_from (declared_by script.now) hides.new.items ≡ windows_after (windows_from (declared_by script.now) hides.old.items) window Show }
     ensures exposed { cells.new.items ≡ changed_cells (windows_from (declared_by script.now) hides.old.items) (windows_from (declared_by script.now) hides.new.items) (view_colors (declared_by script.now)) cells.old.items }

@@ -10,7 +10,7 @@ use crate::entry::{Act, Entry};
 use crate::parts::{Owner, Stage};
 use crate::world::World;
 use crate::{paint, steps};
-use be_geom::{Change, NoMemory};
+use be_geom::NoMemory;
 use be_script::{Command, Instruction, Script};
 use std::alloc::Global;
 
@@ -163,8 +163,14 @@ impl World {
                     );
                 }
             }
-            Command::Change(Change::Show) => {
-                let exposed = paint::show(&mut self.cells, script, &mut self.hides, window);
+            Command::Change(change) => {
+                let exposed = paint::change(
+                    &mut self.cells,
+                    script,
+                    &mut self.hides,
+                    window,
+                    change,
+                );
                 self.any_dirty = exposed || self.any_dirty;
             }
             Command::EndUpdate => steps::close_session(&mut self.panes, window),
