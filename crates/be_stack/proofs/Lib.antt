@@ -1,0 +1,7 @@
+pub mod FrameLemmas
+pub mod LawLemmas
+pub mod LimitLemmas
+pub mod OpenLemmas
+pub mod OrderLemmas
+pub mod OwnerLemmas
+pub mod WholeLemmas

@@ -1,0 +1,10 @@
+use Rattle.std.proofs.Common.{true, refl, arith}
+use Rattle.std.proofs.lemmas.List.{length-set}
+use Rattle.be_stack.proofs.WholeLemmas.{whole-closed}
+use Rattle.be_stack.proofs.stack.Stack.close.Goals as goal
+
+pub invariant_of-self : goal.invariant_of-self
+invariant_of-self c = rw (c.from.ensures, c.leave.ensures) (record {
+  once = whole-closed c.self.inside.order.items c.self.inside.windows.items c.args.w (record c.args.window { closed = true }) refl c.self.invariant.once;
+  few = omega (arith, length-set c.self.inside.windows.items c.args.w (record c.args.window { closed = true }), c.self.invariant.few);
+})

@@ -1,0 +1,95 @@
+-- What a change makes of the windows.
+use Rattle.std.specs.Prelude.{ℕ, ℤ, pos, negsuc, Bool, true, ◌==◌, ◌&&◌, ◌||◌, ◌+◌, ◌-◌, ◌+ℤ◌, ◌-ℤ◌, not, nat_lt, min, List, ◌∷◌, length, Option, Some, None, Result, Ok, Err, slice_get, if◌then◌else◌}
+use Rattle.std.specs.Int.RustNames.{bit_and}
+use Rattle.be_geom.specs.declared.change.Change.{Change}
+use Rattle.be_geom.specs.declared.change.Change.TheVariants.{Show, Hide, MoveTo, MoveBy, ResizeTo, Activate, Behind, Focus, Close}
+use Rattle.be_geom.specs.declared.rect.Rect.{Rect}
+use Rattle.be_geom.specs.Points.{between}
+use Rattle.be_geom.specs.Rects.{rect_fits, moved_rect}
+use Rattle.be_stack.specs.declared.fault.ChangeFault.{ChangeFault}
+use Rattle.be_stack.specs.declared.fault.ChangeFault.TheVariants.{Gone, OffRange}
+use Rattle.be_stack.specs.declared.window.Window.{Window}
+use Rattle.be_stack.specs.Order.{others, put_behind}
+use Rattle.be_stack.specs.Windows.{Windows, is_open, is_size, is_shown_window, with_window}
+
+-- ---- what may be asked
+
+-- a move goes by at most 65535 in each direction, and a width and a height are 0 to 32767
+abbrev pub is_within_limits : Change → Bool
+is_within_limits (MoveBy dx dy) = between (negsuc 65534) dx (pos 65535) && between (negsuc 65534) dy (pos 65535)
+is_within_limits (ResizeTo width height) = is_size width && is_size height
+is_within_limits other = true
+
+-- the window that one is to go behind is there, open or closed
+abbrev pub is_named_there : Windows → Change → Bool
+is_named_there s (Behind front) = nat_lt front (length s.windows)
+is_named_there s other = true
+
+-- a change is asked of a window that is closed or isn't there, or asks it to go behind such a one
+abbrev pub is_gone : List Window → ℕ → Change → Bool
+is_gone windows w (Behind front) = not (is_open windows w) || not (is_open windows front)
+is_gone windows w other = not (is_open windows w)
+
+-- ---- frames
+
+-- a rectangle with the same left top corner, whose last edges are so far from the first
+abbrev pub resized_rect : Rect → ℤ → ℤ → Rect
+resized_rect frame width height = record frame { right = frame.left +ℤ width; bottom = frame.top +ℤ height }
+
+-- a frame, where each of its coordinates lies in -32768 to 32767
+abbrev pub within_range : Rect → Result Rect ChangeFault
+within_range frame = if rect_fits frame then Ok frame else Err OffRange
+
+-- the window with another frame, which has to stay in the range
+abbrev pub framed : Windows → ℕ → Window → Result Rect ChangeFault → Result Windows ChangeFault
+framed s w window (Ok frame) = Ok (with_window s w (record window { frame = frame }))
+framed s w window (Err fault) = Err fault
+
+-- ---- the order and the active window
+
+abbrev pub active_without : ℕ → Option ℕ → Option ℕ
+active_without w (Some a) = if a == w then None else Some a
+active_without w None = None
+
+-- no window is active where this one was
+abbrev pub deactivated : Windows → ℕ → Windows
+deactivated s w = record s { active = active_without w s.active }
+
+-- a window that is activated becomes the active one where it is shown and doesn't avoid the focus, by the flag of worth 2
+abbrev pub takes_focus : Window → Bool
+takes_focus window = is_shown_window window && not (bit_and window.flags.0 2 == 2)
+
+-- in front of the others, and active where it takes the focus; else the active window stays
+abbrev pub activated : Windows → ℕ → Window → Windows
+activated s w window = record s { order = w ∷ others w s.order; active = if takes_focus window then Some w else s.active }
+
+-- directly behind another; behind itself changes nothing
+abbrev pub sent_behind : Windows → ℕ → ℕ → Windows
+sent_behind s w front = if w == front then s else record s { order = put_behind front w (others w s.order) }
+
+-- out of the order for good
+abbrev pub closed : Windows → ℕ → Window → Windows
+closed s w window = record (with_window s w (record window { closed = true })) { order = others w s.order }
+
+-- ---- changes
+
+-- the windows after a change of window w, which isn't gone
+abbrev pub changed : Windows → ℕ → Window → Change → Result Windows ChangeFault
+changed s w window Show = Ok (with_window s w (record window { hides = window.hides - 1 }))
+changed s w window Hide = Ok (deactivated (with_window s w (record window { hides = min (window.hides + 1) 4294967295 })) w)
+changed s w window (MoveTo corner) =
+    framed s w window (within_range (moved_rect window.frame (corner.x -ℤ window.frame.left) (corner.y -ℤ window.frame.top)))
+changed s w window (MoveBy dx dy) = framed s w window (within_range (moved_rect window.frame dx dy))
+changed s w window (ResizeTo width height) = framed s w window (within_range (resized_rect window.frame width height))
+changed s w window Activate = Ok (activated s w window)
+changed s w window (Behind front) = Ok (sent_behind s w front)
+changed s w window (Focus view) = Ok s
+changed s w window Close = Ok (deactivated (closed s w window) w)
+
+abbrev pub changed_at : Windows → ℕ → Option Window → Change → Result Windows ChangeFault
+changed_at s w (Some window) change = changed s w window change
+changed_at s w None change = Err Gone
+
+-- the windows after a change of window w, or why it is refused: Gone is tested before OffRange
+abbrev pub windows_after : Windows → ℕ → Change → Result Windows ChangeFault
+windows_after s w change = if is_gone s.windows w change then Err Gone else changed_at s w (slice_get s.windows w) change

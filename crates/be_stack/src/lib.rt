@@ -1,0 +1,21 @@
+//! The windows of a screen: their order from front to back, their frames, how often each is hidden, and
+//! which of them is active.
+//!
+//! A screen has at most 32 windows, closed ones among them. Every call looks at each of them a constant
+//! number of times at most, and none goes pixel by pixel. `add` and `copy` alone take memory: a change of a
+//! window never does.
+#![tactic(auto)]
+
+mod fault;
+mod flags;
+mod frame;
+mod law;
+mod order;
+mod stack;
+mod window;
+
+pub use fault::{ChangeFault, StackFault};
+pub use flags::WindowFlags;
+pub use law::order_stays_whole;
+pub use stack::Stack;
+pub use window::Window;

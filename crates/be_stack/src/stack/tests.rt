@@ -1,0 +1,401 @@
+use super::*;
+use be_geom::Point;
+use bitflags::Flags;
+use std::process::Abort;
+use std::test::Fail;
+
+const WHOLE: Rect = Rect {
+    left: 0,
+    top: 0,
+    right: 3,
+    bottom: 2,
+};
+
+const CORNER: Rect = Rect {
+    left: 2,
+    top: 1,
+    right: 5,
+    bottom: 4,
+};
+
+const PIXEL: Rect = Rect {
+    left: 1,
+    top: 1,
+    right: 1,
+    bottom: 1,
+};
+
+/// Applies a change of which the test is to know that it may be asked.
+fn applied(rt: &impl Abort, stack: &mut Stack, w: u16, change: Change) -> Result<(), ChangeFault> {
+    assert!(rt; stack.frame(w).is_some());
+    match change {
+        Change::Behind(front) => {
+            assert!(rt; stack.frame(front).is_some());
+            stack.apply(w, &Change::Behind(front))
+        }
+        Change::MoveBy(dx, dy) => {
+            assert!(rt; -65535 <= dx);
+            assert!(rt; dx <= 65535);
+            assert!(rt; -65535 <= dy);
+            assert!(rt; dy <= 65535);
+            stack.apply(w, &Change::MoveBy(dx, dy))
+        }
+        Change::ResizeTo(width, height) => {
+            assert!(rt; 0 <= width);
+            assert!(rt; 0 <= height);
+            stack.apply(w, &Change::ResizeTo(width, height))
+        }
+        _ => stack.apply(w, &change),
+    }
+}
+
+/// Three windows, of which the first accepts a first click and the second avoids the focus.
+fn three(alloc: Global) -> Result<Stack, StackFault> {
+    let mut stack = Stack::new(alloc, 4, 3);
+    stack.add(WHOLE, WindowFlags::FIRST_CLICK)?;
+    stack.add(CORNER, WindowFlags::AVOID_FOCUS)?;
+    stack.add(PIXEL, WindowFlags::empty())?;
+    Ok(stack)
+}
+
+#[test]
+fn follows_its_changes(rt: HostRuntime) -> Result<(), Fail> {
+    let mut stack = three(rt.alloc())?;
+    assert_eq!(rt; stack.order.as_slice(), [2, 1, 0].as_slice());
+    let gone = Err(ChangeFault::Gone);
+    for (w, change, answer, order, active, shown) in [
+        (0, Change::Hide, Ok(()), [2, 1, 0].as_slice(), None, false),
+        (0, Change::Show, Ok(()), [2, 1, 0].as_slice(), None, false),
+        (0, Change::Show, Ok(()), [2, 1, 0].as_slice(), None, true),
+        (0, Change::Show, Ok(()), [2, 1, 0].as_slice(), None, true),
+        (
+            1,
+            Change::Activate,
+            Ok(()),
+            [1, 2, 0].as_slice(),
+            None,
+            false,
+        ),
+        (
+            0,
+            Change::Activate,
+            Ok(()),
+            [0, 1, 2].as_slice(),
+            Some(0),
+            true,
+        ),
+        (
+            2,
+            Change::Activate,
+            Ok(()),
+            [2, 0, 1].as_slice(),
+            Some(0),
+            false,
+        ),
+        (1, Change::Show, Ok(()), [2, 0, 1].as_slice(), Some(0), true),
+        (
+            1,
+            Change::Activate,
+            Ok(()),
+            [1, 2, 0].as_slice(),
+            Some(0),
+            true,
+        ),
+        (
+            1,
+            Change::Behind(1),
+            Ok(()),
+            [1, 2, 0].as_slice(),
+            Some(0),
+            true,
+        ),
+        (
+            1,
+            Change::Behind(0),
+            Ok(()),
+            [2, 0, 1].as_slice(),
+            Some(0),
+            true,
+        ),
+        (
+            1,
+            Change::Behind(2),
+            Ok(()),
+            [2, 1, 0].as_slice(),
+            Some(0),
+            true,
+        ),
+        (
+            2,
+            Change::Behind(1),
+            Ok(()),
+            [1, 2, 0].as_slice(),
+            Some(0),
+            false,
+        ),
+        (
+            0,
+            Change::Focus(Some(0)),
+            Ok(()),
+            [1, 2, 0].as_slice(),
+            Some(0),
+            true,
+        ),
+        (0, Change::Hide, Ok(()), [1, 2, 0].as_slice(), None, false),
+        (0, Change::Show, Ok(()), [1, 2, 0].as_slice(), None, true),
+        (
+            0,
+            Change::Activate,
+            Ok(()),
+            [0, 1, 2].as_slice(),
+            Some(0),
+            true,
+        ),
+        (
+            1,
+            Change::Hide,
+            Ok(()),
+            [0, 1, 2].as_slice(),
+            Some(0),
+            false,
+        ),
+        (2, Change::Close, Ok(()), [0, 1].as_slice(), Some(0), false),
+        (
+            1,
+            Change::Behind(2),
+            gone,
+            [0, 1].as_slice(),
+            Some(0),
+            false,
+        ),
+        (
+            2,
+            Change::Behind(2),
+            gone,
+            [0, 1].as_slice(),
+            Some(0),
+            false,
+        ),
+        (2, Change::Show, gone, [0, 1].as_slice(), Some(0), false),
+        (
+            2,
+            Change::Focus(None),
+            gone,
+            [0, 1].as_slice(),
+            Some(0),
+            false,
+        ),
+        (
+            2,
+            Change::MoveBy(65535, 0),
+            gone,
+            [0, 1].as_slice(),
+            Some(0),
+            false,
+        ),
+        (0, Change::Close, Ok(()), [1].as_slice(), None, false),
+    ] {
+        assert_eq!(rt;
+            applied(&rt, &mut stack, w, change),
+            answer,
+            "{change:?} of {w}"
+        );
+        assert_eq!(rt; stack.order.as_slice(), order, "{change:?} of {w}");
+        assert_eq!(rt; stack.active(), active, "{change:?} of {w}");
+        assert_eq!(rt; stack.is_shown(w), shown, "{change:?} of {w}");
+    }
+    assert_eq!(rt; stack.frame(2), Some(PIXEL));
+    assert_eq!(rt; stack.flags(1), Some(WindowFlags::AVOID_FOCUS));
+    assert_eq!(rt; stack.frame(3), None);
+    assert_eq!(rt; stack.flags(3), None);
+    assert!(rt; !stack.is_shown(3));
+    Ok(())
+}
+
+#[test]
+fn stays_in_the_range(rt: HostRuntime) -> Result<(), Fail> {
+    let mut stack = Stack::new(rt.alloc(), 4, 3);
+    let w = stack.add(WHOLE, WindowFlags::empty())?;
+    let off_range = Err(ChangeFault::OffRange);
+    for (change, answer, edges) in [
+        (
+            Change::MoveTo(Point {
+                x: 32764,
+                y: -32768,
+            }),
+            Ok(()),
+            (32764, -32768, 32767, -32766),
+        ),
+        (
+            Change::MoveTo(Point { x: 32765, y: 0 }),
+            off_range,
+            (32764, -32768, 32767, -32766),
+        ),
+        (
+            Change::MoveBy(1, 0),
+            off_range,
+            (32764, -32768, 32767, -32766),
+        ),
+        (
+            Change::MoveBy(0, -1),
+            off_range,
+            (32764, -32768, 32767, -32766),
+        ),
+        (
+            Change::MoveBy(-65532, 65533),
+            Ok(()),
+            (-32768, 32765, -32765, 32767),
+        ),
+        (
+            Change::MoveTo(Point { x: 0, y: 32766 }),
+            off_range,
+            (-32768, 32765, -32765, 32767),
+        ),
+        (
+            Change::MoveBy(-65535, 0),
+            off_range,
+            (-32768, 32765, -32765, 32767),
+        ),
+        (
+            Change::ResizeTo(32767, 2),
+            Ok(()),
+            (-32768, 32765, -1, 32767),
+        ),
+        (
+            Change::ResizeTo(32767, 3),
+            off_range,
+            (-32768, 32765, -1, 32767),
+        ),
+        (
+            Change::ResizeTo(0, 0),
+            Ok(()),
+            (-32768, 32765, -32768, 32765),
+        ),
+        (Change::MoveTo(Point { x: 0, y: 0 }), Ok(()), (0, 0, 0, 0)),
+        (Change::ResizeTo(32767, 32767), Ok(()), (0, 0, 32767, 32767)),
+        (Change::ResizeTo(0, 1), Ok(()), (0, 0, 0, 1)),
+        (Change::MoveBy(1, 0), Ok(()), (1, 0, 1, 1)),
+        (Change::ResizeTo(32767, 1), off_range, (1, 0, 1, 1)),
+    ] {
+        assert_eq!(rt; applied(&rt, &mut stack, w, change), answer, "{change:?}");
+        let frame = stack.frame(w).ok_or("no frame")?;
+        assert_eq!(rt;
+            (frame.left, frame.top, frame.right, frame.bottom),
+            edges,
+            "{change:?}"
+        );
+    }
+    Ok(())
+}
+
+#[test]
+fn hides_no_more_than_it_counts(rt: HostRuntime) -> Result<(), Fail> {
+    let mut stack = three(rt.alloc())?;
+    for (was, change, hides) in [
+        (0, Change::Show, 0),
+        (0, Change::Hide, 1),
+        (1, Change::Show, 0),
+        (4294967294, Change::Hide, 4294967295),
+        (4294967295, Change::Hide, 4294967295),
+        (4294967295, Change::Show, 4294967294),
+    ] {
+        assert!(rt; stack.is_open(1));
+        stack.put(
+            1,
+            Window {
+                frame: CORNER,
+                hides: was,
+                flags: WindowFlags::empty(),
+                closed: false,
+            },
+        );
+        applied(&rt, &mut stack, 1, change)?;
+        let window = stack.windows.get(1).ok_or("no window")?;
+        assert_eq!(rt; window.hides, hides, "{change:?} at {was}");
+    }
+    Ok(())
+}
+
+#[test]
+fn refuses_frames(rt: HostRuntime) {
+    let mut stack = Stack::new(rt.alloc(), 4, 3);
+    for (left, top, right, bottom, answer) in [
+        (1, 0, 0, 0, Err(StackFault::BadFrame)),
+        (0, 1, 0, 0, Err(StackFault::BadFrame)),
+        (32767, 0, -32768, 0, Err(StackFault::BadFrame)),
+        (-1, 0, 32767, 0, Err(StackFault::BadFrame)),
+        (0, -32768, 0, 0, Err(StackFault::BadFrame)),
+        (0, 0, 0, 0, Ok(0)),
+        (0, -32768, 32767, -1, Ok(1)),
+    ] {
+        let frame = Rect {
+            left,
+            top,
+            right,
+            bottom,
+        };
+        assert_eq!(rt; stack.add(frame, WindowFlags::empty()), answer, "{frame:?}");
+    }
+}
+
+#[test]
+fn has_32_windows(rt: HostRuntime) -> Result<(), Fail> {
+    let mut stack = Stack::new(rt.alloc(), 4, 3);
+    for number in 0..32 {
+        assert_eq!(rt; stack.add(PIXEL, WindowFlags::all()), Ok(number));
+    }
+    let empty = Rect { right: 0, ..PIXEL };
+    assert_eq!(rt;
+        stack.add(PIXEL, WindowFlags::all()),
+        Err(StackFault::TooMany)
+    );
+    assert_eq!(rt;
+        stack.add(empty, WindowFlags::all()),
+        Err(StackFault::BadFrame)
+    );
+    let copy = stack.copy()?;
+    assert_eq!(rt; copy.frame(31), Some(PIXEL));
+    assert_eq!(rt; copy.frame(32), None);
+    Ok(())
+}
+
+#[test]
+fn owns_pixels(rt: HostRuntime) -> Result<(), Fail> {
+    let mut stack = three(rt.alloc())?;
+    assert_eq!(rt; stack.owner_at(1, 1), None);
+    for w in 0..3 {
+        applied(&rt, &mut stack, w, Change::Show)?;
+    }
+    for (x, y, owner) in [
+        (0, 0, Some(0)),
+        (1, 1, Some(2)),
+        (2, 1, Some(1)),
+        (3, 2, Some(1)),
+        (2, 0, Some(0)),
+        (1, 2, Some(0)),
+        (4, 2, None),
+        (3, 3, None),
+        (-1, 0, None),
+        (0, -1, None),
+        (2147483647, 0, None),
+        (0, -2147483648, None),
+    ] {
+        assert_eq!(rt; stack.owner_at(x, y), owner, "at {x}, {y}");
+    }
+    applied(&rt, &mut stack, 0, Change::Activate)?;
+    assert_eq!(rt; stack.owner_at(2, 1), Some(0));
+    applied(&rt, &mut stack, 0, Change::Close)?;
+    assert_eq!(rt; stack.owner_at(0, 0), None);
+    Ok(())
+}
+
+#[test]
+fn owns_the_only_pixel(rt: HostRuntime) -> Result<(), Fail> {
+    let mut stack = Stack::new(rt.alloc(), 1, 1);
+    let w = stack.add(WHOLE, WindowFlags::empty())?;
+    applied(&rt, &mut stack, w, Change::Show)?;
+    assert_eq!(rt; stack.owner_at(0, 0), Some(0));
+    assert_eq!(rt; stack.owner_at(1, 0), None);
+    assert_eq!(rt; stack.owner_at(0, 1), None);
+    Ok(())
+}
