@@ -1,3 +1,4 @@
+pub mod ActiveLemmas
 pub mod FrameLemmas
 pub mod LawLemmas
 pub mod LimitLemmas

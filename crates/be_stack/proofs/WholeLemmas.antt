@@ -5,9 +5,12 @@ use Rattle.std.proofs.lemmas.Bool.{cases_eq, eqb-true, eq-eqb, ne_eqb}
 use Rattle.be_stack.specs.declared.window.Window.{Window}
 use Rattle.be_stack.specs.Order.{others, put_behind}
 use Rattle.be_stack.specs.Windows.{is_open}
-use Rattle.be_stack.specs.Whole.{EachOpenOnce}
 use Rattle.be_stack.proofs.OrderLemmas.{count_of, count-cons}
-use Rattle.be_stack.proofs.OpenLemmas.{open-put, open-closed, open-other, open-new, open-before, none_next}
+use Rattle.be_stack.proofs.OpenLemmas.{open-put, open-closed, passes-other, open-new, open-before, none_next}
+
+-- each open window stands in the order once
+abbrev pub Once : List ℕ → List Window → Type 0
+Once order windows = (w : ℕ) → count_of w order ≡ cond (is_open windows w) 1 0
 
 -- ---- counts
 
@@ -58,7 +61,7 @@ once_if : (b : Bool) → b ≡ true → 1 ≡ times b
 once_if b e = ap times (sym e)
 
 -- a window that is open and goes to the front
-pub whole-front : (order : List ℕ) (windows : List Window) (w : ℕ) → is_open windows w ≡ true → EachOpenOnce order windows → EachOpenOnce (w ∷ others w order) windows
+pub whole-front : (order : List ℕ) (windows : List Window) (w : ℕ) → is_open windows w ≡ true → Once order windows → Once (w ∷ others w order) windows
 whole-front order windows w opened whole v =
     ⊎_elim (λ (same : v ≡ w).
     let there : times (w == v) ≡ 1 = counts_same v w (sym same) in
@@ -68,22 +71,22 @@ whole-front order windows w opened whole v =
     let none : times (w == v) ≡ 0 = counts_other v w (λ i. other (sym i)) in
     omega (arith, count-cons v w (others w order), count-stay w v order other, whole v)) (cases_eq v w)
 
-pub whole-behind : (order : List ℕ) (windows : List Window) (front w : ℕ) → is_open windows w ≡ true → EachOpenOnce order windows → EachOpenOnce (put_behind front w (others w order)) windows
+pub whole-behind : (order : List ℕ) (windows : List Window) (front w : ℕ) → is_open windows w ≡ true → Once order windows → Once (put_behind front w (others w order)) windows
 whole-behind order windows front w opened whole v = count-behind front w v (others w order) ∙ whole-front order windows w opened whole v
 
 -- a window that is closed
-pub whole-closed : (order : List ℕ) (windows : List Window) (w : ℕ) (window : Window) → window.closed ≡ true → EachOpenOnce order windows → EachOpenOnce (others w order) (slice_set windows w window)
+pub whole-closed : (order : List ℕ) (windows : List Window) (w : ℕ) (window : Window) → window.closed ≡ true → Once order windows → Once (others w order) (slice_set windows w window)
 whole-closed order windows w window closed whole v =
     ⊎_elim (λ (same : v ≡ w).
     ap (λ u. count_of u (others w order)) same ∙ count-out w order ∙ sym (ap times (ap (is_open (slice_set windows w window)) same ∙ open-closed windows w window closed))) (λ (other : v ≡ w → ⊥).
-    count-stay w v order other ∙ whole v ∙ sym (ap times (open-other windows w v window other))) (cases_eq v w)
+    count-stay w v order other ∙ whole v ∙ sym (ap times (passes-other (λ window. not window.closed) windows w v window other))) (cases_eq v w)
 
 -- a window of which something else is kept
-pub whole-put : (order : List ℕ) (windows : List Window) (w : ℕ) (window : Window) → window.closed ≡ false → is_open windows w ≡ true → EachOpenOnce order windows → EachOpenOnce order (slice_set windows w window)
+pub whole-put : (order : List ℕ) (windows : List Window) (w : ℕ) (window : Window) → window.closed ≡ false → is_open windows w ≡ true → Once order windows → Once order (slice_set windows w window)
 whole-put order windows w window closed opened whole v = whole v ∙ sym (ap times (open-put windows w v window closed opened))
 
 -- a new window
-pub whole-new : (order : List ℕ) (windows : List Window) (w : ℕ) (window : Window) → w ≡ length windows → window.closed ≡ false → EachOpenOnce order windows → EachOpenOnce (w ∷ order) (windows ++ window ∷ [])
+pub whole-new : (order : List ℕ) (windows : List Window) (w : ℕ) (window : Window) → w ≡ length windows → window.closed ≡ false → Once order windows → Once (w ∷ order) (windows ++ window ∷ [])
 whole-new order windows w window next opened whole v =
     ⊎_elim (λ (same : v ≡ w).
     let there : times (w == v) ≡ 1 = counts_same v w (sym same) in

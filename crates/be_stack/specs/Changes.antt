@@ -47,13 +47,15 @@ framed s w window (Err fault) = Err fault
 
 -- ---- the order and the active window
 
+-- the active window, or none where it was window w
 abbrev pub active_without : ℕ → Option ℕ → Option ℕ
 active_without w (Some a) = if a == w then None else Some a
 active_without w None = None
 
--- no window is active where this one was
-abbrev pub deactivated : Windows → ℕ → Windows
-deactivated s w = record s { active = active_without w s.active }
+-- hidden once more, where a count at its last number stays; a window that is hidden isn't active
+abbrev pub hidden : Windows → ℕ → Window → Windows
+hidden s w window =
+    record (with_window s w (record window { hides = min (window.hides + 1) 4294967295 })) { active = active_without w s.active }
 
 -- a window that is activated becomes the active one where it is shown and doesn't avoid the focus, by the flag of worth 2
 abbrev pub takes_focus : Window → Bool
@@ -67,16 +69,17 @@ activated s w window = record s { order = w ∷ others w s.order; active = if ta
 abbrev pub sent_behind : Windows → ℕ → ℕ → Windows
 sent_behind s w front = if w == front then s else record s { order = put_behind front w (others w s.order) }
 
--- out of the order for good
+-- out of the order for good, and not active
 abbrev pub closed : Windows → ℕ → Window → Windows
-closed s w window = record (with_window s w (record window { closed = true })) { order = others w s.order }
+closed s w window =
+    record (with_window s w (record window { closed = true })) { order = others w s.order; active = active_without w s.active }
 
 -- ---- changes
 
 -- the windows after a change of window w, which isn't gone
 abbrev pub changed : Windows → ℕ → Window → Change → Result Windows ChangeFault
 changed s w window Show = Ok (with_window s w (record window { hides = window.hides - 1 }))
-changed s w window Hide = Ok (deactivated (with_window s w (record window { hides = min (window.hides + 1) 4294967295 })) w)
+changed s w window Hide = Ok (hidden s w window)
 changed s w window (MoveTo corner) =
     framed s w window (within_range (moved_rect window.frame (corner.x -ℤ window.frame.left) (corner.y -ℤ window.frame.top)))
 changed s w window (MoveBy dx dy) = framed s w window (within_range (moved_rect window.frame dx dy))
@@ -84,7 +87,7 @@ changed s w window (ResizeTo width height) = framed s w window (within_range (re
 changed s w window Activate = Ok (activated s w window)
 changed s w window (Behind front) = Ok (sent_behind s w front)
 changed s w window (Focus view) = Ok s
-changed s w window Close = Ok (deactivated (closed s w window) w)
+changed s w window Close = Ok (closed s w window)
 
 abbrev pub changed_at : Windows → ℕ → Option Window → Change → Result Windows ChangeFault
 changed_at s w (Some window) change = changed s w window change

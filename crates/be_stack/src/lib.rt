@@ -16,6 +16,6 @@ mod window;
 
 pub use fault::{ChangeFault, StackFault};
 pub use flags::WindowFlags;
-pub use law::order_stays_whole;
+pub use law::{active_stays_shown, order_stays_whole};
 pub use stack::Stack;
 pub use window::Window;

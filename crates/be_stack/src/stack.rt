@@ -1,7 +1,8 @@
 ghost use Rattle.std.specs.Prelude.{◌≡◌, ◌<◌, ◌≤◌, ◌↔◌, true, false, length, find, slice_get, option_map, vec_len, vec_capacity, IsTrue, IsNone, IfOk, OnOk, OnErr, MatchResult};
-ghost use Rattle.be_stack.specs.Windows.{is_open, is_shown, empty_windows, is_window_frame, with_new_window, with_window};
+ghost use Rattle.be_stack.specs.Windows.{is_open, is_shown, is_shown_window, empty_windows, is_window_frame, with_new_window, with_window};
 ghost use Rattle.be_stack.specs.Owner.{is_on_screen, covers, owner_at};
-ghost use Rattle.be_stack.specs.Changes.{is_within_limits, is_named_there, is_gone, windows_after, changed, deactivated, activated, sent_behind, closed};
+ghost use Rattle.be_stack.specs.Changes.{is_within_limits, is_named_there, is_gone, windows_after, changed, active_without, hidden, activated, sent_behind, closed};
+ghost use Rattle.be_stack.specs.Whole.{IsWhole};
 
 use crate::fault::{ChangeFault, StackFault};
 use crate::flags::WindowFlags;
@@ -34,7 +35,7 @@ impl Model for Stack {
 
     ghost view = { λ s. record { width = s.width; height = s.height; order = s.order.items; windows = s.windows.items; active = s.active } };
 
-    ghost invariant = { λ s. IsWhole s.order.items s.windows.items };
+    ghost invariant = { λ s. IsWhole record { width = s.width; height = s.height; order = s.order.items; windows = s.windows.items; active = s.active } };
 }
 
 impl Stack {
@@ -111,7 +112,10 @@ impl Stack {
 
     /// The active window, for which `BWindow::IsActive` holds.
     pub fn active(&self) -> Option<u16>
-        ensures { result ≡ self.now.active }
+        ensures active { result ≡ self.now.active }
+
+        // What holds of every stack, for callers that rest on it: an active window is shown, for one.
+        ensures whole { IsWhole self.now }
     {
         self.active
     }
@@ -184,75 +188,51 @@ impl Stack {
         ensures refused { OnErr result (self.new ≡ self.old) }
     {
         match change {
-            Change::Show => self.put(
-                w,
-                Window {
-                    hides: window.hides.saturating_sub(1),
-                    ..window
-                },
-            ),
-            Change::Hide => {
+            Change::Show => self.put(w, window.with_hides(window.hides.saturating_sub(1))),
+            Change::Hide => self.hide(w, window),
+            Change::MoveTo(corner) => {
+                self.put(w, window.with_frame(moved_to(window.frame, corner)?))
+            }
+            Change::MoveBy(dx, dy) => {
+                self.put(w, window.with_frame(moved_by(window.frame, dx, dy)?))
+            }
+            Change::ResizeTo(width, height) => {
                 self.put(
                     w,
-                    Window {
-                        hides: window.hides.saturating_add(1),
-                        ..window
-                    },
-                );
-                self.deactivate(w);
+                    window.with_frame(resized_to(window.frame, width, height)?),
+                )
             }
-            Change::MoveTo(corner) => self.put(
-                w,
-                Window {
-                    frame: moved_to(window.frame, corner)?,
-                    ..window
-                },
-            ),
-            Change::MoveBy(dx, dy) => self.put(
-                w,
-                Window {
-                    frame: moved_by(window.frame, dx, dy)?,
-                    ..window
-                },
-            ),
-            Change::ResizeTo(width, height) => self.put(
-                w,
-                Window {
-                    frame: resized_to(window.frame, width, height)?,
-                    ..window
-                },
-            ),
             Change::Activate => self.activate(w, window),
             Change::Behind(front) => self.send_behind(w, front),
             Change::Focus(_) => {}
-            Change::Close => {
-                self.close(w, window);
-                self.deactivate(w);
-            }
+            Change::Close => self.close(w, window),
         }
         Ok(())
     }
 
-    /// Keeps something else of a window, which is and stays open.
+    /// Keeps something else of a window, which stays open, and stays shown if it is.
     fn put(&mut self, w: u16, window: Window)
         requires opened { is_open self.old.windows w ≡ true }
         requires stays { window.closed ≡ false }
+        requires shown { is_shown self.old.windows w ≡ true → is_shown_window window ≡ true }
         ensures { self.new ≡ with_window self.old w window }
     {
         self.windows[usize::from(w)] = window;
     }
 
-    /// Leaves no window active where this one is.
-    fn deactivate(&mut self, w: u16)
-        ensures { self.new ≡ deactivated self.old w }
+    fn hide(&mut self, w: u16, window: Window)
+        requires opened { is_open self.old.windows w ≡ true }
+        requires stays { window.closed ≡ false }
+        ensures { self.new ≡ hidden self.old w window }
     {
-        if self.active == Some(w) {
-            self.active = None;
-        }
+        let hides = window.hides.saturating_add(1);
+        self.windows[usize::from(w)] = window.with_hides(hides);
+        self.active = active_without(self.active, w);
     }
 
     fn activate(&mut self, w: u16, window: Window)
-        requires { is_open self.old.windows w ≡ true }
+        requires there { slice_get self.old.windows w ≡ Some window }
+        requires opened { is_open self.old.windows w ≡ true }
         ensures { self.new ≡ activated self.old w window }
     {
         go_to_front(&mut self.order, w);
@@ -279,7 +259,15 @@ impl Stack {
             closed: true,
             ..window
         };
+        self.active = active_without(self.active, w);
     }
+}
+
+/// The active window, unless it is the one that is hidden or closed.
+fn active_without(active: Option<u16>, w: u16) -> Option<u16>
+    ensures { result ≡ active_without w active }
+{
+    if active == Some(w) { None } else { active }
 }
 
 /// Makes room for one more window.

@@ -37,6 +37,18 @@ impl Window {
         self.is_shown() && has_pixel(self.frame, x, y)
     }
 
+    pub(crate) fn with_hides(self, hides: u32) -> Window
+        ensures { result ≡ record self { hides = hides } }
+    {
+        Window { hides, ..self }
+    }
+
+    pub(crate) fn with_frame(self, frame: Rect) -> Window
+        ensures { result ≡ record self { frame = frame } }
+    {
+        Window { frame, ..self }
+    }
+
     /// Whether the window becomes the active one where it is activated.
     pub(crate) fn takes_focus(self) -> bool
         ensures { result ≡ takes_focus self }

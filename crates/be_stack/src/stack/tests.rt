@@ -290,7 +290,6 @@ fn stays_in_the_range(rt: HostRuntime) -> Result<(), Fail> {
 
 #[test]
 fn hides_no_more_than_it_counts(rt: HostRuntime) -> Result<(), Fail> {
-    let mut stack = three(rt.alloc())?;
     for (was, change, hides) in [
         (0, Change::Show, 0),
         (0, Change::Hide, 1),
@@ -299,7 +298,9 @@ fn hides_no_more_than_it_counts(rt: HostRuntime) -> Result<(), Fail> {
         (4294967295, Change::Hide, 4294967295),
         (4294967295, Change::Show, 4294967294),
     ] {
+        let mut stack = three(rt.alloc())?;
         assert!(rt; stack.is_open(1));
+        assert!(rt; !stack.is_shown(1));
         stack.put(
             1,
             Window {
