@@ -1,0 +1,4 @@
+pub mod DepthLemmas
+pub mod KeptLemmas
+pub mod PlaceLemmas
+pub mod SoundLemmas

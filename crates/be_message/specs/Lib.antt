@@ -1,0 +1,12 @@
+pub mod Limits
+pub mod Kinds
+pub mod Messages
+pub mod Depths
+pub mod Names
+pub mod Sound
+pub mod Fields
+pub mod Faults
+pub mod Views
+pub mod Codes
+pub mod Sizes
+pub mod Places
