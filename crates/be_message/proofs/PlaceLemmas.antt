@@ -149,6 +149,14 @@ pub found_removed : (name : List ℕ) (fs : List field.Field) (k : ℕ) (f : fie
 found_removed name fs k f p =
     map-append seen_field (take k fs) (drop (suc k) fs) ∙ rw (take-map seen_field k fs, drop-map seen_field (suc k) fs) refl ∙ sym (filter_is name (seen_fields fs) k (seen_field f) p.apart p.at p.named)
 
+has_by : (name : List ℕ) (fs : List Field) (k : ℕ) (o : Option Field) → slice_get fs k ≡ o → option_map (has_name name) o ≡ Some true → list_any (has_name name) fs ≡ true
+has_by name fs k (Some f) e h = some_has name fs k f e (named_from name (Some f) f refl h)
+has_by name fs k None e h = absurd (cc h)
+
+-- a place of the name is a field that has it
+pub place_has : (name : List ℕ) (fs gs : List field.Field) (k : ℕ) → gs ≡ fs → IsPlaceOf name (seen_fields gs) (Some k) → list_any (has_name name) (seen_fields fs) ≡ true
+place_has name fs gs k e p = let place : IsPlaceOf name (seen_fields fs) (Some k) = rw e at p in has_by name (seen_fields fs) k _ refl place.1
+
 -- the code has found no field of the name
 pub missing : (name : List ℕ) (fs gs : List field.Field) → gs ≡ fs → IsPlaceOf name (seen_fields gs) None → list_any (has_name name) (seen_fields fs) ≡ false
 missing name fs gs e h = rw e at h

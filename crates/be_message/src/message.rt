@@ -114,6 +114,16 @@ impl Message {
         }
     }
 
+    /// Whether a field has the name, whatever its type: `BMessage::HasInt32` and its kin.
+    pub fn has(&self, name: &str) -> bool
+        ensures { result ≡ list_any (has_name name.now) self.now.fields }
+    {
+        match place_of(&self.fields, name) {
+            Some(_) => true,
+            None => false,
+        }
+    }
+
     /// Adds a value under a name, behind those that stand there: `BMessage::AddInt32` and its kin.
     /// A new name comes behind all others. It looks at the names that there are, the newest first.
     pub fn add(&mut self, name: &str, value: Value) -> Result<(), AddFault>

@@ -1,0 +1,12 @@
+pub mod Loops
+pub mod Parts
+pub mod Taken
+pub mod Numbers
+pub mod TypeCodes
+pub mod FieldNames
+pub mod Lists
+pub mod Found
+pub mod Again
+pub mod Cuts
+pub mod OneSpelling
+pub mod Spelling

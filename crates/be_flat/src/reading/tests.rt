@@ -1,0 +1,176 @@
+use super::*;
+use crate::writing::flatten;
+use be_message::FindFault;
+use std::test::Fail;
+
+/// PING with n = 5: a what, one field, its type, its name, one value.
+const PING: &[u8] = b"GNIP\x01LONG\x01n\x01\x05\0\0\0";
+
+/// A message that holds a message, and so on, to a depth.
+fn nested(alloc: Global, depth: usize) -> Result<Vec<u8>, Fail> {
+    let mut bytes = Vec::new(alloc);
+    for _ in 1..depth {
+        bytes.extend_from_slice(b"GNIP\x01MSGG\x01m\x01")?;
+    }
+    bytes.extend_from_slice(b"GNIP\0")?;
+    Ok(bytes)
+}
+
+/// A message with so many fields, which have the names aa, ab and on.
+fn wide(alloc: Global, fields: u8) -> Result<Vec<u8>, Fail> {
+    let mut bytes = Vec::new(alloc);
+    bytes.extend_from_slice(b"GNIP")?;
+    bytes.push(fields)?;
+    for k in 0..fields {
+        bytes.extend_from_slice(b"BOOL\x02")?;
+        bytes.push(b'a' + k / 26)?;
+        bytes.push(b'a' + k % 26)?;
+        bytes.extend_from_slice(b"\x01\x01")?;
+    }
+    Ok(bytes)
+}
+
+/// A message with one field that has so many values.
+fn long(alloc: Global, values: u8) -> Result<Vec<u8>, Fail> {
+    let mut bytes = Vec::new(alloc);
+    bytes.extend_from_slice(b"GNIP\x01BOOL\x01n")?;
+    bytes.push(values)?;
+    for k in 0..values {
+        bytes.push(k % 2)?;
+    }
+    Ok(bytes)
+}
+
+/// A message with a text of so many bytes.
+fn text(alloc: Global, length: u16) -> Result<Vec<u8>, Fail> {
+    let mut bytes = Vec::new(alloc);
+    bytes.extend_from_slice(b"GNIP\x01CSTR\x01n\x01")?;
+    bytes.extend_from_slice(&length.to_le_bytes())?;
+    for _ in 0..length {
+        bytes.push(b'~')?;
+    }
+    Ok(bytes)
+}
+
+#[test]
+fn finds_what_was_spelt(rt: HostRuntime) -> Result<(), Fail> {
+    let message = unflatten(rt.alloc(), PING)?;
+    assert_eq!(rt; message.what(), 0x5049_4e47);
+    assert_eq!(rt; message.field_count(), 1);
+    assert!(rt; matches!(message.find("n", Kind::Int, 0), Ok(Value::Int(5))));
+    for (name, kind, index, fault) in [
+        ("x", Kind::Int, 0, FindFault::NameNotFound),
+        ("n", Kind::Text, 0, FindFault::BadType),
+        ("n", Kind::Int, 1, FindFault::BadIndex),
+    ] {
+        assert_eq!(rt; message.find(name, kind, index).err(), Some(fault));
+    }
+    Ok(())
+}
+
+#[test]
+fn gives_the_bytes_back(rt: HostRuntime) -> Result<(), Fail> {
+    let alloc = rt.alloc();
+    for bytes in [
+        b"\0\0\0\0\0".as_slice(),
+        PING,
+        b"GNIP\x01BOOL\x01n\x02\x01\0",
+        b"GNIP\x01LONG\x01n\x02\xff\xff\xff\x7f\0\0\0\x80",
+        b"GNIP\x01CSTR\x01n\x02\x02\0 ~\0\0",
+        b"GNIP\x01BPNT\x01n\x02\xfe\xff\x02\x01\0\x80\xff\x7f",
+        b"GNIP\x01RECT\x01n\x01\0\0\x01\0\xff\xff\x01\x02",
+        b"GNIP\x01MSGG\x01n\x02GNIP\0\x01\0\0\0\0",
+        b"GNIP\x02BOOL\x20abcdefghijklmnopqrstuvwxyz_01234\x01\0BOOL\x01z\x01\x01",
+        nested(alloc, 16)?.as_slice(),
+        wide(alloc, 255)?.as_slice(),
+        long(alloc, 255)?.as_slice(),
+        text(alloc, 1024)?.as_slice(),
+    ] {
+        let message = unflatten(alloc, bytes)?;
+        let again = flatten(alloc, &message)?;
+        assert_eq!(rt; again.as_slice(), bytes);
+    }
+    Ok(())
+}
+
+#[test]
+fn a_front_is_truncated_at_its_end(rt: HostRuntime) -> Result<(), Fail> {
+    let alloc = rt.alloc();
+    for bytes in [
+        PING,
+        nested(alloc, 3)?.as_slice(),
+        text(alloc, 3)?.as_slice(),
+    ] {
+        for at in 0..bytes.len() {
+            assert_eq!(rt;
+                unflatten(alloc, &bytes[..at]).err(),
+                Some(FlatError::Truncated { at })
+            );
+        }
+    }
+    Ok(())
+}
+
+#[test]
+fn names_the_first_failure(rt: HostRuntime) -> Result<(), Fail> {
+    let alloc = rt.alloc();
+    for (bytes, fault) in [
+        (
+            b"GNIP\x01LONG\x01n\x01\x05\0\0\0\0".as_slice(),
+            FlatError::Extra { at: 16 },
+        ),
+        (b"GNIP\0\0", FlatError::Extra { at: 5 }),
+        // a type
+        (b"GNIP\x01XONG", FlatError::BadByte { at: 5 }),
+        (b"GNIP\x01long", FlatError::BadByte { at: 5 }),
+        (b"GNIP\x01BANG", FlatError::BadByte { at: 6 }),
+        (b"GNIP\x01BONG", FlatError::BadByte { at: 7 }),
+        (b"GNIP\x01BPNL", FlatError::BadByte { at: 8 }),
+        // a name
+        (b"GNIP\x01LONG\0", FlatError::BadByte { at: 9 }),
+        (b"GNIP\x01LONG\x21n", FlatError::BadByte { at: 9 }),
+        (b"GNIP\x01LONG\x021n", FlatError::BadByte { at: 10 }),
+        (b"GNIP\x01LONG\x02_n", FlatError::BadByte { at: 10 }),
+        (b"GNIP\x01LONG\x02nN", FlatError::BadByte { at: 11 }),
+        (
+            b"GNIP\x02BOOL\x02na\x01\0LONG\x02na\x01",
+            FlatError::BadByte { at: 20 },
+        ),
+        // a number of values
+        (
+            b"GNIP\x01LONG\x01n\0\x05\0\0\0",
+            FlatError::BadByte { at: 11 },
+        ),
+        // a value
+        (b"GNIP\x01BOOL\x01n\x01\x02", FlatError::BadByte { at: 12 }),
+        (
+            b"GNIP\x01CSTR\x01n\x01\x01\x04",
+            FlatError::BadByte { at: 13 },
+        ),
+        (
+            b"GNIP\x01CSTR\x01n\x01\0\x05",
+            FlatError::BadByte { at: 13 },
+        ),
+        (
+            b"GNIP\x01CSTR\x01n\x01\x02\0a\x1f",
+            FlatError::BadByte { at: 15 },
+        ),
+        (
+            b"GNIP\x01CSTR\x01n\x01\x01\0\x7f",
+            FlatError::BadByte { at: 14 },
+        ),
+        // the first of two
+        (
+            b"GNIP\x01BOOL\x01n\x02\x02\x02",
+            FlatError::BadByte { at: 12 },
+        ),
+        // the type of a message at depth 16, of which the first letter has no place
+        (
+            nested(alloc, 17)?.as_slice(),
+            FlatError::BadByte { at: 15 * 12 + 5 },
+        ),
+    ] {
+        assert_eq!(rt; unflatten(alloc, bytes).err(), Some(fault));
+    }
+    Ok(())
+}
