@@ -12,6 +12,8 @@ mod kind;
 mod message;
 mod names;
 mod target;
+#[cfg(test)]
+mod tests;
 mod text;
 mod value;
 
