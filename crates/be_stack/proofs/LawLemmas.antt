@@ -1,5 +1,5 @@
 -- What a change that isn't refused keeps is shown change by change, on a window that is open.
-use Rattle.std.specs.Prelude.{slice_get, ◌==◌, ◌||◌}
+use Rattle.std.specs.Prelude.{slice_get, ◌==◌}
 use Rattle.std.proofs.Common.{◌≡◌, ℕ, Bool, true, false, cond, not, List, Option, Some, None, Result, Ok, Err, refl, subst, ◌-ℤ◌}
 use Rattle.std.proofs.lemmas.Bool.{not-false, or_parts}
 use Rattle.be_geom.specs.declared.change.Change.{Change}
@@ -44,6 +44,7 @@ by_gone P false s t w change gone shown e =
     by_window P s t w (slice_get s.windows w) change refl (open_for s.windows w change gone) shown e
 
 pub by_change : (P : Windows → Type 0) (s t : Windows) (w : ℕ) (change : Change) → Shown P s t w change → windows_after s w change ≡ Ok t → P t
+unfolding windows_after
 by_change P s t w change shown e = by_gone P (is_gone s.windows w change) s t w change refl shown e
 
 pub as_after : (P : Windows → Type 0) (s t : Windows) → ◌≡◌ {A = Result Windows ChangeFault} (Ok s) (Ok t) → P s → P t

@@ -4,5 +4,5 @@ pub mod LawLemmas
 pub mod LimitLemmas
 pub mod OpenLemmas
 pub mod OrderLemmas
-pub mod OwnerLemmas
+pub mod ReadLemmas
 pub mod WholeLemmas

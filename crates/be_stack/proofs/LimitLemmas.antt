@@ -4,7 +4,7 @@ use Rattle.std.proofs.lemmas.Bool.{and_from}
 use Rattle.std.proofs.lemmas.Int.{ints}
 use Rattle.be_geom.specs.Points.{between}
 use Rattle.be_geom.specs.declared.change.Change.TheVariants.{MoveBy, ResizeTo}
-use Rattle.be_stack.specs.Changes.{is_within_limits}
+use Rattle.be_stack.specs.Limits.{is_within_limits}
 
 lies_between : (low z high : ℤ) → low ≤ℤ z → z ≤ℤ high → between low z high ≡ true
 unfolding between

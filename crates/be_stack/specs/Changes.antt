@@ -1,34 +1,15 @@
 -- What a change makes of the windows.
-use Rattle.std.specs.Prelude.{ℕ, ℤ, pos, negsuc, Bool, true, ◌==◌, ◌&&◌, ◌||◌, ◌+◌, ◌-◌, ◌+ℤ◌, ◌-ℤ◌, not, nat_lt, min, List, ◌∷◌, length, Option, Some, None, Result, Ok, Err, slice_get, if◌then◌else◌}
+use Rattle.std.specs.Prelude.{ℕ, ℤ, Bool, true, ◌==◌, ◌&&◌, ◌||◌, ◌+◌, ◌-◌, ◌+ℤ◌, ◌-ℤ◌, not, min, List, ◌∷◌, Option, Some, None, Result, Ok, Err, slice_get, if◌then◌else◌}
 use Rattle.std.specs.Int.RustNames.{bit_and}
 use Rattle.be_geom.specs.declared.change.Change.{Change}
 use Rattle.be_geom.specs.declared.change.Change.TheVariants.{Show, Hide, MoveTo, MoveBy, ResizeTo, Activate, Behind, Focus, Close}
 use Rattle.be_geom.specs.declared.rect.Rect.{Rect}
-use Rattle.be_geom.specs.Points.{between}
 use Rattle.be_geom.specs.Rects.{rect_fits, moved_rect}
 use Rattle.be_stack.specs.declared.fault.ChangeFault.{ChangeFault}
 use Rattle.be_stack.specs.declared.fault.ChangeFault.TheVariants.{Gone, OffRange}
 use Rattle.be_stack.specs.declared.window.Window.{Window}
 use Rattle.be_stack.specs.Order.{others, put_behind}
-use Rattle.be_stack.specs.Windows.{Windows, is_open, is_size, is_shown_window, with_window}
-
--- ---- what may be asked
-
--- a move goes by at most 65535 in each direction, and a width and a height are 0 to 32767
-abbrev pub is_within_limits : Change → Bool
-is_within_limits (MoveBy dx dy) = between (negsuc 65534) dx (pos 65535) && between (negsuc 65534) dy (pos 65535)
-is_within_limits (ResizeTo width height) = is_size width && is_size height
-is_within_limits other = true
-
--- the window that one is to go behind is there, open or closed
-abbrev pub is_named_there : Windows → Change → Bool
-is_named_there s (Behind front) = nat_lt front (length s.windows)
-is_named_there s other = true
-
--- a change is asked of a window that is closed or isn't there, or asks it to go behind such a one
-abbrev pub is_gone : List Window → ℕ → Change → Bool
-is_gone windows w (Behind front) = not (is_open windows w) || not (is_open windows front)
-is_gone windows w other = not (is_open windows w)
+use Rattle.be_stack.specs.Windows.{Windows, is_open, is_shown_window, with_window}
 
 -- ---- frames
 
@@ -76,6 +57,11 @@ closed s w window =
 
 -- ---- changes
 
+-- a change is asked of a window that is closed or isn't there, or asks it to go behind such a one
+abbrev pub is_gone : List Window → ℕ → Change → Bool
+is_gone windows w (Behind front) = not (is_open windows w) || not (is_open windows front)
+is_gone windows w other = not (is_open windows w)
+
 -- the windows after a change of window w, which isn't gone
 abbrev pub changed : Windows → ℕ → Window → Change → Result Windows ChangeFault
 changed s w window Show = Ok (with_window s w (record window { hides = window.hides - 1 }))
@@ -94,5 +80,5 @@ changed_at s w (Some window) change = changed s w window change
 changed_at s w None change = Err Gone
 
 -- the windows after a change of window w, or why it is refused: Gone is tested before OffRange
-abbrev pub windows_after : Windows → ℕ → Change → Result Windows ChangeFault
+unfoldable pub windows_after : Windows → ℕ → Change → Result Windows ChangeFault
 windows_after s w change = if is_gone s.windows w change then Err Gone else changed_at s w (slice_get s.windows w) change

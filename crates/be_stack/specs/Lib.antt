@@ -1,6 +1,7 @@
 pub mod Windows
 pub mod Owner
 pub mod Order
+pub mod Limits
 pub mod Changes
 pub mod Whole
 pub mod Laws

@@ -17,6 +17,6 @@ abbrev pub covers : List Window → ℤ → ℤ → ℕ → Bool
 covers windows x y w = passes (covers_pixel x y) (slice_get windows w)
 
 -- the owner of a pixel of the screen: the first window of the order that covers it, or nobody, where the desktop shows
-abbrev pub owner_at : Windows → ℤ → ℤ → Option ℕ
+unfoldable pub owner_at : Windows → ℤ → ℤ → Option ℕ
 owner_at s x y =
     if is_on_screen s.width x && is_on_screen s.height y then find (covers s.windows x y) s.order else None

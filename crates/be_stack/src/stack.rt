@@ -1,7 +1,8 @@
 ghost use Rattle.std.specs.Prelude.{◌≡◌, ◌<◌, ◌≤◌, ◌↔◌, true, false, length, find, slice_get, option_map, vec_len, vec_capacity, IsTrue, IsNone, IfOk, OnOk, OnErr, MatchResult};
 ghost use Rattle.be_stack.specs.Windows.{is_open, is_shown, is_shown_window, empty_windows, is_window_frame, with_new_window, with_window};
 ghost use Rattle.be_stack.specs.Owner.{is_on_screen, covers, owner_at};
-ghost use Rattle.be_stack.specs.Changes.{is_within_limits, is_named_there, is_gone, windows_after, changed, active_without, hidden, activated, sent_behind, closed};
+ghost use Rattle.be_stack.specs.Limits.{is_within_limits, is_named_there};
+ghost use Rattle.be_stack.specs.Changes.{is_gone, windows_after, changed, active_without, hidden, activated, sent_behind, closed};
 ghost use Rattle.be_stack.specs.Whole.{IsWhole};
 
 use crate::fault::{ChangeFault, StackFault};

@@ -1,7 +1,7 @@
 use Rattle.std.proofs.Common.{refl}
 use Rattle.std.proofs.lemmas.Int.{to_z-of_z}
 use Rattle.std.proofs.lemmas.Option.{slice_get_read}
-use Rattle.be_stack.proofs.OwnerLemmas.{covers_read}
+use Rattle.be_stack.proofs.ReadLemmas.{covers_read}
 use Rattle.be_stack.proofs.stack.covers.Goals as goal
 
 pub returns-in-Some : goal.returns-in-Some
