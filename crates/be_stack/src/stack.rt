@@ -34,9 +34,21 @@ impl Model for Stack {
 
     ghost Value = { Windows };
 
-    ghost view = { λ s. record { width = s.width; height = s.height; order = s.order.items; windows = s.windows.items; active = s.active } };
+    ghost view = { λ s. record {
+      width = s.width;
+      height = s.height;
+      order = s.order.items;
+      windows = s.windows.items;
+      active = s.active;
+    } };
 
-    ghost invariant = { λ s. IsWhole record { width = s.width; height = s.height; order = s.order.items; windows = s.windows.items; active = s.active } };
+    ghost invariant = { λ s. IsWhole record {
+      width = s.width;
+      height = s.height;
+      order = s.order.items;
+      windows = s.windows.items;
+      active = s.active;
+    } };
 }
 
 impl Stack {
