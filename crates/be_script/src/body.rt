@@ -3,7 +3,7 @@ ghost use Rattle.be_script.specs.Seen.{Gives, body_with_step};
 
 use crate::program::{Instruction, Program};
 use crate::reason::{LineFault, Reason};
-use crate::text::Text;
+use be_message::Text;
 
 // How many steps an application may have.
 const STEPS: usize = 1024;

@@ -19,19 +19,18 @@ mod reader;
 mod reading;
 mod reason;
 mod script;
-mod text;
 mod unbuilt;
 mod windows;
 mod word;
 mod words;
 
+pub use be_message::Text;
 pub use command::Command;
 pub use cost::work;
 pub use program::{Instruction, Program};
 pub use reading::read;
 pub use reason::{Reason, ScriptFault};
 pub use script::{AppLine, Script, WindowLine};
-pub use text::Text;
 
 #[cfg(test)]
 mod tests;

@@ -13,13 +13,13 @@ use crate::line::Line;
 use crate::program::{Instruction, Program};
 use crate::reason::{LineFault, Reason};
 use crate::script::{AppLine, Script, WindowLine};
-use crate::text::Text;
 use crate::unbuilt::built_word;
 use crate::windows::Windows;
 use crate::word::{has_bad_byte, is_reserved};
 use crate::words::Words;
 use be_color::Pattern;
 use be_geom::{Change, Rect};
+use be_message::Text;
 use std::alloc::Global;
 
 // The most that a line and a script may have.

@@ -1,6 +1,6 @@
 use crate::program::Program;
-use crate::text::Text;
 use be_geom::Rect;
+use be_message::Text;
 
 /// A script, as it was read.
 #[derive(Debug, Drop)]
