@@ -1,4 +1,4 @@
-ghost use Rattle.std.specs.Prelude.{◌≡◌, ◌<◌, length, Some, OnOk};
+ghost use Rattle.std.specs.Prelude.{◌≡◌, ◌<◌, length, Some, OnOk, OnErr};
 ghost use Rattle.be_script.specs.Script.{declared_by};
 ghost use Rattle.be_world.specs.Legal.{app_act, looper_act, has_dirty};
 ghost use Rattle.be_world.specs.History.{IsLegal};
@@ -26,6 +26,7 @@ impl World {
         requires legal { IsLegal (declared_by script.now) (state_of (declared_by script.now) self.old) entry }
         ensures stepped { OnOk result (state_of (declared_by script.now) self.new ≡ step (declared_by script.now) (state_of (declared_by script.now) self.old) entry) }
         ensures sound { OnOk result (IsSound (declared_by script.now) self.new) }
+        ensures err { OnErr result (state_of (declared_by script.now) self.new ≡ state_of (declared_by script.now) self.old) }
     {
         match Actor::numbered(entry.actor, script.apps.len(), script.windows.len()) {
             Some(Actor::App(app)) => self.perform_app(script, app, entry.act),
@@ -79,6 +80,7 @@ impl World {
         requires legal { looper_act (state_of (declared_by script.now) self.old) window ≡ Some act }
         ensures stepped { OnOk result (state_of (declared_by script.now) self.new ≡ looper_step (state_of (declared_by script.now) self.old) window act) }
         ensures pixels { OnOk result (KeepsPixels (declared_by script.now) self.new) }
+        ensures err { OnErr result (state_of (declared_by script.now) self.new ≡ state_of (declared_by script.now) self.old) }
     {
         match act {
             Act::Take(_) => {
@@ -111,6 +113,7 @@ impl World {
         requires opened { opened ≡ has_dirty (state_of (declared_by script.now) self.old) window }
         ensures stepped { OnOk result (state_of (declared_by script.now) self.new ≡ begun (state_of (declared_by script.now) self.old) window) }
         ensures pixels { OnOk result (KeepsPixels (declared_by script.now) self.new) }
+        ensures err { OnErr result (state_of (declared_by script.now) self.new ≡ state_of (declared_by script.now) self.old) }
     {
         if opened {
             let session = paint::begin(alloc, &mut self.cells, script, &self.hides, window)?;
