@@ -120,6 +120,7 @@ fn value_into(
     ensures { Gives (λ _. (message.new, cursor.new)) result (value_into (message_at levels) kind name.now message.old cursor.old) }
 {
     let value = value_at(alloc, cursor, levels, kind)?;
+    // Name and value were judged while they were read.
     if message.add(name, value).is_err() {
         return Err(FlatError::NoMemory);
     }

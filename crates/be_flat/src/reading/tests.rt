@@ -68,6 +68,12 @@ fn finds_what_was_spelt(rt: HostRuntime) -> Result<(), Fail> {
     Ok(())
 }
 
+/// What is written of what was read.
+fn again(alloc: Global, bytes: &[u8]) -> Result<Vec<u8>, Fail> {
+    let message = unflatten(alloc, bytes)?;
+    Ok(flatten(alloc, &message)?)
+}
+
 #[test]
 fn gives_the_bytes_back(rt: HostRuntime) -> Result<(), Fail> {
     let alloc = rt.alloc();
@@ -81,33 +87,56 @@ fn gives_the_bytes_back(rt: HostRuntime) -> Result<(), Fail> {
         b"GNIP\x01RECT\x01n\x01\0\0\x01\0\xff\xff\x01\x02",
         b"GNIP\x01MSGG\x01n\x02GNIP\0\x01\0\0\0\0",
         b"GNIP\x02BOOL\x20abcdefghijklmnopqrstuvwxyz_01234\x01\0BOOL\x01z\x01\x01",
-        nested(alloc, 16)?.as_slice(),
-        wide(alloc, 255)?.as_slice(),
-        long(alloc, 255)?.as_slice(),
-        text(alloc, 1024)?.as_slice(),
     ] {
-        let message = unflatten(alloc, bytes)?;
-        let again = flatten(alloc, &message)?;
-        assert_eq!(rt; again.as_slice(), bytes);
+        assert_eq!(rt; again(alloc, bytes)?.as_slice(), bytes);
     }
     Ok(())
 }
 
 #[test]
-fn a_front_is_truncated_at_its_end(rt: HostRuntime) -> Result<(), Fail> {
+fn gives_the_longest_back(rt: HostRuntime) -> Result<(), Fail> {
     let alloc = rt.alloc();
-    for bytes in [
-        PING,
-        nested(alloc, 3)?.as_slice(),
-        text(alloc, 3)?.as_slice(),
-    ] {
-        for at in 0..bytes.len() {
-            assert_eq!(rt;
-                unflatten(alloc, &bytes[..at]).err(),
-                Some(FlatError::Truncated { at })
-            );
+    let deepest = nested(alloc, 16)?;
+    assert_eq!(rt;
+        again(alloc, deepest.as_slice())?.as_slice(),
+        deepest.as_slice()
+    );
+    let widest = wide(alloc, 255)?;
+    assert_eq!(rt;
+        again(alloc, widest.as_slice())?.as_slice(),
+        widest.as_slice()
+    );
+    let longest = long(alloc, 255)?;
+    assert_eq!(rt;
+        again(alloc, longest.as_slice())?.as_slice(),
+        longest.as_slice()
+    );
+    let longest_text = text(alloc, 1024)?;
+    assert_eq!(rt;
+        again(alloc, longest_text.as_slice())?.as_slice(),
+        longest_text.as_slice()
+    );
+    Ok(())
+}
+
+/// Whether each front of the bytes is truncated at its end.
+fn each_front_is_truncated(alloc: Global, bytes: &[u8]) -> bool {
+    for at in 0..bytes.len() {
+        if unflatten(alloc, &bytes[..at]).err() != Some(FlatError::Truncated { at }) {
+            return false;
         }
     }
+    true
+}
+
+#[test]
+fn a_front_is_truncated_at_its_end(rt: HostRuntime) -> Result<(), Fail> {
+    let alloc = rt.alloc();
+    assert!(rt; each_front_is_truncated(alloc, PING));
+    let deep = nested(alloc, 3)?;
+    assert!(rt; each_front_is_truncated(alloc, deep.as_slice()));
+    let spoken = text(alloc, 3)?;
+    assert!(rt; each_front_is_truncated(alloc, spoken.as_slice()));
     Ok(())
 }
 
