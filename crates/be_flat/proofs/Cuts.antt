@@ -1,5 +1,5 @@
 -- Bytes that are cut short: what is read of them is what is read of the whole, or they are truncated.
-use Rattle.std.proofs.Common.{◌≡◌, ℕ, zero, suc, ◌+◌, ◌-◌, ◌*◌, Bool, true, false, ◌&&◌, cond, List, [], ◌∷◌, ◌++◌, length, Ok, Err, refl, sym, ap, subst, ◌∙◌, ◌⊎◌, inl, inr, arith}
+use Rattle.std.proofs.Common.{◌≡◌, ℕ, zero, suc, ◌+◌, ◌-◌, ◌*◌, Bool, ◌&&◌, List, [], ◌∷◌, ◌++◌, length, Ok, Err, refl, sym, ap, subst, ◌∙◌, ◌⊎◌, inl, inr, arith}
 use Rattle.std.specs.Prelude.{nat_le, nat_lt, ◌==◌, ◌≢◌}
 use Rattle.std.specs.Int.{w16, w32, from_le_bytes, cast_signed}
 use Rattle.std.specs.List.{list_any}
@@ -9,13 +9,13 @@ use Rattle.be_message.specs.declared.kind.Kind.TheVariants as kind
 use Rattle.be_message.specs.Fields.{has_name, with_value}
 use Rattle.be_message.specs.Messages.{bool, int, text, point, rect, Message, packed}
 use Rattle.be_message.specs.Names.{is_text_byte}
-use Rattle.be_flat.specs.declared.fault.FlatError.{FlatError}
 use Rattle.be_flat.specs.declared.fault.FlatError.TheVariants.{Truncated, BadByte, Extra}
 use Rattle.be_flat.specs.Codes.{begin_code, kind_spelt}
 use Rattle.be_flat.specs.Grammar.{Spells}
 use Rattle.be_flat.specs.Reading.{Rest, Read, ◌>>=◌, byte_at, byte_that, bytes_that, u16_at, u32_at, coordinate_at, bool_at, int_at, text_length_at, text_at, point_at, rect_at, value_at, value_into, so_many, kind_at, goes_on_name, unless_taken, name_at, field_into, message_at, reading}
-use Rattle.be_flat.proofs.Taken.{bind_ok, guard_ok, ok_is}
+use Rattle.be_flat.proofs.Taken.{bind_ok}
 use Rattle.be_flat.proofs.Again.{message_again}
+use Rattle.be_flat.proofs.Truths.{guard_ok, is_free, ok_is}
 
 abbrev rest_of : List ℕ → ℕ → Rest
 rest_of bytes at = record { bytes = bytes; at = at }
@@ -154,10 +154,6 @@ cut_kind : (nested : Bool) → IsCut (kind_at nested)
 unfolding kind_at
 cut_kind nested =
     cut_bind (bytes_that (λ read b. begin_code nested (read ++ b ∷ [])) 4 []) (λ letters s. Ok (kind_spelt letters, s)) (cut_bytes (λ read b. begin_code nested (read ++ b ∷ [])) 4 []) (λ letters. cut_ok (kind_spelt letters))
-
-is_free : (b : Bool) (e : FlatError) (x y : List ℕ × Rest) → cond b (Err e) (Ok x) ≡ Ok y → (b ≡ false) × (x ≡ y)
-is_free true e x y h = absurd cc
-is_free false e x y h = (refl, ok_is x y h)
 
 cut_unless : (m : Message) (name : List ℕ) → IsCut (λ s. unless_taken m (name, s))
 unfolding unless_taken

@@ -1,5 +1,5 @@
 -- The name of a field: what is read is spelt so, and what is spelt so is read again.
-use Rattle.std.proofs.Common.{◌≡◌, ℕ, zero, suc, ◌+◌, ◌-◌, ◌<◌, ◌≤◌, Bool, true, false, ◌&&◌, cond, List, [], ◌∷◌, ◌++◌, length, Ok, Err, refl, sym, ap, subst, ◌∙◌, ◌⊎◌, inl, inr, ◌||◌, append_assoc, arith}
+use Rattle.std.proofs.Common.{◌≡◌, ℕ, zero, suc, ◌+◌, ◌-◌, ◌<◌, ◌≤◌, Bool, true, false, ◌&&◌, cond, List, [], ◌∷◌, ◌++◌, length, Ok, Err, refl, sym, ap, subst, ◌∙◌, inl, inr, ◌||◌, append_assoc, arith}
 use Rattle.std.specs.Prelude.{nat_le, nat_lt, ◌==◌}
 use Rattle.std.specs.Char.{is_ascii_lowercase, is_ascii_digit}
 use Rattle.std.specs.List.{list_any, list_all}
@@ -10,10 +10,10 @@ use Rattle.std.proofs.lemmas.Str.{IsUtf8-from_ascii}
 use Rattle.be_message.specs.Fields.{has_name}
 use Rattle.be_message.specs.Messages.{Message}
 use Rattle.be_message.specs.Names.{is_name, is_name_byte}
-use Rattle.be_flat.specs.declared.fault.FlatError.{FlatError}
 use Rattle.be_flat.specs.declared.fault.FlatError.TheVariants.{BadByte}
 use Rattle.be_flat.specs.Reading.{Rest, ◌>>=◌, byte_at, byte_that, bytes_that, goes_on_name, unless_taken, name_at}
-use Rattle.be_flat.proofs.Taken.{IsBytes, bind_ok, guard_ok, ok_is, Takes, Takes-then, that_takes, bytes_take, pass_all, Reads, that_again, bytes_again, and_true, and_first, and_second}
+use Rattle.be_flat.proofs.Taken.{IsBytes, bind_ok, Takes, Takes-then, that_takes, bytes_take, pass_all, Reads, that_again, bytes_again}
+use Rattle.be_flat.proofs.Truths.{and_first, and_second, and_true, either, guard_ok, is_free, ok_is}
 
 -- behind its first letter a name goes on with any of its bytes
 goes_on : (c : ℕ) (read bytes : List ℕ) → pass_all goes_on_name (c ∷ read) bytes ≡ list_all is_name_byte bytes
@@ -51,10 +51,6 @@ pub record TakesName (m : Message) (bytes name left : List ℕ) : Type 0 where
   pub free : list_any (has_name name) m.fields ≡ false
   pub took : Takes bytes (length name ∷ name) left
 
-is_free : (b : Bool) (e : FlatError) (x y : List ℕ × Rest) → cond b (Err e) (Ok x) ≡ Ok y → (b ≡ false) × (x ≡ y)
-is_free true e x y h = absurd cc
-is_free false e x y h = (refl, ok_is x y h)
-
 pub name_takes : (m : Message) (s : Rest) (x : List ℕ × Rest) → IsBytes s.bytes → name_at m s ≡ Ok x → TakesName m s.bytes x.0 x.1.bytes
 unfolding name_at unless_taken
 name_takes m s x h e =
@@ -91,10 +87,6 @@ name_again m name left at allowed free =
 is_letter : (b : ℕ) → is_ascii_lowercase b ≡ true → b < 128
 is_letter b h = omega (arith, leb-true b 122 (and_second (nat_le 97 b) _ h))
 
-either : (a b : Bool) → (a || b) ≡ true → (a ≡ true) ⊎ (b ≡ true)
-either true b h = inl refl
-either false b h = inr h
-
 is_of_name : (b : ℕ) → is_name_byte b ≡ true → b < 128
 is_of_name b h =
     elim (either (is_ascii_lowercase b || is_ascii_digit b) (b == 95) h) [
@@ -114,18 +106,38 @@ letters_ascii read [] h i = omega arith
 letters_ascii read (b ∷ bytes) h zero = passes_ascii read b (and_first (goes_on_name read b) _ h)
 letters_ascii read (b ∷ bytes) h (suc i) = letters_ascii (read ++ b ∷ []) bytes (and_second (goes_on_name read b) _ h) i
 
-passing : (p : List ℕ → ℕ → Bool) (n : ℕ) (read : List ℕ) (s : Rest) (x : List ℕ × Rest) → bytes_that p n read s ≡ Ok x → (text : List ℕ) × (x.0 ≡ read ++ text) × (pass_all p read text ≡ true)
+-- what was read behind what stood there passes, and is so long
+pub passing : (p : List ℕ → ℕ → Bool) (n : ℕ) (read : List ℕ) (s : Rest) (x : List ℕ × Rest) → bytes_that p n read s ≡ Ok x → (text : List ℕ) × (x.0 ≡ read ++ text) × (pass_all p read text ≡ true) × (length text ≡ n)
 unfolding bytes_that byte_that
-passing p zero read s x e = ([], sym (ap (λ (y : List ℕ × Rest). y.0) (ok_is (read, s) x e)) ∙ sym (append-nil read), refl)
+passing p zero read s x e = ([], sym (ap (λ (y : List ℕ × Rest). y.0) (ok_is (read, s) x e)) ∙ sym (append-nil read), refl, refl)
 passing p (suc n) read s x e =
     let a = bind_ok (byte_that (p read) s) (λ y. bytes_that p n (read ++ y.0 ∷ []) y.1) x e in
     let b = bind_ok (byte_at s) (λ y. cond (p read y.0) (Ok y) (Err (BadByte s.at))) a.0 a.1 in
     let g = guard_ok (p read b.0.0) (BadByte s.at) b.0 a.0 b.2 in
     let passed : p read a.0.0 ≡ true = subst (λ (y : ℕ × Rest). p read y.0 ≡ true) g.1 g.0 in
     let more = passing p n (read ++ a.0.0 ∷ []) a.0.1 x a.2 in
-    (a.0.0 ∷ more.0, more.1 ∙ append_assoc read (a.0.0 ∷ []) more.0, and_true _ _ passed more.2)
+    (a.0.0 ∷ more.0, more.1 ∙ append_assoc read (a.0.0 ∷ []) more.0, and_true _ _ passed more.2, ap suc more.3)
 
 pub name_is_utf8 : (n : ℕ) (s : Rest) (x : List ℕ × Rest) → bytes_that goes_on_name n [] s ≡ Ok x → IsUtf8 x.0
 name_is_utf8 n s x e =
     let t = passing goes_on_name n [] s x e in
     IsUtf8-from_ascii x.0 (subst IsAscii (sym t.1) (letters_ascii [] t.0 t.2))
+
+-- a name that was read is allowed, and no field has it
+pub name_allowed : (m : Message) (s : Rest) (x : List ℕ × Rest) → name_at m s ≡ Ok x → (is_name x.0 ≡ true) × (list_any (has_name x.0) m.fields ≡ false)
+unfolding name_at unless_taken byte_that
+name_allowed m s x e =
+    let ok : ℕ → Bool = λ n. nat_lt 0 n && nat_le n 32 in
+    let n = bind_ok (byte_that ok s) (λ n. bytes_that goes_on_name n.0 [] n.1 >>= unless_taken m) x e in
+    let t = bind_ok (bytes_that goes_on_name n.0.0 [] n.0.1) (unless_taken m) x n.2 in
+    let b = bind_ok (byte_at s) (λ y. cond (ok y.0) (Ok y) (Err (BadByte s.at))) n.0 n.1 in
+    let g = guard_ok (ok b.0.0) (BadByte s.at) b.0 n.0 b.2 in
+    let long : ok n.0.0 ≡ true = subst (λ (y : ℕ × Rest). ok y.0 ≡ true) g.1 g.0 in
+    let some : 0 < n.0.0 = leb-true 1 n.0.0 (and_first (nat_lt 0 n.0.0) _ long) in
+    let most : n.0.0 ≤ 32 = leb-true _ _ (and_second (nat_lt 0 n.0.0) _ long) in
+    let took = passing goes_on_name n.0.0 [] n.0.1 t.0 t.1 in
+    let free = is_free (list_any (has_name t.0.0) m.fields) (BadByte (t.0.1.at - 1)) t.0 x t.2 in
+    let count : length t.0.0 ≡ n.0.0 = ap length took.1 ∙ took.3 in
+    let pass : pass_all goes_on_name [] t.0.0 ≡ true = ap (pass_all goes_on_name []) took.1 ∙ took.2 in
+    subst (λ (y : List ℕ × Rest). (is_name y.0 ≡ true) × (list_any (has_name y.0) m.fields ≡ false)) free.1
+    (name_from t.0.0 (omega (arith, some, count)) (omega (arith, most, count)) pass, free.0)

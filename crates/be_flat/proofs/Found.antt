@@ -15,11 +15,12 @@ use Rattle.be_flat.specs.declared.fault.FlatError.{FlatError}
 use Rattle.be_flat.specs.Codes.{code_of}
 use Rattle.be_flat.specs.Grammar.{SpellsDatum, SpellsFields, SpellsValues, Spells}
 use Rattle.be_flat.specs.Reading.{Rest, Read, ◌>>=◌, byte_at, byte_that, u32_at, value_at, value_into, so_many, kind_at, name_at, field_into, message_at, whole, reading, Gives}
-use Rattle.be_flat.proofs.Taken.{IsBytes, bind_ok, ok_is, Takes-then, takes_nothing, byte_takes, that_takes}
+use Rattle.be_flat.proofs.Taken.{IsBytes, bind_ok, Takes-then, takes_nothing, byte_takes, that_takes}
 use Rattle.be_flat.proofs.Numbers.{TakesPart, TakesValue, bool_takes, int_takes, text_takes, point_takes, rect_takes, u32_takes}
 use Rattle.be_flat.proofs.TypeCodes.{code_takes}
 use Rattle.be_flat.proofs.FieldNames.{name_takes}
 use Rattle.be_flat.proofs.Lists.{fields_again, AreNew, new_to_fewer, first_added, more_added}
+use Rattle.be_flat.proofs.Truths.{ok_is}
 
 -- ---- values
 

@@ -1,3 +1,4 @@
+pub mod Truths
 pub mod Loops
 pub mod Parts
 pub mod Taken
@@ -10,3 +11,4 @@ pub mod Again
 pub mod Cuts
 pub mod OneSpelling
 pub mod Spelling
+pub mod Rooms

@@ -5,10 +5,10 @@ use Rattle.std.specs.Str.{bytes_eq}
 use Rattle.std.proofs.lemmas.List.{map-append}
 use Rattle.std.proofs.lemmas.List.Folds.{list_any-append}
 use Rattle.std.proofs.lemmas.Slice.Eq.{bytes_eq-Decides}
-use Rattle.be_flat.proofs.Taken.{and_true, and_first, and_second}
 use Rattle.be_message.specs.Messages.{Datum, Fields, no_fields, field, Values, no_values, value, Field, values_of, fields_of, all_values, all_fields}
 use Rattle.be_message.specs.Fields.{has_name, with_one_more, changed_at, new_field, with_value}
 use Rattle.be_message.specs.Sound.{is_new}
+use Rattle.be_flat.proofs.Truths.{and_first, and_second, and_true, eq_self, neither}
 
 -- ---- lists and back
 
@@ -30,10 +30,6 @@ listed_fields (f ∷ fs) = rw (listed_values f.values, listed_fields fs) refl
 
 -- ---- names
 
-neither : (a b : Bool) → (a || b) ≡ false → (a ≡ false) × (b ≡ false)
-neither true b h = absurd cc
-neither false b h = (refl, h)
-
 nor : (a b : Bool) → a ≡ false → b ≡ false → (a || b) ≡ false
 nor a b p q = rw (p, q) refl
 
@@ -53,9 +49,6 @@ is_same false false f g = refl
 eq_sym : (a b : List ℕ) → bytes_eq a b ≡ bytes_eq b a
 eq_sym a b =
     is_same (bytes_eq a b) (bytes_eq b a) (λ h. (bytes_eq-Decides b a).1 (sym ((bytes_eq-Decides a b).0 h))) (λ h. (bytes_eq-Decides a b).1 (sym ((bytes_eq-Decides b a).0 h)))
-
-eq_self : (a : List ℕ) → bytes_eq a a ≡ true
-eq_self a = (bytes_eq-Decides a a).1 refl
 
 -- no field of the list has the name of one of these
 abbrev pub AreNew : List Field → Fields → Type 0

@@ -15,7 +15,8 @@ use Rattle.be_message.specs.Names.{is_text_byte, is_text}
 use Rattle.be_message.specs.Sound.{kind_of}
 use Rattle.be_flat.specs.Grammar.{SpellsCoordinate, SpellsInt, SpellsPoint, SpellsText, SpellsDatum}
 use Rattle.be_flat.specs.Reading.{Rest, ◌>>=◌, byte_at, byte_that, bytes_that, u16_at, u32_at, coordinate_at, int_at, point_at, rect_at, text_length_at, text_at, bool_at}
-use Rattle.be_flat.proofs.Taken.{IsBytes, bind_ok, ok_is, Takes, Takes-then, byte_takes, that_takes, bytes_take, pass_all, Reads, bytes_again, and_first, and_second}
+use Rattle.be_flat.proofs.Taken.{IsBytes, bind_ok, Takes, Takes-then, byte_takes, that_takes, bytes_take, pass_all, Reads, bytes_again}
+use Rattle.be_flat.proofs.Truths.{and_first, and_second, ok_is}
 
 -- two and four bytes
 IsBytes-2 : (a b : ℕ) → a < 256 → b < 256 → IsBytes (a ∷ b ∷ [])
@@ -193,7 +194,7 @@ rect_again bytes r left at (front, back, parts, (a, b, front_is, sa, sb), (c, d,
 
 -- ---- texts
 
-pass_each : (p : ℕ → Bool) (read bytes : List ℕ) → pass_all (λ read b. p b) read bytes ≡ list_all p bytes
+pub pass_each : (p : ℕ → Bool) (read bytes : List ℕ) → pass_all (λ read b. p b) read bytes ≡ list_all p bytes
 pass_each p read [] = refl
 pass_each p read (b ∷ bytes) = ap (λ (q : Bool). p b && q) (pass_each p (read ++ b ∷ []) bytes)
 

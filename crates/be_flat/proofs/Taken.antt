@@ -1,9 +1,10 @@
 -- What reading takes from the front of the bytes, and what it reads of bytes that pass.
-use Rattle.std.proofs.Common.{◌≡◌, ℕ, zero, suc, ◌+◌, ◌<◌, Bool, true, false, ◌&&◌, cond, List, [], ◌∷◌, ◌++◌, length, get_or, Result, Ok, Err, refl, sym, ap, subst, ◌∙◌, append_assoc}
+use Rattle.std.proofs.Common.{◌≡◌, ℕ, zero, suc, ◌+◌, ◌<◌, Bool, true, ◌&&◌, cond, List, [], ◌∷◌, ◌++◌, length, get_or, Result, Ok, Err, refl, sym, ap, subst, ◌∙◌, append_assoc}
 use Rattle.std.proofs.lemmas.List.{append-nil}
 use Rattle.be_flat.specs.declared.fault.FlatError.{FlatError}
 use Rattle.be_flat.specs.declared.fault.FlatError.TheVariants.{BadByte}
 use Rattle.be_flat.specs.Reading.{Rest, Read, ◌>>=◌, byte_of, byte_at, byte_that, bytes_that}
+use Rattle.be_flat.proofs.Truths.{and_first, and_second, and_true, guard_ok, ok_is}
 
 abbrev pub IsBytes : List ℕ → Type 0
 IsBytes bytes = (i : ℕ) → get_or bytes i 0 < 256
@@ -18,17 +19,6 @@ rest_fits b bytes h i = h (suc i)
 pub bind_ok : {A B : Type 0} (r : Result A FlatError) (f : A → Result B FlatError) (y : B) → (r >>= f) ≡ Ok y → (x : A) × (r ≡ Ok x) × (f x ≡ Ok y)
 bind_ok (Ok x) f y e = (x, refl, e)
 bind_ok (Err d) f y e = absurd cc
-
--- a test that did not fail
-pub guard_ok : {A : Type 0} (b : Bool) (d : FlatError) (x y : A) → cond b (Ok x) (Err d) ≡ Ok y → (b ≡ true) × (x ≡ y)
-guard_ok true d x y e = (refl, cc)
-guard_ok false d x y e = absurd cc
-
-abbrev done : {A : Type 0} → A → Result A FlatError
-done x = Ok x
-
-pub ok_is : {A : Type 0} (x y : A) → done x ≡ done y → x ≡ y
-ok_is x y e = cc
 
 -- the text stands in front, and what is left are bytes too
 pub record Takes (bytes text left : List ℕ) : Type 0 where
@@ -74,9 +64,6 @@ pub record TakesPassing (p : List ℕ → ℕ → Bool) (n : ℕ) (read bytes go
   pub pass : pass_all p read text ≡ true
   pub took : Takes bytes text left
 
-pub and_true : (a b : Bool) → a ≡ true → b ≡ true → (a && b) ≡ true
-and_true a b p q = rw (p, q) refl
-
 pub bytes_take : (p : List ℕ → ℕ → Bool) (n : ℕ) (read : List ℕ) (s : Rest) (x : List ℕ × Rest) → IsBytes s.bytes → bytes_that p n read s ≡ Ok x → TakesPassing p n read s.bytes x.0 x.1.bytes
 unfolding bytes_that
 bytes_take p zero read s x h e =
@@ -107,14 +94,6 @@ byte_again b left at = refl
 pub that_again : (p : ℕ → Bool) (b : ℕ) (left : List ℕ) (at : ℕ) → p b ≡ true → byte_that p (record { bytes = b ∷ left; at = at }) ≡ Ok (b, record { bytes = left; at = at + 1 })
 unfolding byte_that byte_at
 that_again p b left at h = rw h refl
-
-pub and_first : (a b : Bool) → (a && b) ≡ true → a ≡ true
-and_first true b h = refl
-and_first false b h = absurd cc
-
-pub and_second : (a b : Bool) → (a && b) ≡ true → b ≡ true
-and_second true b h = h
-and_second false b h = absurd cc
 
 pub bytes_again : (p : List ℕ → ℕ → Bool) (read text left : List ℕ) (at : ℕ) → pass_all p read text ≡ true → Reads (bytes_that p (length text) read (record { bytes = text ++ left; at = at })) (read ++ text) left
 unfolding bytes_that

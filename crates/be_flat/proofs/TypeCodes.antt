@@ -1,5 +1,5 @@
 -- The letters of a type's code: what is read is spelt so, and what is spelt so is read again.
-use Rattle.std.proofs.Common.{◌≡◌, ℕ, ◌+◌, Bool, true, false, ◌||◌, List, [], ◌∷◌, ◌++◌, length, take, Ok, refl, sym, ap, subst, ◌∙◌, ◌⊎◌, inl, inr, arith}
+use Rattle.std.proofs.Common.{◌≡◌, ℕ, ◌+◌, Bool, true, false, List, [], ◌∷◌, ◌++◌, length, take, Ok, refl, sym, ap, subst, ◌∙◌, inl, inr, arith}
 use Rattle.std.specs.Prelude.{nat_eq}
 use Rattle.std.specs.List.{list_any, starts_with}
 use Rattle.std.specs.Str.{bytes_eq}
@@ -8,7 +8,8 @@ use Rattle.be_message.specs.declared.kind.Kind.{Kind}
 use Rattle.be_message.specs.declared.kind.Kind.TheVariants as kind
 use Rattle.be_flat.specs.Codes.{code_of, plain_kinds, begin_code, kind_spelt}
 use Rattle.be_flat.specs.Reading.{Rest, byte_at, byte_that, bytes_that, kind_at}
-use Rattle.be_flat.proofs.Taken.{IsBytes, bind_ok, ok_is, Takes, bytes_take, pass_all, Reads, and_first, and_second}
+use Rattle.be_flat.proofs.Taken.{IsBytes, bind_ok, Takes, bytes_take, pass_all, Reads}
+use Rattle.be_flat.proofs.Truths.{and_first, and_second, either, ok_is}
 
 -- a field can have the type
 abbrev pub MayHave : Bool → Kind → Type 0
@@ -48,10 +49,6 @@ code_of_kind nested k may = record { spelt = ap code_of (spelt_again k); may = s
 
 from_letters : (nested : Bool) (k : Kind) (letters : List ℕ) → MayHave nested k → length letters ≡ 4 → starts_with nat_eq (code_of k) letters ≡ true → IsCode nested letters
 from_letters nested k letters may four h = subst (λ (t : List ℕ). IsCode nested t) (sym (is_code k letters four h)) (code_of_kind nested k may)
-
-either : (a b : Bool) → (a || b) ≡ true → (a ≡ true) ⊎ (b ≡ true)
-either true b h = inl refl
-either false b h = inr h
 
 plain_code : (nested : Bool) (letters : List ℕ) → length letters ≡ 4 → list_any (λ k. starts_with nat_eq (code_of k) letters) plain_kinds ≡ true → IsCode nested letters
 plain_code nested letters four h =

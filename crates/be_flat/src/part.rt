@@ -1,5 +1,5 @@
-ghost use Rattle.std.specs.Prelude.{◌≡◌, ◌&&◌, ◌++◌, ◌∷◌, [], nat_le, nat_lt};
-ghost use Rattle.be_message.specs.Limits.{most_name_bytes};
+ghost use Rattle.std.specs.Prelude.{◌≡◌, ◌&&◌, ◌++◌, ◌∷◌, [], nat_le, nat_lt, ◌≤◌, IfOk};
+ghost use Rattle.be_message.specs.Limits.{most_name_bytes, most_values};
 ghost use Rattle.be_message.specs.Names.{is_text_byte};
 ghost use Rattle.be_message.specs.Views.{seen_value};
 ghost use Rattle.be_flat.specs.Codes.{begin_code};
@@ -125,7 +125,8 @@ fn letters_at<'a>(cursor: &mut Cursor<'a>, nested: bool) -> Result<&'a [u8], Fla
 
 #[tactic(auto, unfolding(crate::specs::Reading::byte_that))]
 pub(crate) fn value_count_at(cursor: &mut Cursor<'_>) -> Result<u8, FlatError>
-    ensures { Gives (λ n. (n, cursor.new)) result (byte_that (λ n. nat_lt 0 n) cursor.old) }
+    ensures read { Gives (λ n. (n, cursor.new)) result (byte_that (λ n. nat_lt 0 n) cursor.old) }
+    ensures few { IfOk result (λ n. n ≤ most_values) }
 {
     let at = cursor.at();
     let count = cursor.byte()?;

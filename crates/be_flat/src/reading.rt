@@ -1,13 +1,17 @@
-ghost use Rattle.std.specs.Prelude.{◌≡◌, nat_lt, Ok, IfOk};
+ghost use Rattle.std.specs.Prelude.{◌≡◌, ◌+◌, ◌<◌, ◌≤◌, nat_lt, length, None, Ok, IfOk, IfErr, OnOk};
+ghost use Rattle.be_message.specs.Fields.{add_refusal, with_value};
+ghost use Rattle.be_message.specs.Limits.{most_fields, most_depth};
 ghost use Rattle.be_message.specs.Messages as messages;
 ghost use Rattle.be_message.specs.Views.{seen_value};
+ghost use Rattle.be_flat.specs.declared.fault.FlatError.TheVariants.{NoMemory};
 ghost use Rattle.be_flat.specs.Grammar.{Spells};
 ghost use Rattle.be_flat.specs.Reading.{Gives, value_at, value_into, so_many, field_into, message_at, reading};
+ghost use Rattle.be_flat.specs.Room.{HasRoom};
 
 use crate::cursor::Cursor;
 use crate::fault::FlatError;
 use crate::part::{bool_at, int_at, kind_at, name_at, point_at, rect_at, text_at, value_count_at};
-use be_message::{Kind, Message, Value};
+use be_message::{AddFault, Kind, Message, Value};
 use std::alloc::Global;
 
 const MOST_DEPTH: u8 = 16;
@@ -41,6 +45,7 @@ fn read_all(alloc: Global, bytes: &[u8]) -> Result<Message, FlatError>
 #[cycle(reading)]
 #[tactic(auto, unfolding(crate::specs::Reading::message_at))]
 fn message_at(alloc: Global, cursor: &mut Cursor<'_>, levels: u8) -> Result<Message, FlatError>
+    requires { levels ≤ most_depth }
     ensures { Gives (λ message. (message, cursor.new)) result (message_at levels cursor.old) }
 {
     if levels == 0 {
@@ -62,6 +67,8 @@ fn fields_into(
     count: u8,
     message: &mut Message,
 ) -> Result<(), FlatError>
+    requires levels { levels < most_depth }
+    requires fields { length message.old.fields + count ≤ most_fields }
     ensures { Gives (λ _. (message.new, cursor.new)) result (so_many (field_into (message_at levels) (nat_lt 0 levels)) count message.old cursor.old) }
 {
     for _ in 0..count {
@@ -79,6 +86,8 @@ fn field_into(
     levels: u8,
     message: &mut Message,
 ) -> Result<(), FlatError>
+    requires levels { levels < most_depth }
+    requires fields { length message.old.fields < most_fields }
     ensures { Gives (λ _. (message.new, cursor.new)) result (field_into (message_at levels) (nat_lt 0 levels) message.old cursor.old) }
 {
     let kind = kind_at(cursor, levels > 0)?;
@@ -98,6 +107,8 @@ fn values_into(
     count: u8,
     message: &mut Message,
 ) -> Result<(), FlatError>
+    requires levels { levels < most_depth }
+    requires room { HasRoom message.old name.now kind count }
     ensures { Gives (λ _. (message.new, cursor.new)) result (so_many (value_into (message_at levels) kind name.now) count message.old cursor.old) }
 {
     for _ in 0..count {
@@ -117,14 +128,24 @@ fn value_into(
     name: &str,
     message: &mut Message,
 ) -> Result<(), FlatError>
+    requires levels { levels < most_depth }
+    requires room { HasRoom message.old name.now kind 1 }
     ensures { Gives (λ _. (message.new, cursor.new)) result (value_into (message_at levels) kind name.now message.old cursor.old) }
 {
     let value = value_at(alloc, cursor, levels, kind)?;
-    // Name and value were judged while they were read.
-    if message.add(name, value).is_err() {
-        return Err(FlatError::NoMemory);
+    add(message, name, value)
+}
+
+/// Adds a value that the message doesn't refuse, so that nothing but memory can be missing.
+fn add(message: &mut Message, name: &str, value: Value) -> Result<(), FlatError>
+    requires { add_refusal message.old name.now (seen_value value) ≡ None }
+    ensures added { OnOk result (message.new ≡ with_value message.old name.now (seen_value value)) }
+    ensures err { IfErr result (λ error. error ≡ NoMemory) }
+{
+    match message.add(name, value) {
+        Err(AddFault::NoMemory(_)) => Err(FlatError::NoMemory),
+        added => Ok(added.unwrap()),
     }
-    Ok(())
 }
 
 /// A value of this type; a message is read with `levels` for itself.
@@ -136,6 +157,7 @@ fn value_at(
     levels: u8,
     kind: Kind,
 ) -> Result<Value, FlatError>
+    requires { levels < most_depth }
     ensures { Gives (λ value. (seen_value value, cursor.new)) result (value_at (message_at levels) kind cursor.old) }
 {
     match kind {
