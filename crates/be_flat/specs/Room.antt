@@ -11,6 +11,7 @@ abbrev pub Fit : ℕ → Kind → ℕ → Option Field → Type 0
 Fit count k n (Some f) = (f.kind ≡ k) × (length f.values + n ≤ most_values)
 Fit count k n None = (count < most_fields) × (n ≤ most_values)
 
+-- the name may stand in a message, and so many values of the type have room under it
 pub record HasRoom (m : Message) (name : List ℕ) (k : Kind) (n : ℕ) : Type 0 where
   pub allowed : is_name name ≡ true
   pub fit : Fit (length m.fields) k n (field_named name m.fields)

@@ -11,14 +11,23 @@ use std::io::{Read, Write};
 use std::process::ExitCode;
 use std::{env, io};
 
-/// Without a word, or with one that is no number of 32 bits, it goes round once.
+/// No more is read of standard input.
+const MOST_BYTES: u64 = 1 << 20;
+
+const USAGE: &str = "usage: read_back ROUNDS";
+
+/// The word is a number of 32 bits. Other words end with status 2, and bytes that are no message with 1.
 fn main(rt: HostRuntime) -> io::Result<ExitCode> {
     let rounds = match env::args(&rt)?.nth(1) {
-        Some(word) => word.parse().unwrap_or(1),
-        None => 1,
+        Some(word) => word.parse().ok(),
+        None => None,
+    };
+    let Some(rounds) = rounds else {
+        eprintln!(rt; "{USAGE}")?;
+        return Ok(ExitCode::from(2));
     };
     let mut bytes = Vec::new(rt.alloc());
-    rt.stdin().read_to_end(&mut bytes)?;
+    rt.stdin().take(MOST_BYTES).read_to_end(&mut bytes)?;
     match read_back(rt.alloc(), bytes, rounds) {
         Ok(bytes) => {
             rt.stdout().write_all(bytes.as_slice())?;
