@@ -7,7 +7,7 @@ use Rattle.std.proofs.Math.ListN.{drop_of_length-le}
 use Rattle.std.proofs.lemmas.Bool.{cases_lt}
 use Rattle.std.proofs.lemmas.Bool.Decides.{nat_tests}
 use Rattle.be_color.specs.declared.colors.Rgb.{Rgb}
-use Rattle.be_world.specs.declared.cell.Cell.{Cell}
+use Rattle.first_world.specs.declared.cell.Cell.{Cell}
 use Rattle.app_server.specs.ScreenText.{same_rgb, has_rgb, runs_of, run_text, runs_text, row_text, rows_from}
 
 take_all : {X : Type 0} (l : List X) (n : ℕ) → length l ≤ n → take n l ≡ l

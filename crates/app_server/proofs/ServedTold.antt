@@ -1,13 +1,13 @@
 -- A run that was reported was served.
 use Rattle.std.proofs.Common.{◌≡◌, ℕ, List, Option, Ok, ap₂, ◌∙◌}
 use Rattle.be_outside.specs.Telling.{with_end}
-use Rattle.be_script.specs.Script.{Declared}
-use Rattle.be_script.specs.Grammar.{script_of}
-use Rattle.be_world.specs.declared.cell.Cell.{Cell}
-use Rattle.be_world.specs.declared.entry.Entry.{Entry}
-use Rattle.be_world.specs.declared.trace.Trace.{Trace}
-use Rattle.be_world.specs.Traces.{traces_of}
-use Rattle.be_world.specs.History.{state_after}
+use Rattle.first_script.specs.Script.{Declared}
+use Rattle.first_script.specs.Grammar.{script_of}
+use Rattle.first_world.specs.declared.cell.Cell.{Cell}
+use Rattle.first_world.specs.declared.entry.Entry.{Entry}
+use Rattle.first_world.specs.declared.trace.Trace.{Trace}
+use Rattle.first_world.specs.Traces.{traces_of}
+use Rattle.first_world.specs.History.{state_after}
 use Rattle.app_server.specs.Report.{report_text}
 use Rattle.app_server.specs.Headline.{WasRead, IsRunOf, IsServed}
 use Rattle.app_server.proofs.ToldScripts.{script_tells}

@@ -1,9 +1,9 @@
 -- A text tells one history at most.
 use Rattle.std.proofs.Common.{◌≡◌, ℕ, ◌+◌, ◌≤◌, List, [], ◌∷◌, ◌++◌, length, drop, decimal, refl, sym, ap, ap₂, ◌∙◌, arith, append_assoc}
 use Rattle.std.proofs.lemmas.List.{append_cancel_left}
-use Rattle.be_script.specs.Script.{Declared}
-use Rattle.be_world.specs.declared.entry.Entry.{Entry}
-use Rattle.be_world.specs.Actors.{actor_of}
+use Rattle.first_script.specs.Script.{Declared}
+use Rattle.first_world.specs.declared.entry.Entry.{Entry}
+use Rattle.first_world.specs.Actors.{actor_of}
 use Rattle.app_server.specs.EntryText.{actor_text, act_text, entry_text, entries_from, history_text, line_of}
 use Rattle.app_server.specs.Told.{IsPossible, ArePossible, IsToldBy}
 use Rattle.app_server.proofs.ToldNumbers.{number_at, number_read}

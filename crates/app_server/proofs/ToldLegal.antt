@@ -3,40 +3,40 @@ use Rattle.std.proofs.Common.{◌≡◌, ℕ, ◌+◌, ◌^◌, ◌<◌, ◌≤�
 use Rattle.std.specs.Prelude.{slice_get, option_and_then, if◌then◌else◌}
 use Rattle.std.proofs.lemmas.Bool.Decides.{nat_tests}
 use Rattle.std.proofs.lemmas.Option.{cond_some, option_and_then_some, same_Some, none-some, slice_get_within, slice_get-get_or}
-use Rattle.be_script.specs.Script.{Declared}
-use Rattle.be_script.specs.declared.program.Instruction.{Instruction}
-use Rattle.be_script.specs.declared.program.Instruction.TheVariants as instruction
-use Rattle.be_world.specs.declared.actor.Actor.{Actor}
-use Rattle.be_world.specs.declared.actor.Actor.TheVariants as actor
-use Rattle.be_world.specs.declared.entry.Act.{Act}
-use Rattle.be_world.specs.declared.entry.Act.TheVariants as acts
-use Rattle.be_world.specs.declared.entry.EndAnswer.TheVariants.{Nothing}
-use Rattle.be_world.specs.declared.entry.Entry.{Entry}
-use Rattle.be_world.specs.declared.parts.Looper.{Looper}
-use Rattle.be_world.specs.declared.parts.Owner.{Owner}
-use Rattle.be_world.specs.declared.parts.Owner.TheVariants as owner
-use Rattle.be_world.specs.declared.parts.Port.{Port}
-use Rattle.be_world.specs.declared.parts.Stage.{Stage}
-use Rattle.be_world.specs.declared.parts.Stage.TheVariants as stage
-use Rattle.be_world.specs.declared.queue.Numbered.{Numbered}
-use Rattle.be_world.specs.declared.queue.TheConstants.{LINK}
-use Rattle.be_world.specs.Traces.{traces_of}
-use Rattle.be_world.specs.Actors.{actor_of, activities}
-use Rattle.be_world.specs.State.{State, opening_state, free_looper}
-use Rattle.be_world.specs.Legal.{draw_act, last_act, instruction_act, locked_by, take_act, looper_act_by, notice_act, notify_act, exec_act, exec_front, front_of, twin_act, is_owed, actor_act, can_stop}
-use Rattle.be_world.specs.Step.{step}
-use Rattle.be_world.specs.History.{IsLegal, AreLegalFrom, IsLegalHistory, state_after}
-use Rattle.be_world.specs.Orderly.{Tally, first_tally}
-use Rattle.be_world.specs.World.{HasParts, CountsAreBelow}
-use Rattle.be_world.proofs.Lists.{All_get, head_split}
-use Rattle.be_world.proofs.Opening.{parts_opening, counts_opening}
-use Rattle.be_world.proofs.PartsKept.{parts_step}
-use Rattle.be_world.proofs.Counts.{counts_step}
-use Rattle.be_world.proofs.LegalTells.{IsExec, begin_tells}
-use Rattle.be_world.proofs.ActsTell.{IsFlushed, IsDrawn, IsLast, IsLocked, IsLockable, draw_tells, last_tells, in_lock_tells, lock_tells}
-use Rattle.be_world.proofs.Tallied.{IsTallied, OfLooper, OfLink, front_number}
-use Rattle.be_world.proofs.OrderlySteps.{legal_goes}
-use Rattle.be_world.proofs.OrderlyHistory.{tallied_opening}
+use Rattle.first_script.specs.Script.{Declared}
+use Rattle.first_script.specs.declared.program.Instruction.{Instruction}
+use Rattle.first_script.specs.declared.program.Instruction.TheVariants as instruction
+use Rattle.first_world.specs.declared.actor.Actor.{Actor}
+use Rattle.first_world.specs.declared.actor.Actor.TheVariants as actor
+use Rattle.first_world.specs.declared.entry.Act.{Act}
+use Rattle.first_world.specs.declared.entry.Act.TheVariants as acts
+use Rattle.first_world.specs.declared.entry.EndAnswer.TheVariants.{Nothing}
+use Rattle.first_world.specs.declared.entry.Entry.{Entry}
+use Rattle.first_world.specs.declared.parts.Looper.{Looper}
+use Rattle.first_world.specs.declared.parts.Owner.{Owner}
+use Rattle.first_world.specs.declared.parts.Owner.TheVariants as owner
+use Rattle.first_world.specs.declared.parts.Port.{Port}
+use Rattle.first_world.specs.declared.parts.Stage.{Stage}
+use Rattle.first_world.specs.declared.parts.Stage.TheVariants as stage
+use Rattle.first_world.specs.declared.queue.Numbered.{Numbered}
+use Rattle.first_world.specs.declared.queue.TheConstants.{LINK}
+use Rattle.first_world.specs.Traces.{traces_of}
+use Rattle.first_world.specs.Actors.{actor_of, activities}
+use Rattle.first_world.specs.State.{State, opening_state, free_looper}
+use Rattle.first_world.specs.Legal.{draw_act, last_act, instruction_act, locked_by, take_act, looper_act_by, notice_act, notify_act, exec_act, exec_front, front_of, twin_act, is_owed, actor_act, can_stop}
+use Rattle.first_world.specs.Step.{step}
+use Rattle.first_world.specs.History.{IsLegal, AreLegalFrom, IsLegalHistory, state_after}
+use Rattle.first_world.specs.Orderly.{Tally, first_tally}
+use Rattle.first_world.specs.World.{HasParts, CountsAreBelow}
+use Rattle.first_world.proofs.Lists.{All_get, head_split}
+use Rattle.first_world.proofs.Opening.{parts_opening, counts_opening}
+use Rattle.first_world.proofs.PartsKept.{parts_step}
+use Rattle.first_world.proofs.Counts.{counts_step}
+use Rattle.first_world.proofs.LegalTells.{IsExec, begin_tells}
+use Rattle.first_world.proofs.ActsTell.{IsFlushed, IsDrawn, IsLast, IsLocked, IsLockable, draw_tells, last_tells, in_lock_tells, lock_tells}
+use Rattle.first_world.proofs.Tallied.{IsTallied, OfLooper, OfLink, front_number}
+use Rattle.first_world.proofs.OrderlySteps.{legal_goes}
+use Rattle.first_world.proofs.OrderlyHistory.{tallied_opening}
 use Rattle.app_server.specs.EntryText.{history_text, line_of}
 use Rattle.app_server.specs.TraceText.{traces_text}
 use Rattle.app_server.specs.ScreenText.{screen_text}

@@ -1,12 +1,12 @@
 -- A report of a script tells one history: a script that was read has few enough windows, applications and entries.
 use Rattle.std.proofs.Common.{◌≡◌, ℕ, ◌^◌, ◌<◌, List, length, Ok, arith}
-use Rattle.be_script.specs.Script.{Declared}
-use Rattle.be_script.specs.Grammar.{script_of}
-use Rattle.be_script.specs.WithinLimits.{IsWithinLimits}
-use Rattle.be_script.proofs.Soundness.{script_is_within_limits}
-use Rattle.be_world.specs.declared.entry.Entry.{Entry}
-use Rattle.be_world.specs.History.{IsLegalHistory}
-use Rattle.be_world.proofs.HistoryBound.{history_bound}
+use Rattle.first_script.specs.Script.{Declared}
+use Rattle.first_script.specs.Grammar.{script_of}
+use Rattle.first_script.specs.WithinLimits.{IsWithinLimits}
+use Rattle.first_script.proofs.Soundness.{script_is_within_limits}
+use Rattle.first_world.specs.declared.entry.Entry.{Entry}
+use Rattle.first_world.specs.History.{IsLegalHistory}
+use Rattle.first_world.proofs.HistoryBound.{history_bound}
 use Rattle.app_server.specs.Headline.{report_of}
 use Rattle.app_server.specs.Told.{IsToldBy}
 use Rattle.app_server.proofs.Told.{told_once}

@@ -2,15 +2,15 @@
 use Rattle.std.proofs.Common.{◌≡◌, ℕ, suc, ◌+◌, ◌-◌, ◌*◌, ◌/◌, ◌%◌, ◌^◌, ◌<◌, ◌≤◌, Bool, true, false, List, [], ◌∷◌, ◌++◌, length, get_or, drop, decimal, Option, Some, None, refl, sym, ap, ap₂, subst, ◌∙◌, arith, append_assoc}
 use Rattle.std.specs.Prelude.{nat_lt, ◌==◌, if◌then◌else◌}
 use Rattle.std.proofs.lemmas.Bool.Decides.{nat_tests}
-use Rattle.be_script.specs.Script.{Declared}
-use Rattle.be_world.specs.declared.actor.Actor.{Actor}
-use Rattle.be_world.specs.declared.actor.Actor.TheVariants as actor
-use Rattle.be_world.specs.declared.entry.Act.{Act}
-use Rattle.be_world.specs.declared.entry.Act.TheVariants.{Take, Lock, Unlock, Draw, Flush, Exec, Notify, Begin, End, Stop}
-use Rattle.be_world.specs.declared.entry.EndAnswer.TheVariants.{Nothing}
-use Rattle.be_world.specs.declared.entry.Outcome.{Outcome}
-use Rattle.be_world.specs.declared.entry.Outcome.TheVariants.{Done, NoView}
-use Rattle.be_world.specs.Actors.{actor_of, activities, window_actor}
+use Rattle.first_script.specs.Script.{Declared}
+use Rattle.first_world.specs.declared.actor.Actor.{Actor}
+use Rattle.first_world.specs.declared.actor.Actor.TheVariants as actor
+use Rattle.first_world.specs.declared.entry.Act.{Act}
+use Rattle.first_world.specs.declared.entry.Act.TheVariants.{Take, Lock, Unlock, Draw, Flush, Exec, Notify, Begin, End, Stop}
+use Rattle.first_world.specs.declared.entry.EndAnswer.TheVariants.{Nothing}
+use Rattle.first_world.specs.declared.entry.Outcome.{Outcome}
+use Rattle.first_world.specs.declared.entry.Outcome.TheVariants.{Done, NoView}
+use Rattle.first_world.specs.Actors.{actor_of, activities, window_actor}
 use Rattle.app_server.specs.EntryText.{window_name, actor_text, act_text, outcome_text}
 use Rattle.app_server.specs.Told.{IsActOf}
 use Rattle.app_server.proofs.ToldNumbers.{number_at, number_read, behind_number, behind_read}

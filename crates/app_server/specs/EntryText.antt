@@ -1,19 +1,19 @@
 -- The text of an entry, as the report has it.
 use Rattle.std.specs.Prelude.{ℕ, ◌+◌, Bool, true, false, List, [], ◌∷◌, ◌++◌, Option, Some, None, length, slice_get, codes}
 use Rattle.std.specs.Fmt.{decimal}
-use Rattle.be_script.specs.Script.{Declared}
-use Rattle.be_script.specs.declared.script.AppLine.{AppLine}
-use Rattle.be_script.specs.declared.script.WindowLine.{WindowLine}
-use Rattle.be_world.specs.declared.actor.Actor.{Actor}
-use Rattle.be_world.specs.declared.actor.Actor.TheVariants as actor
-use Rattle.be_world.specs.declared.entry.Act.{Act}
-use Rattle.be_world.specs.declared.entry.Act.TheVariants.{Take, Lock, Unlock, Draw, Flush, Exec, Notify, Begin, End, Stop}
-use Rattle.be_world.specs.declared.entry.EndAnswer.{EndAnswer}
-use Rattle.be_world.specs.declared.entry.EndAnswer.TheVariants.{Nothing}
-use Rattle.be_world.specs.declared.entry.Entry.{Entry}
-use Rattle.be_world.specs.declared.entry.Outcome.{Outcome}
-use Rattle.be_world.specs.declared.entry.Outcome.TheVariants.{Done, NoView}
-use Rattle.be_world.specs.Actors.{actor_of}
+use Rattle.first_script.specs.Script.{Declared}
+use Rattle.first_script.specs.declared.script.AppLine.{AppLine}
+use Rattle.first_script.specs.declared.script.WindowLine.{WindowLine}
+use Rattle.first_world.specs.declared.actor.Actor.{Actor}
+use Rattle.first_world.specs.declared.actor.Actor.TheVariants as actor
+use Rattle.first_world.specs.declared.entry.Act.{Act}
+use Rattle.first_world.specs.declared.entry.Act.TheVariants.{Take, Lock, Unlock, Draw, Flush, Exec, Notify, Begin, End, Stop}
+use Rattle.first_world.specs.declared.entry.EndAnswer.{EndAnswer}
+use Rattle.first_world.specs.declared.entry.EndAnswer.TheVariants.{Nothing}
+use Rattle.first_world.specs.declared.entry.Entry.{Entry}
+use Rattle.first_world.specs.declared.entry.Outcome.{Outcome}
+use Rattle.first_world.specs.declared.entry.Outcome.TheVariants.{Done, NoView}
+use Rattle.first_world.specs.Actors.{actor_of}
 
 abbrev pub name_of_window : Option WindowLine → List ℕ
 name_of_window (Some line) = line.name

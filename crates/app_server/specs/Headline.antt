@@ -1,13 +1,13 @@
 -- What the status of a call says of what was read and written, of bytes that are told.
 use Rattle.std.specs.Prelude.{◌≡◌, ℕ, ◌≤◌, ◌⊎◌, List, length, Option, Ok}
 use Rattle.be_outside.specs.Telling.{with_front, with_end, IsDrained, TakesPrefix}
-use Rattle.be_script.specs.Script.{Declared}
-use Rattle.be_script.specs.Grammar.{script_of, IsFaultOf}
-use Rattle.be_script.specs.declared.reason.ScriptFault.{ScriptFault}
-use Rattle.be_world.specs.declared.entry.Entry.{Entry}
-use Rattle.be_world.specs.Traces.{traces_of}
-use Rattle.be_world.specs.Orderly.{IsOrderly}
-use Rattle.be_world.specs.History.{IsFinished, IsScheduled, state_after}
+use Rattle.first_script.specs.Script.{Declared}
+use Rattle.first_script.specs.Grammar.{script_of, IsFaultOf}
+use Rattle.first_script.specs.declared.reason.ScriptFault.{ScriptFault}
+use Rattle.first_world.specs.declared.entry.Entry.{Entry}
+use Rattle.first_world.specs.Traces.{traces_of}
+use Rattle.first_world.specs.Orderly.{IsOrderly}
+use Rattle.first_world.specs.History.{IsFinished, IsScheduled, state_after}
 use Rattle.app_server.specs.declared.serve.TheConstants.{LIMIT}
 use Rattle.app_server.specs.Report.{report_text}
 use Rattle.app_server.specs.Told.{IsToldBy}

@@ -1,9 +1,9 @@
 -- The text of a report.
 use Rattle.std.specs.Prelude.{ℕ, List, ◌++◌, codes}
-use Rattle.be_script.specs.Script.{Declared}
-use Rattle.be_world.specs.declared.cell.Cell.{Cell}
-use Rattle.be_world.specs.declared.entry.Entry.{Entry}
-use Rattle.be_world.specs.declared.trace.Trace.{Trace}
+use Rattle.first_script.specs.Script.{Declared}
+use Rattle.first_world.specs.declared.cell.Cell.{Cell}
+use Rattle.first_world.specs.declared.entry.Entry.{Entry}
+use Rattle.first_world.specs.declared.trace.Trace.{Trace}
 use Rattle.app_server.specs.EntryText.{history_text, line_of}
 use Rattle.app_server.specs.TraceText.{traces_text}
 use Rattle.app_server.specs.ScreenText.{screen_text}

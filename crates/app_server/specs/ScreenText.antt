@@ -2,7 +2,7 @@
 use Rattle.std.specs.Prelude.{ℕ, zero, suc, ◌+◌, ◌/◌, ◌%◌, ◌==◌, ◌&&◌, Bool, List, [], ◌∷◌, ◌++◌, take, drop, codes, nat_lt, if◌then◌else◌}
 use Rattle.std.specs.Fmt.{decimal}
 use Rattle.be_color.specs.declared.colors.Rgb.{Rgb}
-use Rattle.be_world.specs.declared.cell.Cell.{Cell}
+use Rattle.first_world.specs.declared.cell.Cell.{Cell}
 use Rattle.app_server.specs.EntryText.{word, line_of}
 
 -- how many pixels of one colour stand side by side

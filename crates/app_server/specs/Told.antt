@@ -1,10 +1,10 @@
 -- Texts that tell a history.
 use Rattle.std.specs.Prelude.{◌≡◌, ℕ, ◌^◌, ◌<◌, List, [], ◌∷◌, ◌++◌, length}
-use Rattle.be_script.specs.Script.{Declared}
-use Rattle.be_world.specs.declared.entry.Act.{Act}
-use Rattle.be_world.specs.declared.entry.Act.TheVariants.{Take, Lock, Unlock, Draw, Flush, Exec, Notify, Begin, End, Stop}
-use Rattle.be_world.specs.declared.entry.Entry.{Entry}
-use Rattle.be_world.specs.Actors.{activities}
+use Rattle.first_script.specs.Script.{Declared}
+use Rattle.first_world.specs.declared.entry.Act.{Act}
+use Rattle.first_world.specs.declared.entry.Act.TheVariants.{Take, Lock, Unlock, Draw, Flush, Exec, Notify, Begin, End, Stop}
+use Rattle.first_world.specs.declared.entry.Entry.{Entry}
+use Rattle.first_world.specs.Actors.{activities}
 use Rattle.app_server.specs.EntryText.{history_text}
 
 -- a number that the machine can count to

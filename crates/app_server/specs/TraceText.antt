@@ -2,10 +2,10 @@
 use Rattle.std.specs.Prelude.{ℕ, ℤ, zero, suc, ◌+◌, ◌==◌, List, [], ◌∷◌, ◌++◌, length, codes, if◌then◌else◌}
 use Rattle.std.specs.Fmt.{decimal, signed_decimal}
 use Rattle.be_geom.specs.declared.rect.Rect.{Rect}
-use Rattle.be_script.specs.Script.{Declared}
-use Rattle.be_script.specs.declared.script.AppLine.{AppLine}
-use Rattle.be_world.specs.declared.trace.Trace.{Trace}
-use Rattle.be_world.specs.declared.trace.Trace.TheVariants.{Taken, Listed}
+use Rattle.first_script.specs.Script.{Declared}
+use Rattle.first_script.specs.declared.script.AppLine.{AppLine}
+use Rattle.first_world.specs.declared.trace.Trace.{Trace}
+use Rattle.first_world.specs.declared.trace.Trace.TheVariants.{Taken, Listed}
 use Rattle.app_server.specs.EntryText.{window_name, line_of}
 
 -- a letter that was taken: its number, its sender, its hop, what it is, its target and its handler

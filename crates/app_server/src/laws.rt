@@ -1,8 +1,8 @@
 ghost use Rattle.std.specs.Prelude.{◌≡◌, ℕ, List, Ok};
-ghost use Rattle.be_script.specs.Script.{Declared};
-ghost use Rattle.be_script.specs.Grammar.{script_of};
-ghost use Rattle.be_world.specs.declared.entry.Entry.{Entry};
-ghost use Rattle.be_world.specs.History.{IsLegalHistory};
+ghost use Rattle.first_script.specs.Script.{Declared};
+ghost use Rattle.first_script.specs.Grammar.{script_of};
+ghost use Rattle.first_world.specs.declared.entry.Entry.{Entry};
+ghost use Rattle.first_world.specs.History.{IsLegalHistory};
 ghost use Rattle.app_server.specs.Headline.{report_of};
 ghost use Rattle.app_server.specs.Told.{IsToldBy};
 

@@ -3,8 +3,8 @@
 ghost use Rattle.std.specs.Prelude.{◌≡◌, ◌≤◌, OnOk, IfOk, OnErr};
 ghost use Rattle.be_outside.specs.Faults.{FaultsRose};
 ghost use Rattle.be_outside.specs.Telling.{with_end, TakesPrefix};
-ghost use Rattle.be_script.specs.Script.{declared_by};
-ghost use Rattle.be_script.specs.WithinLimits.{IsWithinLimits};
+ghost use Rattle.first_script.specs.Script.{declared_by};
+ghost use Rattle.first_script.specs.WithinLimits.{IsWithinLimits};
 ghost use Rattle.app_server.specs.Report.{report_text};
 
 mod entries;
@@ -16,8 +16,8 @@ mod traces;
 
 use be_geom::NoMemory;
 use be_outside::Sink;
-use be_script::Script;
-use be_world::Finished;
+use first_script::Script;
+use first_world::Finished;
 use page::Page;
 use std::alloc::Global;
 use thiserror::Error;

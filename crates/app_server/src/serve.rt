@@ -1,7 +1,7 @@
 ghost use Rattle.std.specs.Prelude.{◌≡◌, ◌≢◌, ◌↔◌, ℕ, None, map, string_bytes, IfOk};
 ghost use Rattle.be_outside.specs.Faults.{FaultsRose};
-ghost use Rattle.be_script.specs.declared.reason.Reason.{Reason};
-ghost use Rattle.be_script.specs.declared.reason.ScriptFault.TheVariants.{At};
+ghost use Rattle.first_script.specs.declared.reason.Reason.{Reason};
+ghost use Rattle.first_script.specs.declared.reason.ScriptFault.TheVariants.{At};
 ghost use Rattle.app_server.specs.Commands.{command_of};
 ghost use Rattle.app_server.specs.Headline.{WasRead, IsRefused, IsCutShort, IsServed};
 
@@ -10,8 +10,8 @@ use crate::report::{ReportFault, report};
 use crate::status::Status;
 use be_geom::NoMemory;
 use be_outside::{Failed, Gate, Sink, Source};
-use be_script::ScriptFault;
-use be_world::run_serial;
+use first_script::ScriptFault;
+use first_world::run_serial;
 use std::alloc::Global;
 use std::sync::Wait;
 use std::thread::Threads;
@@ -83,7 +83,7 @@ fn serial<S: Source, K: Sink>(alloc: Global, source: &mut S, sink: &mut K) -> St
         Err(InputFault::ReadFault) => return Status::ReadFault,
         Err(InputFault::NoMemory) => return Status::NoMemory,
     };
-    let script = match be_script::read(alloc, bytes.as_slice()) {
+    let script = match first_script::read(alloc, bytes.as_slice()) {
         Ok(script) => script,
         Err(ScriptFault::At { line, reason }) => return Status::BadScript { line, reason },
         Err(ScriptFault::NoMemory) => return Status::NoMemory,

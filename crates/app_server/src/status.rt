@@ -1,7 +1,7 @@
 ghost use Rattle.std.specs.Prelude.{◌≡◌};
 ghost use Rattle.app_server.specs.Statuses.{number_of};
 
-use be_script::Reason;
+use first_script::Reason;
 use thiserror::Error;
 
 /// How a call of the server ended.

@@ -1,7 +1,7 @@
 use crate::serve::serve_alone;
 use crate::status::Status;
 use be_outside::{MemorySink, MemorySource};
-use be_script::Reason;
+use first_script::Reason;
 use std::alloc::Global;
 use std::test::Fail;
 

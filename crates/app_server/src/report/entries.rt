@@ -1,15 +1,15 @@
 ghost use Rattle.std.specs.Prelude.{◌≡◌, ◌++◌, OnOk, length, codes};
 ghost use Rattle.std.specs.Fmt.{decimal};
-ghost use Rattle.be_script.specs.Script.{declared_by};
-ghost use Rattle.be_world.specs.Actors.{actor_of};
-ghost use Rattle.be_script.specs.WithinLimits.{IsWithinLimits};
+ghost use Rattle.first_script.specs.Script.{declared_by};
+ghost use Rattle.first_world.specs.Actors.{actor_of};
+ghost use Rattle.first_script.specs.WithinLimits.{IsWithinLimits};
 ghost use Rattle.app_server.specs.EntryText.{actor_text, act_text, entry_text, outcome_text, history_text};
 
 use super::names::{app_name, window_name};
 use super::page::Page;
 use be_geom::NoMemory;
-use be_script::Script;
-use be_world::{Act, Actor, EndAnswer, Entry, Outcome};
+use first_script::Script;
+use first_world::{Act, Actor, EndAnswer, Entry, Outcome};
 
 /// Writes the number of entries, and each of them with its number.
 pub fn write(page: &mut Page, script: &Script, history: &[Entry]) -> Result<(), NoMemory>

@@ -1,8 +1,8 @@
 ghost use Rattle.std.specs.Prelude.{◌≡◌};
-ghost use Rattle.be_script.specs.Script.{declared_by};
+ghost use Rattle.first_script.specs.Script.{declared_by};
 ghost use Rattle.app_server.specs.EntryText.{window_name, app_name};
 
-use be_script::Script;
+use first_script::Script;
 
 /// The name of a window by its number.
 pub fn window_name(script: &Script, window: u16) -> &[u8]

@@ -1,12 +1,12 @@
 ghost use Rattle.std.specs.Prelude.{◌≡◌, ◌<◌, ◌++◌, OnOk, length, take_while};
-ghost use Rattle.be_script.specs.Script.{declared_by};
+ghost use Rattle.first_script.specs.Script.{declared_by};
 ghost use Rattle.app_server.specs.ScreenText.{row_text, has_rgb, runs_of, runs_text, run_text, screen_text, hex_digit, hex_byte};
 
 use super::page::Page;
 use be_color::Rgb;
 use be_geom::NoMemory;
-use be_script::Script;
-use be_world::Cell;
+use first_script::Script;
+use first_world::Cell;
 
 /// Writes the screen row by row, each as its runs of one colour from left to right.
 pub fn write(page: &mut Page, script: &Script, cells: &[Cell]) -> Result<(), NoMemory>

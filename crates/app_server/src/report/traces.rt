@@ -1,13 +1,13 @@
 ghost use Rattle.std.specs.Prelude.{◌≡◌, ◌++◌, OnOk};
-ghost use Rattle.be_script.specs.Script.{declared_by};
-ghost use Rattle.be_script.specs.WithinLimits.{IsWithinLimits};
+ghost use Rattle.first_script.specs.Script.{declared_by};
+ghost use Rattle.first_script.specs.WithinLimits.{IsWithinLimits};
 ghost use Rattle.app_server.specs.TraceText.{edge_text, taken_text, listed_text, trace_line, looper_text, traces_text};
 
 use super::names::window_name;
 use super::page::Page;
 use be_geom::{NoMemory, Rect};
-use be_script::Script;
-use be_world::Trace;
+use first_script::Script;
+use first_world::Trace;
 
 /// Writes for each application and each window what it noted.
 pub fn write(page: &mut Page, script: &Script, traces: &[Trace]) -> Result<(), NoMemory>

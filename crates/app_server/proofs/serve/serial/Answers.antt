@@ -1,7 +1,7 @@
 use Rattle.std.proofs.Common.{◌≡◌, Ok, ap, subst}
-use Rattle.be_world.specs.State.{State}
-use Rattle.be_script.specs.Script.{declared_by}
-use Rattle.be_script.specs.Grammar.{script_of}
+use Rattle.first_world.specs.State.{State}
+use Rattle.first_script.specs.Script.{declared_by}
+use Rattle.first_script.specs.Grammar.{script_of}
 use Rattle.app_server.proofs.ServedTold.{served}
 use Rattle.app_server.proofs.serve.serial.Goals as goal
 

@@ -1,5 +1,5 @@
 use Rattle.std.proofs.Common.{◌≡◌, ◌+◌, ◌++◌, drop}
-use Rattle.be_script.specs.Script.{declared_by}
+use Rattle.first_script.specs.Script.{declared_by}
 use Rattle.app_server.specs.EntryText.{entries_from, history_text}
 use Rattle.app_server.proofs.report.entries.write.Given as goal
 

@@ -1,5 +1,5 @@
 use Rattle.std.proofs.Common.{◌≡◌, ◌-◌, ◌++◌, drop, length}
-use Rattle.be_script.specs.Script.{declared_by}
+use Rattle.first_script.specs.Script.{declared_by}
 use Rattle.app_server.specs.TraceText.{apps_text, loopers_from, traces_text}
 use Rattle.app_server.proofs.report.traces.write.Given as goal
 

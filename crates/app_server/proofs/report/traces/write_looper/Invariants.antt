@@ -1,5 +1,5 @@
 use Rattle.std.proofs.Common.{◌≡◌, ◌++◌, drop}
-use Rattle.be_script.specs.Script.{declared_by}
+use Rattle.first_script.specs.Script.{declared_by}
 use Rattle.app_server.specs.TraceText.{looper_lines, looper_text}
 use Rattle.app_server.proofs.report.traces.write_looper.Given as goal
 

@@ -1,0 +1,10 @@
+use Rattle.first_world.specs.History.{state_after}
+use Rattle.first_world.proofs.SettledKept.{settled_after}
+use Rattle.first_world.proofs.NotStuck.{goes_on, finished}
+use Rattle.first_world.proofs.laws.no_history_is_stuck.Goals as goal
+
+pub returns-clause-goes_on : goal.returns-clause-goes_on
+returns-clause-goes_on c = λ d h well legal running. goes_on d (state_after d h) (settled_after d h well legal) running
+
+pub returns-clause-finished : goal.returns-clause-finished
+returns-clause-finished c = finished
