@@ -1,0 +1,4 @@
+pub mod Lists
+pub mod LegalEntries
+pub mod Programs
+pub mod Tallied
