@@ -23,7 +23,7 @@ body_program_steps d w steps h = both_second (is_short steps) _ h
 
 body_line_steps : (d : Declared) (w : ℕ) (line : BodyLine) → is_body_line d line ≡ true → (line.window == w) ≡ true → list_all (is_body_step d w) line.program ≡ true
 body_line_steps d w line h e =
-    let at_window : is_body_program d line.window line.program ≡ true = both_first _ _ (both_second _ _ (both_second _ _ (both_second _ _ h))) in
+    let at_window : is_body_program d line.window line.program ≡ true = search (both_first, both_second) in
     subst (λ v. list_all (is_body_step d v) line.program ≡ true) (same_number line.window w e) (body_program_steps d line.window line.program at_window)
 
 found_body : (d : Declared) (w : ℕ) (o : Option BodyLine) → ((line : BodyLine) → o ≡ Some line → list_all (is_body_step d w) line.program ≡ true) → list_all (is_body_step d w) (steps_of o) ≡ true
@@ -48,7 +48,7 @@ draw_program_steps d w steps h = both_second (is_short steps) _ h
 
 draw_line_steps : (d : Declared) (w : ℕ) (line : DrawLine) → is_draw_line d line ≡ true → (line.window == w) ≡ true → list_all (is_draw_step d w) line.program ≡ true
 draw_line_steps d w line h e =
-    let at_window : is_draw_program d line.window line.program ≡ true = both_first _ _ (both_second _ _ (both_second _ _ h)) in
+    let at_window : is_draw_program d line.window line.program ≡ true = search (both_first, both_second) in
     subst (λ v. list_all (is_draw_step d v) line.program ≡ true) (same_number line.window w e) (draw_program_steps d line.window line.program at_window)
 
 found_draw : (d : Declared) (w : ℕ) (o : Option DrawLine) → ((line : DrawLine) → o ≡ Some line → list_all (is_draw_step d w) line.program ≡ true) → list_all (is_draw_step d w) (draw_steps o) ≡ true

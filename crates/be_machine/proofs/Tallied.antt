@@ -9,7 +9,7 @@ use Rattle.be_port.specs.Ports.{Port}
 use Rattle.be_machine.specs.Happenings.{Happening}
 use Rattle.be_machine.specs.Orderly.{Tally, counted, tally_from, AreInTurn}
 use Rattle.be_machine.specs.State.{State, Looper, free, locked, handling, Stage}
-use Rattle.be_machine.proofs.Lists.{AtPlace}
+use Rattle.be_machine.proofs.Lists.{AtPlace, same_number, other_number}
 
 -- ---- what the parts show
 
@@ -94,3 +94,10 @@ numbered_append n [] ys h k = let same : n + 0 ≡ n = omega arith in subst (λ 
 numbered_append n (x ∷ xs) ys h k =
     let same : n + length (x ∷ xs) ≡ n + 1 + length xs = omega arith in
     (h.0, numbered_append (n + 1) xs ys h.1 (subst (λ i. AreNumbered i ys) same k))
+
+-- ---- by window
+
+-- what happens at window v happens at window w only where the two are one
+pub at_window : (s : State) (w v : ℕ) (t : Tally) (happenings : List Happening) (b : Bool) → (w == v) ≡ b → (w ≡ v → GoesOn s v t happenings) → ((w ≡ v → ⊥) → IsTallied s w t) → GoesOn s w t (if b then happenings else [])
+at_window s w v t happenings true e here elsewhere = let same : w ≡ v = same_number w v e in subst (λ u. GoesOn s u t happenings) (sym same) (here same)
+at_window s w v t happenings false e here elsewhere = nothing_happens s w t (elsewhere (other_number w v e))

@@ -1,7 +1,6 @@
-use Rattle.be_machine.proofs.Lists.{AtPlace}
+use Rattle.be_machine.proofs.OrderlyPorts.{take_goes}
 use Rattle.be_machine.proofs.LegalEntries.{met_by}
 use Rattle.be_machine.proofs.Programs.{body_steps}
-use Rattle.be_machine.proofs.Tallied.{nothing_happens}
 use Rattle.be_machine.proofs.laws.orderly.every_history_is_orderly.Goals as goal
 
 pub returns : goal.returns
