@@ -3,3 +3,7 @@ pub mod LegalEntries
 pub mod Programs
 pub mod Tallied
 pub mod OrderlyPorts
+pub mod OrderlyLoopers
+pub mod OrderlyCommands
+pub mod Found
+pub mod BodyWishes

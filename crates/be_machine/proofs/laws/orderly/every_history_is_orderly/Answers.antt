@@ -1,3 +1,7 @@
+use Rattle.be_machine.proofs.Found.{locked_there}
+use Rattle.be_machine.proofs.BodyWishes.{body_asks}
+use Rattle.be_machine.proofs.OrderlyLoopers.{end_goes}
+use Rattle.be_machine.proofs.OrderlyCommands.{exec_goes}
 use Rattle.be_machine.proofs.OrderlyPorts.{take_goes}
 use Rattle.be_machine.proofs.LegalEntries.{met_by}
 use Rattle.be_machine.proofs.Programs.{body_steps}
