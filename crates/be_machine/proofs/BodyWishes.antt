@@ -1,6 +1,6 @@
 -- What a looper that has a letter in its hand may ask for.
 use Rattle.std.proofs.Common.{◌≡◌, ℕ, Bool, true, false, List, Option, Some, None, refl, sym, ap, subst, ◌∙◌}
-use Rattle.std.specs.Prelude.{slice_get, option_map, ◌==◌, ◌&&◌, if◌then◌else◌}
+use Rattle.std.specs.Prelude.{[], ◌∷◌, not, slice_get, option_map, option_and_then, ◌==◌, ◌&&◌, if◌then◌else◌}
 use Rattle.std.specs.List.{list_all}
 use Rattle.std.proofs.lemmas.Option.{same_Some}
 use Rattle.be_actor.specs.declared.Instruction.{Instruction}
@@ -12,15 +12,16 @@ use Rattle.be_actor.specs.Wishes.{wish_at, wish_of, by_part, with_room, has_no_r
 use Rattle.be_looper.specs.Duties.{Hand}
 use Rattle.be_message.specs.Messages.{Message}
 use Rattle.be_script.specs.Limits.{IsWithinLimits}
-use Rattle.be_script.specs.Programs.{is_body_step, is_draw_step}
+use Rattle.be_actor.specs.Drafts.{filled}
+use Rattle.be_script.specs.Programs.{is_body_step, is_draw_step, is_app_step, is_rest_of_app, lock_behind}
 use Rattle.be_script.specs.Script.{Declared}
 use Rattle.be_machine.specs.Activities.{Runner, app, looper, runner}
-use Rattle.be_machine.specs.Program.{body_wish, letter_program, update_program, buffered}
-use Rattle.be_machine.specs.State.{State, Looper, free, locked, handling, Stage, in_body, beginning, in_update, at_close}
+use Rattle.be_machine.specs.Program.{app_program, app_wish, body_wish, letter_program, update_program, buffered}
+use Rattle.be_machine.specs.State.{State, App, Looper, free, locked, handling, Stage, in_body, beginning, in_update, at_close}
 use Rattle.be_machine.specs.Wants.{Want, asks, takes, begins, flushes, draws_end, ends, asks_or, end_want, draw_end_want, stage_want, looper_want, want_of}
-use Rattle.be_machine.proofs.Found.{IsMapped, mapped}
-use Rattle.be_machine.proofs.Lists.{all_get}
-use Rattle.be_machine.proofs.Programs.{body_steps, update_steps}
+use Rattle.be_machine.proofs.Found.{IsMapped, mapped, IsChained, chained}
+use Rattle.be_machine.proofs.Lists.{both, both_first, both_second, all_get}
+use Rattle.be_machine.proofs.Programs.{body_steps, update_steps, app_rest}
 
 -- neither locks nor waits are asked for in a body
 abbrev pub is_body_wish : Wish → Bool
@@ -74,7 +75,8 @@ program_wish p steps place now buffered wish each all e =
 
 -- ---- loopers
 
-record IsHandling (s : State) (w : ℕ) : Type 0 where
+-- the looper has a letter in its hand
+pub record IsHandling (s : State) (w : ℕ) : Type 0 where
   pub hand : Hand Message
   pub stage : Stage
   pub read : slice_get s.loopers w ≡ Some (handling hand stage)
@@ -114,3 +116,96 @@ unfolding want_of
 body_asks d s w wish limits e =
     let at : IsMapped (looper_want d s w) (slice_get s.loopers w) (asks (looper w) wish) = mapped (looper_want d s w) (slice_get s.loopers w) (asks (looper w) wish) e in
     looper_asks d s w at.from wish limits at.is
+
+looper_holds : (d : Declared) (s : State) (w : ℕ) (l : Looper) (x : Wish) → looper_want d s w l ≡ asks (looper w) x → slice_get s.loopers w ≡ Some l → IsHandling s w
+looper_holds d s w (handling hand g) x e read = record { hand = hand; stage = g; read = read }
+looper_holds d s w (locked m) x e read = cc
+looper_holds d s w free x e read = cc
+
+-- only a looper with a letter in its hand asks for something
+pub hand_asks : (d : Declared) (s : State) (w : ℕ) (wish : Wish) → want_of d s (runner (looper w)) ≡ Some (asks (looper w) wish) → IsHandling s w
+unfolding want_of
+hand_asks d s w wish e =
+    let at : IsMapped (looper_want d s w) (slice_get s.loopers w) (asks (looper w) wish) = mapped (looper_want d s w) (slice_get s.loopers w) (asks (looper w) wish) e in
+    looper_holds d s w at.from wish at.is at.read
+
+-- ---- applications
+
+-- an application forwards nothing
+abbrev pub is_app_wish : Wish → Bool
+is_app_wish (Forward w target) = false
+is_app_wish (Note word) = true
+is_app_wish (Post w target message) = true
+is_app_wish (Reply message) = true
+is_app_wish Flush = true
+is_app_wish SyncDone = true
+is_app_wish (Draw command) = true
+is_app_wish (Send w target message) = true
+is_app_wish Claim = true
+is_app_wish (Lock w) = true
+is_app_wish Unlock = true
+
+abbrev forwards : Instruction → Bool
+forwards (instruction.Forward v target) = true
+forwards (instruction.Note word) = false
+forwards (instruction.Post v target draft) = false
+forwards (instruction.Send v target draft) = false
+forwards (instruction.Reply draft) = false
+forwards (instruction.Lock v) = false
+forwards instruction.Unlock = false
+forwards instruction.Flush = false
+forwards instruction.Sync = false
+forwards (instruction.Draw c) = false
+
+app_step_forwards : (d : Declared) (lock : Option ℕ) (i : Instruction) → is_app_step d lock i ≡ true → not (forwards i) ≡ true
+app_step_forwards d None (instruction.Forward v target) h = cc
+app_step_forwards d (Some w) (instruction.Forward v target) h = cc
+app_step_forwards d lock (instruction.Note word) h = refl
+app_step_forwards d lock (instruction.Post v target draft) h = refl
+app_step_forwards d lock (instruction.Send v target draft) h = refl
+app_step_forwards d lock (instruction.Reply draft) h = refl
+app_step_forwards d lock (instruction.Lock v) h = refl
+app_step_forwards d lock instruction.Unlock h = refl
+app_step_forwards d lock instruction.Flush h = refl
+app_step_forwards d lock instruction.Sync h = refl
+app_step_forwards d lock (instruction.Draw c) h = refl
+
+rest_forwards : (d : Declared) (lock : Option ℕ) (steps : List Instruction) → is_rest_of_app d lock steps ≡ true → list_all (λ i. not (forwards i)) steps ≡ true
+rest_forwards d lock [] h = refl
+rest_forwards d None (i ∷ rest) h = both (not (forwards i)) _ (app_step_forwards d None i (both_first (is_app_step d None i) _ h)) (rest_forwards d (lock_behind None i) rest (both_second (is_app_step d None i) _ h))
+rest_forwards d (Some w) (i ∷ rest) h = both (not (forwards i)) _ (app_step_forwards d (Some w) i (both_first (is_app_step d (Some w) i) _ h)) (rest_forwards d (lock_behind (Some w) i) rest (both_second (is_app_step d (Some w) i) _ h))
+
+either_app_wish : (b : Bool) (x y : Wish) → is_app_wish x ≡ true → is_app_wish y ≡ true → is_app_wish (if b then x else y) ≡ true
+either_app_wish true x y h k = h
+either_app_wish false x y h k = k
+
+app_step_wish : (part buffered : ℕ) (now : Option Message) (i : Instruction) → not (forwards i) ≡ true → is_app_wish (wish_at part now buffered i) ≡ true
+app_step_wish part buffered now (instruction.Note word) h = refl
+app_step_wish part buffered now (instruction.Post v target draft) h = refl
+app_step_wish part buffered now (instruction.Send v target draft) h = either_app_wish (part == 0) (Send v target (filled draft now)) Claim refl refl
+app_step_wish part buffered now (instruction.Reply draft) h = refl
+app_step_wish part buffered now (instruction.Forward v target) h = cc
+app_step_wish part buffered now (instruction.Lock v) h = refl
+app_step_wish part buffered now instruction.Unlock h = either_app_wish (buffered == 0) Unlock Flush refl refl
+app_step_wish part buffered now instruction.Flush h = refl
+app_step_wish part buffered now instruction.Sync h = either_app_wish (part == 0) Flush SyncDone refl refl
+app_step_wish part buffered now (instruction.Draw c) h = either_app_wish (has_no_room buffered) Flush (Draw c) refl refl
+
+app_program_wish : (steps : List Instruction) (place : Place) (buffered : ℕ) (wish : Wish) → list_all (λ i. not (forwards i)) steps ≡ true → wish_of steps place None buffered ≡ Some wish → is_app_wish wish ≡ true
+unfolding wish_of
+app_program_wish steps place buffered wish all e =
+    let at : IsMapped (wish_at place.part None buffered) (slice_get steps place.step) wish = mapped (wish_at place.part None buffered) (slice_get steps place.step) wish e in
+    subst (λ x. is_app_wish x ≡ true) at.is (app_step_wish place.part buffered None at.from (all_get (λ i. not (forwards i)) steps place.step at.from all at.read))
+
+same_wish : (who : Runner) (x y : Wish) → asks who x ≡ asks who y → x ≡ y
+same_wish who x y e = cc
+
+-- an application asks for no forward
+pub app_asks : (d : Declared) (s : State) (m : ℕ) (wish : Wish) → IsWithinLimits d → want_of d s (runner (app m)) ≡ Some (asks (app m) wish) → is_app_wish wish ≡ true
+unfolding want_of app_wish
+app_asks d s m wish limits e =
+    let at : IsMapped (asks (app m)) (app_wish d s m) (asks (app m) wish) = mapped (asks (app m)) (app_wish d s m) (asks (app m) wish) e in
+    let is : at.from ≡ wish = same_wish (app m) at.from wish at.is in
+    let of_app : IsChained (λ a. wish_of (app_program d m) a.place None (buffered s (app m))) (slice_get s.apps m) at.from = chained (λ (a : App). wish_of (app_program d m) a.place None (buffered s (app m))) (slice_get s.apps m) at.from at.read in
+    subst (λ x. is_app_wish x ≡ true) is
+    (app_program_wish (app_program d m) of_app.from.place (buffered s (app m)) at.from (rest_forwards d None (app_program d m) (app_rest d m limits)) of_app.is)

@@ -7,3 +7,6 @@ pub mod OrderlyLoopers
 pub mod OrderlyCommands
 pub mod Found
 pub mod BodyWishes
+pub mod OrderlySteps
+pub mod OrderlyWishes
+pub mod OrderlyEntries

@@ -1,3 +1,6 @@
+use Rattle.be_machine.proofs.OrderlyEntries.{legal_goes}
+use Rattle.be_machine.proofs.OrderlyWishes.{asked_goes}
+use Rattle.be_machine.proofs.OrderlySteps.{changed_tallied}
 use Rattle.be_machine.proofs.Found.{locked_there}
 use Rattle.be_machine.proofs.BodyWishes.{body_asks}
 use Rattle.be_machine.proofs.OrderlyLoopers.{end_goes}
