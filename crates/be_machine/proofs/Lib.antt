@@ -10,3 +10,4 @@ pub mod BodyWishes
 pub mod OrderlySteps
 pub mod OrderlyWishes
 pub mod OrderlyEntries
+pub mod HasParts
