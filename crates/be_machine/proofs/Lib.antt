@@ -11,3 +11,4 @@ pub mod OrderlySteps
 pub mod OrderlyWishes
 pub mod OrderlyEntries
 pub mod HasParts
+pub mod Resting

@@ -36,7 +36,7 @@ posted_as p letter o e = rw e refl
 letter_more : (t : Tally) (letter : Letter Message) (p q : Port Message) → q ≡ with_letter letter p → OfPort t p → OfPort (record t { arrived_count = t.arrived_count + 1 }) q
 letter_more t letter p q e old =
     let one : length q.arrived ≡ length p.arrived + 1 = ap (λ (x : Port Message). length x.arrived) e ∙ length-append p.arrived (letter ∷ []) in
-    record { arrived_are = omega (arith, old.arrived_are); taken_are = old.taken_are ∙ ap (λ (x : Port Message). x.taken) (sym e) }
+    record { arrived_are = omega (arith, old.arrived_are); taken_are = old.taken_are ∙ ap (λ (x : Port Message). x.taken) (sym e); within = omega (arith, old.within) }
 
 arrives : (s : State) (v n : ℕ) (t : Tally) (f : Port Message → Port Message) (letter : Letter Message) (p : Port Message) → slice_get s.ports v ≡ Some p → length p.arrived + 1 ≡ n → f p ≡ with_letter letter p → IsTallied s v t → GoesOn (record s { ports = at s.ports v f }) v t (arrived n ∷ [])
 arrives s v n t f letter p read number is h =
@@ -96,7 +96,7 @@ notice_goes s v w t p read h =
 
 -- a closed port has the letters that it had
 pub closing_tallied : (s : State) (v w : ℕ) (t : Tally) → IsTallied s w t → AtPlace (OfPort t) (at s.ports v closed_port) w
-closing_tallied s v w t h = place_kept (OfPort t) s.ports v w closed_port (w == v) refl (λ x there old. record { arrived_are = old.arrived_are; taken_are = old.taken_are }) h.port
+closing_tallied s v w t h = place_kept (OfPort t) s.ports v w closed_port (w == v) refl (λ x there old. record { arrived_are = old.arrived_are; taken_are = old.taken_are; within = old.within }) h.port
 
 -- ---- taking
 
@@ -115,7 +115,7 @@ take_goes d s v w t p letter is_free read next h =
         record {
           in_turn = ((omega (arith, port.taken_are), omega (arith, port.arrived_are, inside), unheld s v t is_free here), tt);
           tallied = record {
-            port = place_here (OfPort t) (OfPort u) s.ports v without_front (λ x there old. record { arrived_are = old.arrived_are; taken_are = omega (arith, old.taken_are) }) here.port;
+            port = place_here (OfPort t) (OfPort u) s.ports v without_front (λ x there old. record { arrived_are = old.arrived_are; taken_are = omega (arith, old.taken_are); within = omega (arith, port.arrived_are, port.taken_are, inside) }) here.port;
             looper = place_here (OfLooper t) (OfLooper u) s.loopers v _ (λ x there old.
                 let was : free ≡ x = same_element s.loopers v free x is_free there in
                 record { handles = refl; locks = old.locks ∙ ap is_locked (sym was); replied = λ e. cc }) here.looper;

@@ -37,6 +37,7 @@ AreNumbered n (c ∷ cs) = (c.number ≡ n + 1) × AreNumbered (n + 1) cs
 pub record PortTallied (arrived taken : ℕ) (p : Port Message) : Type 0 where
   pub arrived_are : arrived ≡ length p.arrived
   pub taken_are : taken ≡ p.taken
+  pub within : taken ≤ arrived
 
 pub record LooperTallied (in_hand in_lock was_replied : Bool) (l : Looper) : Type 0 where
   pub handles : in_hand ≡ is_handling l
