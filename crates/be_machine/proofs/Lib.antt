@@ -12,3 +12,5 @@ pub mod OrderlyWishes
 pub mod OrderlyEntries
 pub mod HasParts
 pub mod Resting
+pub mod Opening
+pub mod OrderlyHistory

@@ -1,3 +1,4 @@
+use Rattle.be_machine.proofs.OrderlyHistory.{even}
 use Rattle.be_machine.proofs.Resting.{at_rest}
 use Rattle.be_machine.proofs.HasParts.{parts_from}
 use Rattle.be_machine.proofs.OrderlyEntries.{legal_goes}
