@@ -1,14 +1,13 @@
 -- What a looper that has a letter in its hand may ask for.
-use Rattle.std.proofs.Common.{◌≡◌, ℕ, Bool, true, false, List, Option, Some, None, refl, sym, ap, subst, ◌∙◌}
-use Rattle.std.specs.Prelude.{[], ◌∷◌, not, slice_get, option_map, option_and_then, ◌==◌, ◌&&◌, if◌then◌else◌}
+use Rattle.std.proofs.Common.{◌≡◌, ℕ, Bool, true, false, List, Option, Some, None, refl, subst}
+use Rattle.std.specs.Prelude.{[], ◌∷◌, not, slice_get, ◌==◌, if◌then◌else◌}
 use Rattle.std.specs.List.{list_all}
-use Rattle.std.proofs.lemmas.Option.{same_Some}
 use Rattle.be_actor.specs.declared.Instruction.{Instruction}
 use Rattle.be_actor.specs.declared.Instruction.TheVariants as instruction
 use Rattle.be_actor.specs.declared.Place.{Place}
 use Rattle.be_actor.specs.declared.Wish.{Wish}
 use Rattle.be_actor.specs.declared.Wish.TheVariants.{Note, Post, Send, Forward, Reply, Claim, Lock, Unlock, Flush, SyncDone, Draw}
-use Rattle.be_actor.specs.Wishes.{wish_at, wish_of, by_part, with_room, has_no_room}
+use Rattle.be_actor.specs.Wishes.{wish_at, wish_of, has_no_room}
 use Rattle.be_looper.specs.Duties.{Hand}
 use Rattle.be_message.specs.Messages.{Message}
 use Rattle.be_script.specs.Limits.{IsWithinLimits}
@@ -18,7 +17,7 @@ use Rattle.be_script.specs.Script.{Declared}
 use Rattle.be_machine.specs.Activities.{Runner, app, looper, runner}
 use Rattle.be_machine.specs.Program.{app_program, app_wish, body_wish, letter_program, update_program, buffered}
 use Rattle.be_machine.specs.State.{State, App, Looper, free, locked, handling, Stage, in_body, beginning, in_update, at_close}
-use Rattle.be_machine.specs.Wants.{Want, asks, takes, begins, flushes, draws_end, ends, asks_or, end_want, draw_end_want, stage_want, looper_want, want_of}
+use Rattle.be_machine.specs.Wants.{Want, asks, flushes, draws_end, ends, asks_or, end_want, draw_end_want, stage_want, looper_want, want_of}
 use Rattle.be_machine.proofs.Found.{IsMapped, mapped, IsChained, chained}
 use Rattle.be_machine.proofs.Lists.{both, both_first, both_second, all_get}
 use Rattle.be_machine.proofs.Programs.{body_steps, update_steps, app_rest}

@@ -1,68 +1,46 @@
 -- The state has a port, a looper, a buffer, a link and a pane for each window, and each application.
-use Rattle.std.proofs.Common.{◌≡◌, ℕ, ◌+◌, Bool, true, false, List, [], ◌∷◌, ◌++◌, length, Option, Some, None, refl, sym, ap, subst, ◌∙◌}
-use Rattle.std.specs.Prelude.{slice_get, ◌==◌, option_map, option_and_then, if◌then◌else◌, Result, Ok, Err}
+use Rattle.std.proofs.Common.{◌≡◌, ℕ, Bool, true, false, List, [], ◌∷◌, length, Option, Some, None, refl, sym, ap, subst, ◌∙◌}
+use Rattle.std.specs.Prelude.{slice_get, if◌then◌else◌, Result, Ok, Err}
 use Rattle.std.specs.Option.{option_map_or}
-use Rattle.std.proofs.lemmas.Option.{same_Some}
 use Rattle.be_actor.specs.declared.Wish.{Wish}
 use Rattle.be_actor.specs.declared.Wish.TheVariants as wish
 use Rattle.be_bitmap.specs.Pictures.{Picture}
-use Rattle.be_command.specs.declared.Command.{Command}
-use Rattle.be_command.specs.declared.Command.TheVariants.{EndUpdate}
 use Rattle.be_command.specs.Effects.{Effect, at_view, changes, ends_update, effect_of}
 use Rattle.be_desk.specs.Changes.{Desk, desk_after}
 use Rattle.be_geom.specs.declared.change.Change.{Change}
 use Rattle.be_geom.specs.declared.change.Change.TheVariants.{Show, Hide, MoveTo, MoveBy, ResizeTo, Activate, Behind, Focus, Close}
-use Rattle.be_link.specs.Queues.{Numbered, Buffer, is_full, fits}
-use Rattle.be_looper.specs.Duties.{Hand, waiter, reply_answer, duty_after_reply, duty_after_forward, duty_handed_on, end_telling, EndTelling, nobody, no_reply, not_understood}
-use Rattle.be_message.specs.declared.target.Target.{Target}
+use Rattle.be_link.specs.Queues.{Numbered, Buffer}
+use Rattle.be_looper.specs.Duties.{EndTelling, nobody, no_reply, not_understood}
 use Rattle.be_message.specs.Messages.{Message}
 use Rattle.be_pane.specs.Panes.{Pane}
 use Rattle.be_port.specs.declared.Duty.{Duty}
-use Rattle.be_port.specs.declared.Duty.TheVariants as duty
-use Rattle.be_port.specs.Ports.{Letter, Port, judged, front}
-use Rattle.be_script.specs.Limits.{IsWithinLimits}
+use Rattle.be_port.specs.Ports.{Port}
 use Rattle.be_script.specs.Script.{Declared}
 use Rattle.be_stack.specs.declared.fault.ChangeFault.{ChangeFault}
-use Rattle.be_machine.specs.Activities.{Runner, app, looper, Activity, runner, twin, input, closing, sender_of}
-use Rattle.be_machine.specs.Commands.{draw_act, flush_act, sync_act, exec_act, effect_outcome, drawn, flushed, with_effect, done_at_view, without_front, executed_command, executed}
-use Rattle.be_machine.specs.declared.Act.{Act}
-use Rattle.be_machine.specs.declared.Act.TheVariants as act
-use Rattle.be_machine.specs.declared.Replied.TheVariants as reply
-use Rattle.be_machine.specs.Happenings.{Happening, of_posted, of_act, of_delivery, happenings_at}
-use Rattle.be_machine.specs.Legal.{wish_act, want_act}
-use Rattle.be_machine.specs.Lists.{at, with_both}
-use Rattle.be_machine.specs.Looper.{with_looper, lock_act, locked_for, freed, sent, sent_duty, with_waiting, told, with_duty, replied_by, reply_act, answer_of, forwarded, forwarded_hand, end_act, end_of, ended_hand, told_at_end, claimed}
-use Rattle.be_machine.specs.Orderly.{Tally, tally_from, AreInTurn, first_tally}
-use Rattle.be_machine.specs.Port.{post_act, letter, with_post, is_accepted_at, notify_act, notified, take_act, with_letter_in_hand, taken}
-use Rattle.be_machine.specs.Program.{window_of, hop_of, hand_at, hand_in, hand_of, locked_by, looper_gone_on, moved_on}
-use Rattle.be_machine.specs.State.{State, Looper, free, locked, handling, Stage, at_close}
-use Rattle.be_machine.specs.Step.{granted, is_accepted_wish, met}
-use Rattle.be_machine.specs.Update.{at_stage, begin_act, begun, opened, passed_by}
+use Rattle.be_machine.specs.Activities.{Runner, app, looper}
+use Rattle.be_machine.specs.Commands.{drawn, flushed, with_effect, done_at_view, without_front, executed_command, executed}
+use Rattle.be_machine.specs.Lists.{at}
+use Rattle.be_machine.specs.Looper.{freed, with_waiting, told, with_duty, forwarded_hand, ended_hand, told_at_end, claimed}
+use Rattle.be_machine.specs.Port.{is_accepted_at, with_letter_in_hand}
+use Rattle.be_machine.specs.Program.{window_of, hop_of, hand_at, hand_of, moved_on}
+use Rattle.be_machine.specs.State.{State, Looper}
+use Rattle.be_machine.specs.Step.{granted, met}
+use Rattle.be_machine.specs.Update.{begun, opened}
 use Rattle.be_machine.specs.Windows.{changed, changed_to, ports_after}
-use Rattle.be_geom.specs.declared.point.Point.{Point}
-use Rattle.be_input.specs.declared.Event.{Event}
 use Rattle.be_input.specs.declared.Event.TheVariants as event
 use Rattle.be_input.specs.Deliveries.{Post, Delivery}
-use Rattle.be_port.specs.declared.Posted.{Posted}
 use Rattle.be_script.specs.declared.InputLine.{InputLine}
 use Rattle.be_script.specs.declared.InputLine.TheVariants as line
-use Rattle.be_machine.specs.Activities.{activity_of}
-use Rattle.be_machine.specs.Closing.{stop_act, stopped, all_done, all_quiet}
 use Rattle.be_machine.specs.declared.Entry.{Entry}
 use Rattle.be_machine.specs.History.{AreLegalFrom, state_from}
-use Rattle.be_machine.specs.Input.{input_letter, ports_with, outcome_in, delivery_act, delivery_of, event_act, after_act, used, with_under, activated, with_delivery, with_event}
+use Rattle.be_machine.specs.Input.{ports_with, delivery_of, activated, with_delivery, with_event}
 use Rattle.be_machine.specs.Legal.{IsLegal}
-use Rattle.be_machine.specs.Program.{has_ended}
 use Rattle.be_machine.specs.Step.{step}
-use Rattle.be_machine.specs.Wants.{Want, asks, takes, begins, flushes, draws_end, ends, notifies, executes, uses, stops, want_of}
+use Rattle.be_machine.specs.Wants.{Want, asks, takes, begins, flushes, draws_end, ends, notifies, executes, uses, stops}
 use Rattle.be_machine.specs.Windows.{corner_at, dirty_of}
 use Rattle.be_update.specs.Sessions.{is_any}
-use Rattle.std.specs.Prelude.{flat_map, not, ◌&&◌}
-use Rattle.be_machine.specs.Looper.{with_cell, with_duty_by}
-use Rattle.be_machine.specs.State.{App, opening_state}
-use Rattle.be_machine.specs.Step as steps
-use Rattle.std.proofs.Common.{replicate}
-use Rattle.std.proofs.Math.ListN.{length-map, length-replicate}
+use Rattle.be_machine.specs.Looper.{with_duty_by}
+use Rattle.be_machine.specs.State.{App}
 use Rattle.be_machine.proofs.LegalEntries.{IsMet, met_by}
 use Rattle.be_machine.proofs.Lists.{length_at}
 

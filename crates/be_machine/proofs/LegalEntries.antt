@@ -1,5 +1,5 @@
 -- A legal entry: who made it, what was wanted, and that the want was met.
-use Rattle.std.proofs.Common.{◌≡◌, ℕ, List, Option, Some, None, refl, sym, ap, ◌∙◌}
+use Rattle.std.proofs.Common.{◌≡◌, ℕ, Option, Some, None, refl, sym, ap, ◌∙◌}
 use Rattle.std.specs.Prelude.{slice_get, option_map, option_and_then, ◌==◌, Bool, true, false, if◌then◌else◌}
 use Rattle.std.proofs.lemmas.Option.{same_Some}
 use Rattle.std.specs.Option.{option_map_or}
@@ -7,17 +7,15 @@ use Rattle.be_actor.specs.declared.Wish.{Wish}
 use Rattle.be_actor.specs.Wishes.{has_no_room}
 use Rattle.be_looper.specs.Duties.{Hand}
 use Rattle.be_message.specs.Messages.{Message}
-use Rattle.be_script.specs.declared.InputLine.{InputLine}
 use Rattle.be_script.specs.Script.{Declared}
 use Rattle.be_machine.specs.Activities.{Runner, app, looper, Activity, runner, twin, input, closing, activity_of}
-use Rattle.be_machine.specs.declared.Act.{Act}
 use Rattle.be_machine.specs.declared.Entry.{Entry}
 use Rattle.be_machine.specs.Legal.{want_act, legal_act, IsLegal}
 use Rattle.be_machine.specs.Program.{app_wish, body_wish, letter_program, update_program, buffered}
 use Rattle.be_machine.specs.State.{State, Looper, free, locked, handling, Stage, in_body, beginning, in_update, at_close}
 use Rattle.be_machine.specs.Step.{met, step}
 use Rattle.be_machine.specs.Update.{owes_notice}
-use Rattle.be_machine.specs.Wants.{Want, asks, takes, begins, flushes, draws_end, ends, notifies, executes, uses, stops, asks_or, end_want, draw_end_want, stage_want, looper_want, runner_want, twin_want, want_of}
+use Rattle.be_machine.specs.Wants.{Want, asks, takes, begins, flushes, draws_end, ends, notifies, executes, uses, stops, asks_or, end_want, draw_end_want, stage_want, looper_want, twin_want, want_of}
 
 pub record IsMet (d : Declared) (s : State) (e : Entry) : Type 0 where
   pub who : Activity

@@ -1,17 +1,16 @@
 -- The opening state has all parts, and the tally of each window in it is the first one.
-use Rattle.std.proofs.Common.{◌≡◌, ℕ, zero, suc, List, [], ◌∷◌, length, map, Option, Some, None, refl, sym, ap, subst, ◌∙◌, arith}
-use Rattle.std.specs.Prelude.{slice_get, replicate, option_map}
+use Rattle.std.proofs.Common.{◌≡◌, ℕ, zero, suc, List, [], length, map, Some, refl, sym, subst, ◌∙◌, arith}
+use Rattle.std.specs.Prelude.{slice_get, replicate}
 use Rattle.std.specs.List.{enumerate_from}
 use Rattle.std.proofs.lemmas.List.{length-map, length-replicate}
 use Rattle.std.proofs.lemmas.List.FromFn.{length-enumerate_from}
 use Rattle.std.proofs.lemmas.Option.{same_Some, slice_get-map}
-use Rattle.be_link.specs.Queues.{Buffer, Numbered, empty_buffer}
-use Rattle.be_message.specs.Messages.{Message}
-use Rattle.be_port.specs.Ports.{Port, empty_port}
+use Rattle.be_link.specs.Queues.{empty_buffer}
+use Rattle.be_port.specs.Ports.{empty_port}
 use Rattle.be_script.specs.Script.{Declared}
 use Rattle.be_script.specs.declared.WindowLine.{WindowLine}
 use Rattle.be_machine.specs.Orderly.{first_tally}
-use Rattle.be_machine.specs.State.{State, Looper, free, opening_app, opening_state}
+use Rattle.be_machine.specs.State.{free, opening_state}
 use Rattle.be_machine.proofs.Found.{IsMapped, mapped}
 use Rattle.be_machine.proofs.HasParts.{HasParts}
 use Rattle.be_machine.proofs.Lists.{AtPlace}

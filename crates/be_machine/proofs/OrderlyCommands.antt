@@ -1,16 +1,15 @@
 -- Commands are made, flushed and executed with the next numbers.
-use Rattle.std.proofs.Common.{◌≡◌, ℕ, suc, ◌+◌, ◌<◌, ◌≤◌, Bool, true, false, List, [], ◌∷◌, ◌++◌, length, Option, Some, None, refl, sym, ap, subst, ◌∙◌, arith, length-append}
-use Rattle.std.specs.Prelude.{slice_get, ◌==◌, drop, if◌then◌else◌}
+use Rattle.std.proofs.Common.{◌≡◌, ℕ, ◌+◌, ◌≤◌, List, [], ◌∷◌, length, Option, Some, refl, sym, ap, subst, ◌∙◌, arith, length-append}
+use Rattle.std.specs.Prelude.{slice_get, ◌==◌}
 use Rattle.std.specs.Option.{option_map_or}
 use Rattle.be_command.specs.declared.Command.{Command}
 use Rattle.be_link.specs.Queues.{Numbered, Buffer, with_command, emptied, lengthened, shortened}
 use Rattle.be_machine.specs.Commands.{drawn, flushed, flushed_into, without_front}
 use Rattle.be_machine.specs.Happenings as happening
 use Rattle.be_machine.specs.Happenings.{Happening, drew, executed, only}
-use Rattle.be_machine.specs.Lists.{at}
 use Rattle.be_machine.specs.Orderly.{Tally}
 use Rattle.be_machine.specs.State.{State}
-use Rattle.be_machine.proofs.Lists.{AtPlace, same_element, place_here, place_elsewhere}
+use Rattle.be_machine.proofs.Lists.{same_element, place_here, place_elsewhere}
 use Rattle.be_machine.proofs.Tallied.{AreNumbered, OfBuffer, OfLink, IsTallied, GoesOn, at_window, numbered_append}
 
 here_of : (s : State) (w v : ℕ) (t : Tally) → w ≡ v → IsTallied s w t → IsTallied s v t
@@ -30,17 +29,17 @@ draw_goes s v w t c b read h =
     let u : Tally = record t { drawn_count = t.drawn_count + 1 } in
     at_window (drawn s v c) w v t _ (w == v) refl
     (λ same.
-        let here : IsTallied s v t = here_of s w v t same h in
-        let of_buffer : OfBuffer t b = here.buffer b read in
-        record {
-          in_turn = (omega (arith, of_buffer.made), tt);
-          tallied = record {
-            port = here.port;
-            looper = here.looper;
-            buffer = place_here (OfBuffer t) (OfBuffer u) s.buffers v (with_command c) (λ x there old. command_more t c x old) here.buffer;
-            link = here.link;
-          };
-        })
+    let here : IsTallied s v t = here_of s w v t same h in
+    let of_buffer : OfBuffer t b = here.buffer b read in
+    record {
+      in_turn = (omega (arith, of_buffer.made), tt);
+      tallied = record {
+        port = here.port;
+        looper = here.looper;
+        buffer = place_here (OfBuffer t) (OfBuffer u) s.buffers v (with_command c) (λ x there old. command_more t c x old) here.buffer;
+        link = here.link;
+      };
+    })
     (λ other. record { port = h.port; looper = h.looper; buffer = place_elsewhere (OfBuffer t) s.buffers v w (with_command c) (λ e. other (sym e)) h.buffer; link = h.link })
 
 -- ---- all commands of the buffer go over
@@ -62,19 +61,19 @@ flush_into s v w t b read h =
     let u : Tally = record t { flushed_count = t.flushed_count + length b.commands } in
     at_window (flushed_into s v b) w v t _ (w == v) refl
     (λ same.
-        let here : IsTallied s v t = here_of s w v t same h in
-        let of_buffer : OfBuffer t b = here.buffer b read in
-        record {
-          in_turn = (tt, tt);
-          tallied = record {
-            port = here.port;
-            looper = here.looper;
-            buffer = place_here (OfBuffer t) (OfBuffer u) s.buffers v emptied (λ x there old.
-                let was : b ≡ x = same_element s.buffers v b x read there in
-                subst (λ y. OfBuffer u (emptied y)) was (buffer_less t b of_buffer)) here.buffer;
-            link = place_here (OfLink t) (OfLink u) s.links v (lengthened b) (λ x there old. link_more t b x of_buffer old) here.link;
-          };
-        })
+    let here : IsTallied s v t = here_of s w v t same h in
+    let of_buffer : OfBuffer t b = here.buffer b read in
+    record {
+      in_turn = (tt, tt);
+      tallied = record {
+        port = here.port;
+        looper = here.looper;
+        buffer = place_here (OfBuffer t) (OfBuffer u) s.buffers v emptied (λ x there old.
+            let was : b ≡ x = same_element s.buffers v b x read there in
+            subst (λ y. OfBuffer u (emptied y)) was (buffer_less t b of_buffer)) here.buffer;
+        link = place_here (OfLink t) (OfLink u) s.links v (lengthened b) (λ x there old. link_more t b x of_buffer old) here.link;
+      };
+    })
     (λ other. record {
       port = h.port;
       looper = h.looper;
@@ -98,17 +97,17 @@ exec_goes s v w t c link read front h =
     let u : Tally = record t { executed_count = t.executed_count + 1 } in
     at_window (without_front s v) w v t _ (w == v) refl
     (λ same.
-        let here : IsTallied s v t = here_of s w v t same h in
-        let less : _ = link_less t c link front (here.link link read) in
-        record {
-          in_turn = ((less.0, less.1), tt);
-          tallied = record {
-            port = here.port;
-            looper = here.looper;
-            buffer = here.buffer;
-            link = place_here (OfLink t) (OfLink u) s.links v shortened (λ x there old.
-                let was : link ≡ x = same_element s.links v link x read there in
-                subst (λ y. OfLink u (shortened y)) was less.2) here.link;
-          };
-        })
+    let here : IsTallied s v t = here_of s w v t same h in
+    let less : _ = link_less t c link front (here.link link read) in
+    record {
+      in_turn = ((less.0, less.1), tt);
+      tallied = record {
+        port = here.port;
+        looper = here.looper;
+        buffer = here.buffer;
+        link = place_here (OfLink t) (OfLink u) s.links v shortened (λ x there old.
+            let was : link ≡ x = same_element s.links v link x read there in
+            subst (λ y. OfLink u (shortened y)) was less.2) here.link;
+      };
+    })
     (λ other. record { port = h.port; looper = h.looper; buffer = h.buffer; link = place_elsewhere (OfLink t) s.links v w shortened (λ e. other (sym e)) h.link })

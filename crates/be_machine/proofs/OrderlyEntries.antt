@@ -1,73 +1,54 @@
 -- What any legal entry says of a window may happen there next, and the tally behind it is that of the state behind it.
-use Rattle.std.proofs.Common.{◌≡◌, ℕ, ◌+◌, Bool, true, false, List, [], ◌∷◌, ◌++◌, length, Option, Some, None, refl, sym, ap, subst, ◌∙◌}
-use Rattle.std.specs.Prelude.{slice_get, ◌==◌, option_map, option_and_then, if◌then◌else◌, Result, Ok, Err}
+use Rattle.std.proofs.Common.{◌≡◌, ℕ, ◌+◌, List, ◌++◌, length, Option, Some, None, refl, sym, ap, subst, ◌∙◌}
+use Rattle.std.specs.Prelude.{slice_get, ◌==◌, option_map, option_and_then, if◌then◌else◌}
 use Rattle.std.specs.Option.{option_map_or}
 use Rattle.std.proofs.lemmas.Option.{same_Some}
-use Rattle.be_actor.specs.declared.Wish.{Wish}
-use Rattle.be_actor.specs.declared.Wish.TheVariants as wish
-use Rattle.be_bitmap.specs.Pictures.{Picture}
-use Rattle.be_command.specs.declared.Command.{Command}
 use Rattle.be_command.specs.declared.Command.TheVariants.{EndUpdate}
-use Rattle.be_command.specs.Effects.{Effect, at_view, changes, ends_update, effect_of}
-use Rattle.be_desk.specs.Changes.{Desk, desk_after}
-use Rattle.be_geom.specs.declared.change.Change.{Change}
-use Rattle.be_geom.specs.declared.change.Change.TheVariants.{Show, Hide, MoveTo, MoveBy, ResizeTo, Activate, Behind, Focus, Close}
-use Rattle.be_link.specs.Queues.{Numbered, Buffer, is_full, fits}
-use Rattle.be_looper.specs.Duties.{Hand, waiter, reply_answer, duty_after_reply, duty_after_forward, duty_handed_on, end_telling, EndTelling, nobody, no_reply, not_understood}
-use Rattle.be_message.specs.declared.target.Target.{Target}
+use Rattle.be_geom.specs.declared.change.Change.TheVariants.{Activate}
+use Rattle.be_link.specs.Queues.{Numbered}
+use Rattle.be_looper.specs.Duties.{Hand, end_telling, EndTelling, nobody, no_reply, not_understood}
 use Rattle.be_message.specs.Messages.{Message}
-use Rattle.be_pane.specs.Panes.{Pane}
-use Rattle.be_port.specs.declared.Duty.{Duty}
-use Rattle.be_port.specs.declared.Duty.TheVariants as duty
 use Rattle.be_port.specs.Ports.{Letter, Port, judged, front}
 use Rattle.be_script.specs.Limits.{IsWithinLimits}
 use Rattle.be_script.specs.Script.{Declared}
-use Rattle.be_stack.specs.declared.fault.ChangeFault.{ChangeFault}
-use Rattle.be_machine.specs.Activities.{Runner, app, looper, Activity, runner, twin, input, closing, sender_of}
-use Rattle.be_machine.specs.Commands.{draw_act, flush_act, sync_act, exec_act, effect_outcome, drawn, flushed, with_effect, done_at_view, without_front, executed_command, executed}
+use Rattle.be_machine.specs.Activities.{looper, runner, twin, input, closing}
+use Rattle.be_machine.specs.Commands.{draw_act, drawn}
 use Rattle.be_machine.specs.declared.Act.{Act}
 use Rattle.be_machine.specs.declared.Act.TheVariants as act
-use Rattle.be_machine.specs.declared.Replied.TheVariants as reply
-use Rattle.be_machine.specs.Happenings.{Happening, of_posted, of_act, of_delivery, happenings_at}
-use Rattle.be_machine.specs.Legal.{wish_act, want_act}
-use Rattle.be_machine.specs.Lists.{at, with_both}
-use Rattle.be_machine.specs.Looper.{with_looper, lock_act, locked_for, freed, sent, sent_duty, with_waiting, told, with_duty, replied_by, reply_act, answer_of, forwarded, forwarded_hand, end_act, end_of, ended_hand, told_at_end, claimed}
-use Rattle.be_machine.specs.Orderly.{Tally, tally_from, AreInTurn, first_tally}
-use Rattle.be_machine.specs.Port.{post_act, letter, with_post, is_accepted_at, notify_act, notified, take_act, with_letter_in_hand, taken}
-use Rattle.be_machine.specs.Program.{window_of, hop_of, hand_at, hand_in, hand_of, locked_by, looper_gone_on, moved_on}
+use Rattle.be_machine.specs.Happenings.{of_act, of_delivery}
+use Rattle.be_machine.specs.Legal.{want_act}
+use Rattle.be_machine.specs.Lists.{with_both}
+use Rattle.be_machine.specs.Looper.{with_looper, freed, end_act, end_of, ended_hand, told_at_end}
+use Rattle.be_machine.specs.Orderly.{Tally, tally_from}
+use Rattle.be_machine.specs.Port.{notify_act, notified, take_act, with_letter_in_hand, taken}
+use Rattle.be_machine.specs.Program.{hand_at, hand_in}
 use Rattle.be_machine.specs.State.{State, Looper, free, locked, handling, Stage, at_close}
-use Rattle.be_machine.specs.Step.{granted, is_accepted_wish, met}
+use Rattle.be_machine.specs.Step.{met}
 use Rattle.be_machine.specs.Update.{at_stage, begin_act, begun, opened, passed_by}
-use Rattle.be_machine.specs.Windows.{changed, changed_to, ports_after}
-use Rattle.be_machine.proofs.BodyWishes.{is_body_wish}
-use Rattle.be_machine.proofs.Found.{IsMapped, mapped, IsChained, chained, IsJoined, joined, IsTested, tested, untested, locked_there}
+use Rattle.be_machine.proofs.Found.{IsMapped, mapped, IsChained, chained, IsJoined, joined, IsTested, tested}
 use Rattle.be_machine.proofs.Lists.{AtPlace, at_past}
-use Rattle.be_machine.proofs.OrderlyCommands.{draw_goes, flush_goes, exec_goes}
 use Rattle.be_machine.proofs.OrderlyLoopers.{looper_kept, lock_goes, unlock_goes, duty_kept, forward_keeps, reply_keeps, reply_goes, end_goes}
-use Rattle.be_machine.proofs.OrderlyPorts.{post_goes, notice_goes, take_goes, closing_tallied}
-use Rattle.be_machine.proofs.Tallied.{OfLooper, OfPort, OfBuffer, OfLink, IsTallied, GoesOn, nothing_happens, in_turn_append, tally_append}
+use Rattle.be_machine.proofs.OrderlyPorts.{post_goes, notice_goes, take_goes}
+use Rattle.be_machine.proofs.Tallied.{OfPort, IsTallied, GoesOn, nothing_happens, in_turn_append, tally_append}
 use Rattle.be_geom.specs.declared.point.Point.{Point}
-use Rattle.be_input.specs.declared.Event.{Event}
 use Rattle.be_input.specs.declared.Event.TheVariants as event
 use Rattle.be_input.specs.Deliveries.{Post, Delivery}
-use Rattle.be_port.specs.declared.Posted.{Posted}
 use Rattle.be_script.specs.declared.InputLine.{InputLine}
 use Rattle.be_script.specs.declared.InputLine.TheVariants as line
 use Rattle.be_machine.specs.Activities.{activity_of}
 use Rattle.be_machine.specs.Closing.{stop_act, stopped, all_done, all_quiet}
 use Rattle.be_machine.specs.declared.Entry.{Entry}
-use Rattle.be_machine.specs.History.{AreLegalFrom, state_from}
-use Rattle.be_machine.specs.Input.{input_letter, ports_with, outcome_in, delivery_act, delivery_of, event_act, after_act, used, with_under, activated, with_delivery, with_event}
+use Rattle.be_machine.specs.Input.{input_letter, ports_with, outcome_in, delivery_act, delivery_of, event_act, used, with_under, activated, with_delivery, with_event}
 use Rattle.be_machine.specs.Legal.{IsLegal}
 use Rattle.be_machine.specs.Program.{has_ended}
 use Rattle.be_machine.specs.Step.{step}
 use Rattle.be_machine.specs.Wants.{Want, asks, takes, begins, flushes, draws_end, ends, notifies, executes, uses, stops, want_of}
 use Rattle.be_machine.specs.Windows.{corner_at, dirty_of}
 use Rattle.be_update.specs.Sessions.{is_any}
-use Rattle.std.specs.Prelude.{flat_map, not, ◌&&◌}
+use Rattle.std.specs.Prelude.{not, ◌&&◌}
 use Rattle.be_machine.proofs.LegalEntries.{IsMet, met_by, maker, maker_is}
 use Rattle.be_machine.proofs.OrderlyLoopers as loopers
-use Rattle.be_machine.proofs.OrderlySteps.{Goes, with_act, other_state, by_test, nothing_if, stage_shown, told_tallied, draw_done, flush_done, exec_done, changed_tallied}
+use Rattle.be_machine.proofs.OrderlySteps.{Goes, with_act, other_state, by_test, stage_shown, told_tallied, draw_done, flush_done, exec_done, changed_tallied}
 use Rattle.be_machine.proofs.OrderlyWishes.{asked_goes}
 
 -- ---- letters
@@ -111,7 +92,7 @@ begun_tallied s v w t h = by_test (λ x. IsTallied x w t) (is_any (dirty_of s v)
 begin_done : (s : State) (v w : ℕ) (t : Tally) (a : Act) → begin_act s v ≡ Some a → IsTallied s w t → Goes (begun s v) w t (runner (looper v)) a
 begin_done s v w t a e h =
     let at : IsChained (λ link. if length link == 0 then Some (act.Begin (is_any (dirty_of s v))) else None) (slice_get s.links v) a =
-        chained (λ (link : List Numbered). if length link == 0 then Some (act.Begin (is_any (dirty_of s v))) else None) (slice_get s.links v) a e in
+    chained (λ (link : List Numbered). if length link == 0 then Some (act.Begin (is_any (dirty_of s v))) else None) (slice_get s.links v) a e in
     let is : IsTested (length at.from == 0) (act.Begin (is_any (dirty_of s v))) a = tested (length at.from == 0) (act.Begin (is_any (dirty_of s v))) a at.is in
     with_act (begun s v) w t (runner (looper v)) (act.Begin (is_any (dirty_of s v))) a is.is (nothing_happens _ w t (begun_tallied s v w t h))
 
@@ -172,7 +153,7 @@ with_delivery_goes s x w t h =
     let two : _ = delivery_goes between w (tally_from t (of_delivery w (option_and_then (outcome_in s.ports) x.first))) x.second one.tallied in
     let after : State = record (used s) { ports = ports_with (ports_with s.ports x.first) x.second; desk = with_under x s.desk } in
     let both_in : IsTallied (with_ports between (ports_with between.ports x.second)) w (tally_from t (of_delivery w (option_and_then (outcome_in s.ports) x.first) ++ of_delivery w (option_and_then (outcome_in between.ports) x.second))) =
-        subst (IsTallied (with_ports between (ports_with between.ports x.second)) w) (sym (tally_append t (of_delivery w (option_and_then (outcome_in s.ports) x.first)) (of_delivery w (option_and_then (outcome_in between.ports) x.second)))) two.tallied in
+    subst (IsTallied (with_ports between (ports_with between.ports x.second)) w) (sym (tally_append t (of_delivery w (option_and_then (outcome_in s.ports) x.first)) (of_delivery w (option_and_then (outcome_in between.ports) x.second)))) two.tallied in
     record {
       in_turn = in_turn_append t (of_delivery w (option_and_then (outcome_in s.ports) x.first)) (of_delivery w (option_and_then (outcome_in between.ports) x.second)) one.in_turn two.in_turn;
       tallied = activated_tallied after x.activate w _ (record { port = both_in.port; looper = both_in.looper; buffer = both_in.buffer; link = both_in.link });

@@ -1,22 +1,21 @@
 -- Every legal history is in turn at each window, and even where it ends in Stop.
-use Rattle.std.proofs.Common.{◌≡◌, ℕ, zero, suc, ◌+◌, ◌<◌, ◌≤◌, Bool, true, false, List, [], ◌∷◌, ◌++◌, length, drop, Option, Some, None, refl, sym, ap, subst, ◌∙◌, arith, length-append, length-drop}
-use Rattle.std.specs.Prelude.{slice_get, ◌==◌, ◌&&◌, flat_map}
-use Rattle.std.specs.List.{list_all, range_with_len}
-use Rattle.be_link.specs.Queues.{Buffer, Numbered, is_flushed}
+use Rattle.std.proofs.Common.{◌≡◌, ℕ, ◌<◌, ◌≤◌, true, List, [], ◌∷◌, ◌++◌, length, refl, sym, ap, subst, ◌∙◌, arith, length-drop}
+use Rattle.std.specs.Prelude.{◌==◌, flat_map}
+use Rattle.std.specs.List.{list_all}
+use Rattle.be_link.specs.Queues.{Numbered, is_flushed}
 use Rattle.be_message.specs.Messages.{Message}
 use Rattle.be_port.specs.Ports.{Port, queue_of}
 use Rattle.be_script.specs.Limits.{IsWithinLimits}
 use Rattle.be_script.specs.Script.{Declared}
 use Rattle.be_machine.specs.Activities.{activity_of}
-use Rattle.be_machine.specs.Closing.{is_free, all_quiet}
+use Rattle.be_machine.specs.Closing.{all_quiet}
 use Rattle.be_machine.specs.declared.Act.TheVariants as act
 use Rattle.be_machine.specs.declared.Entry.{Entry}
 use Rattle.be_machine.specs.Happenings.{Happening, of_act, happenings_at}
 use Rattle.be_machine.specs.History.{AreLegalFrom, IsLegalHistory, state_from, state_after}
-use Rattle.be_machine.specs.Orderly.{Tally, first_tally, tally_from, AreInTurn, EndsInStop, IsEven, tally_of}
+use Rattle.be_machine.specs.Orderly.{Tally, first_tally, tally_from, EndsInStop, IsEven, tally_of}
 use Rattle.be_machine.specs.State.{State, opening_state}
 use Rattle.be_machine.specs.Step.{step}
-use Rattle.be_machine.specs.Update.{owes_notice}
 use Rattle.be_machine.proofs.HasParts.{HasParts, parts_from}
 use Rattle.be_machine.proofs.Lists.{IsThere, there, both_first, both_second, all_get, same_number}
 use Rattle.be_machine.proofs.Opening.{parts_opening, tallied_opening}

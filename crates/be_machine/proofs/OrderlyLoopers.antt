@@ -1,23 +1,21 @@
 -- Who has a looper, and what becomes of the duty of the letter in its hand.
-use Rattle.std.proofs.Common.{◌≡◌, ℕ, ◌+◌, Bool, true, false, List, [], ◌∷◌, Option, Some, None, refl, sym, ap, subst, ◌∙◌}
+use Rattle.std.proofs.Common.{◌≡◌, ℕ, Bool, true, false, [], ◌∷◌, Some, None, refl, sym, ap, subst, ◌∙◌}
 use Rattle.std.specs.Prelude.{slice_get, ◌==◌, if◌then◌else◌}
 use Rattle.be_handler.specs.declared.Route.{Route}
-use Rattle.be_handler.specs.declared.Route.TheVariants.{Skipped, Handler, Unknown}
-use Rattle.be_looper.specs.Duties.{Hand, waiter, duty_after_reply, duty_after_forward, reply_answer, EndTelling, nobody, no_reply, not_understood, telling_of, end_telling}
+use Rattle.be_looper.specs.Duties.{Hand, waiter, duty_after_reply, duty_after_forward, EndTelling, nobody, no_reply, not_understood, end_telling}
 use Rattle.be_message.specs.Messages.{Message}
 use Rattle.be_port.specs.declared.Duty.{Duty}
 use Rattle.be_port.specs.declared.Duty.TheVariants.{Free, Owed, Done}
 use Rattle.be_machine.specs.declared.EndAnswer.{EndAnswer}
 use Rattle.be_machine.specs.declared.EndAnswer.TheVariants as end
-use Rattle.be_machine.specs.Happenings.{Happening, locked, unlocked, replied, ended, only}
-use Rattle.be_machine.specs.Lists.{at}
+use Rattle.be_machine.specs.Happenings.{locked, unlocked, replied, ended, only}
 use Rattle.be_machine.specs.Looper.{with_looper, with_duty_by, freed}
-use Rattle.be_machine.specs.Orderly.{Tally, IsUnheld}
+use Rattle.be_machine.specs.Orderly.{Tally}
 use Rattle.be_machine.specs.State as state
 use Rattle.be_machine.specs.State.{State, Looper, Stage}
-use Rattle.be_machine.proofs.Lists.{AtPlace, same_element, place_here, place_elsewhere, place_kept}
+use Rattle.be_machine.proofs.Lists.{same_element, place_here, place_elsewhere, place_kept}
 use Rattle.be_machine.proofs.OrderlyPorts.{unheld}
-use Rattle.be_machine.proofs.Tallied.{is_handling, is_locked, waits_for, OfLooper, IsTallied, GoesOn, nothing_happens, at_window}
+use Rattle.be_machine.proofs.Tallied.{is_handling, OfLooper, IsTallied, GoesOn, at_window}
 
 -- a looper goes on in a way that shows nothing else
 pub looper_kept : (s : State) (v w : ℕ) (t : Tally) (f : Looper → Looper) → ((l : Looper) → OfLooper t l → OfLooper t (f l)) → IsTallied s w t → IsTallied (with_looper s v f) w t
@@ -105,15 +103,15 @@ pub reply_goes : (s : State) (v w m : ℕ) (t : Tally) (hand : Hand Message) (g 
 reply_goes s v w m t hand g read owed h =
     at_window (with_looper s v (with_duty_by duty_after_reply)) w v t _ (w == v) refl
     (λ same.
-        let here : IsTallied s v t = here_of s w v t same h in
-        let of_looper : OfLooper t (state.handling hand g) = here.looper (state.handling hand g) read in
-        record {
-          in_turn = (not_yet t.was_replied m (λ e. sym (ap waiter owed) ∙ of_looper.replied e), tt);
-          tallied = looper_here s v t t.in_hand t.in_lock true (with_duty_by duty_after_reply) (λ l there old.
-              let was : state.handling hand g ≡ l = same_element s.loopers v (state.handling hand g) l read there in
-              subst (λ x. OfLooper (record t { was_replied = true }) (with_duty_by duty_after_reply x)) was
-              (record { handles = of_looper.handles; locks = of_looper.locks; replied = λ e. ap (λ x. waiter (duty_after_reply x)) owed })) here;
-        })
+    let here : IsTallied s v t = here_of s w v t same h in
+    let of_looper : OfLooper t (state.handling hand g) = here.looper (state.handling hand g) read in
+    record {
+      in_turn = (not_yet t.was_replied m (λ e. sym (ap waiter owed) ∙ of_looper.replied e), tt);
+      tallied = looper_here s v t t.in_hand t.in_lock true (with_duty_by duty_after_reply) (λ l there old.
+          let was : state.handling hand g ≡ l = same_element s.loopers v (state.handling hand g) l read there in
+          subst (λ x. OfLooper (record t { was_replied = true }) (with_duty_by duty_after_reply x)) was
+          (record { handles = of_looper.handles; locks = of_looper.locks; replied = λ e. ap (λ x. waiter (duty_after_reply x)) owed })) here;
+    })
     (λ other. looper_elsewhere s v w t (with_duty_by duty_after_reply) other h)
 
 -- ---- the end of a message
@@ -133,10 +131,10 @@ pub end_goes : (s : State) (v w : ℕ) (t : Tally) (hand : Hand Message) (g : St
 end_goes s v w t hand g read h =
     at_window (freed s v) w v t _ (w == v) refl
     (λ same.
-        let here : IsTallied s v t = here_of s w v t same h in
-        let of_looper : OfLooper t (state.handling hand g) = here.looper (state.handling hand g) read in
-        record {
-          in_turn = (λ e. tells_nobody hand.duty hand.route (of_looper.replied e), tt);
-          tallied = looper_here s v t false t.in_lock t.was_replied (λ _. state.free) (λ l there old. record { handles = refl; locks = of_looper.locks; replied = λ e. refl }) here;
-        })
+    let here : IsTallied s v t = here_of s w v t same h in
+    let of_looper : OfLooper t (state.handling hand g) = here.looper (state.handling hand g) read in
+    record {
+      in_turn = (λ e. tells_nobody hand.duty hand.route (of_looper.replied e), tt);
+      tallied = looper_here s v t false t.in_lock t.was_replied (λ _. state.free) (λ l there old. record { handles = refl; locks = of_looper.locks; replied = λ e. refl }) here;
+    })
     (λ other. looper_elsewhere s v w t (λ _. state.free) other h)

@@ -1,17 +1,17 @@
 -- Letters arrive with the next numbers, and are taken in that order.
-use Rattle.std.proofs.Common.{◌≡◌, ℕ, suc, ◌+◌, ◌<◌, ◌≤◌, Bool, true, false, List, [], ◌∷◌, ◌++◌, length, Option, Some, None, refl, sym, ap, subst, ◌∙◌, arith, length-append}
+use Rattle.std.proofs.Common.{◌≡◌, ℕ, ◌+◌, ◌<◌, Bool, true, false, [], ◌∷◌, length, Some, refl, sym, ap, subst, ◌∙◌, arith, length-append}
 use Rattle.std.specs.Prelude.{slice_get, ◌==◌, if◌then◌else◌}
-use Rattle.std.proofs.lemmas.Option.{same_Some, slice_get_within}
+use Rattle.std.proofs.lemmas.Option.{slice_get_within}
 use Rattle.be_message.specs.Messages.{Message}
 use Rattle.be_port.specs.declared.Posted.{Posted}
 use Rattle.be_port.specs.declared.Posted.TheVariants.{Accepted, WouldBlock, BadPort, TooDeep}
 use Rattle.be_port.specs.Ports.{Letter, Port, judged, posted, is_accepted, with_letter, front, without_front, closed_port}
 use Rattle.be_script.specs.Script.{Declared}
-use Rattle.be_machine.specs.Happenings.{Happening, arrived, took, of_posted, only}
+use Rattle.be_machine.specs.Happenings.{arrived, took, of_posted, only}
 use Rattle.be_machine.specs.Lists.{at}
-use Rattle.be_machine.specs.Orderly.{Tally, tally_from, AreInTurn, IsUnheld}
+use Rattle.be_machine.specs.Orderly.{Tally, IsUnheld}
 use Rattle.be_machine.specs.Port.{with_post, notice, notified, with_letter_in_hand}
-use Rattle.be_machine.specs.State.{State, Looper, free}
+use Rattle.be_machine.specs.State.{State, free}
 use Rattle.be_machine.proofs.Lists.{AtPlace, same_element, place_here, place_elsewhere, place_kept}
 use Rattle.be_machine.proofs.Tallied.{is_locked, OfPort, OfLooper, IsTallied, GoesOn, nothing_happens, at_window}
 
@@ -87,12 +87,12 @@ pub notice_goes : (s : State) (v w : ℕ) (t : Tally) (p : Port Message) → sli
 notice_goes s v w t p read h =
     at_window (notified s v) w v t _ (w == v) refl
     (λ same.
-        let goes : GoesOn (record s { ports = at s.ports v (with_letter (notice v)) }) v t (arrived (length p.arrived + 1) ∷ []) =
-            arrives s v (length p.arrived + 1) t (with_letter (notice v)) (notice v) p read refl refl (subst (λ u. IsTallied s u t) same h) in
-        record { in_turn = goes.in_turn; tallied = record { port = goes.tallied.port; looper = goes.tallied.looper; buffer = goes.tallied.buffer; link = goes.tallied.link } })
+    let goes : GoesOn (record s { ports = at s.ports v (with_letter (notice v)) }) v t (arrived (length p.arrived + 1) ∷ []) =
+    arrives s v (length p.arrived + 1) t (with_letter (notice v)) (notice v) p read refl refl (subst (λ u. IsTallied s u t) same h) in
+    record { in_turn = goes.in_turn; tallied = record { port = goes.tallied.port; looper = goes.tallied.looper; buffer = goes.tallied.buffer; link = goes.tallied.link } })
     (λ other.
-        let is : IsTallied (record s { ports = at s.ports v (with_letter (notice v)) }) w t = port_elsewhere s v w t (with_letter (notice v)) other h in
-        record { port = is.port; looper = is.looper; buffer = is.buffer; link = is.link })
+    let is : IsTallied (record s { ports = at s.ports v (with_letter (notice v)) }) w t = port_elsewhere s v w t (with_letter (notice v)) other h in
+    record { port = is.port; looper = is.looper; buffer = is.buffer; link = is.link })
 
 -- a closed port has the letters that it had
 pub closing_tallied : (s : State) (v w : ℕ) (t : Tally) → IsTallied s w t → AtPlace (OfPort t) (at s.ports v closed_port) w
@@ -109,20 +109,20 @@ take_goes d s v w t p letter is_free read next h =
     let u : Tally = record t { taken_count = t.taken_count + 1; in_hand = true; was_replied = false } in
     at_window (with_letter_in_hand d s v letter) w v t _ (w == v) refl
     (λ same.
-        let here : IsTallied s v t = subst (λ x. IsTallied s x t) same h in
-        let port : OfPort t p = here.port p read in
-        let inside : p.taken < length p.arrived = slice_get_within p.arrived p.taken letter next in
-        record {
-          in_turn = ((omega (arith, port.taken_are), omega (arith, port.arrived_are, inside), unheld s v t is_free here), tt);
-          tallied = record {
-            port = place_here (OfPort t) (OfPort u) s.ports v without_front (λ x there old. record { arrived_are = old.arrived_are; taken_are = omega (arith, old.taken_are); within = omega (arith, port.arrived_are, port.taken_are, inside) }) here.port;
-            looper = place_here (OfLooper t) (OfLooper u) s.loopers v _ (λ x there old.
-                let was : free ≡ x = same_element s.loopers v free x is_free there in
-                record { handles = refl; locks = old.locks ∙ ap is_locked (sym was); replied = λ e. cc }) here.looper;
-            buffer = here.buffer;
-            link = here.link;
-          };
-        })
+    let here : IsTallied s v t = subst (λ x. IsTallied s x t) same h in
+    let port : OfPort t p = here.port p read in
+    let inside : p.taken < length p.arrived = slice_get_within p.arrived p.taken letter next in
+    record {
+      in_turn = ((omega (arith, port.taken_are), omega (arith, port.arrived_are, inside), unheld s v t is_free here), tt);
+      tallied = record {
+        port = place_here (OfPort t) (OfPort u) s.ports v without_front (λ x there old. record { arrived_are = old.arrived_are; taken_are = omega (arith, old.taken_are); within = omega (arith, port.arrived_are, port.taken_are, inside) }) here.port;
+        looper = place_here (OfLooper t) (OfLooper u) s.loopers v _ (λ x there old.
+            let was : free ≡ x = same_element s.loopers v free x is_free there in
+            record { handles = refl; locks = old.locks ∙ ap is_locked (sym was); replied = λ e. cc }) here.looper;
+        buffer = here.buffer;
+        link = here.link;
+      };
+    })
     (λ other. record {
       port = place_elsewhere (OfPort t) s.ports v w without_front (λ e. other (sym e)) h.port;
       looper = place_elsewhere (OfLooper t) s.loopers v w _ (λ e. other (sym e)) h.looper;

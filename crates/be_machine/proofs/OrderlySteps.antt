@@ -1,50 +1,41 @@
 -- What a legal entry says of a window may happen there next, and the tally behind it is that of the state behind it.
-use Rattle.std.proofs.Common.{◌≡◌, ℕ, ◌+◌, Bool, true, false, List, [], ◌∷◌, ◌++◌, length, Option, Some, None, refl, sym, ap, subst, ◌∙◌}
-use Rattle.std.specs.Prelude.{slice_get, ◌==◌, option_map, option_and_then, if◌then◌else◌, Result, Ok, Err}
+use Rattle.std.proofs.Common.{◌≡◌, ℕ, ◌+◌, Bool, true, false, List, [], length, Option, Some, None, refl, sym, subst}
+use Rattle.std.specs.Prelude.{slice_get, ◌==◌, option_and_then, if◌then◌else◌, Result, Ok, Err}
 use Rattle.std.specs.Option.{option_map_or}
 use Rattle.std.proofs.lemmas.Option.{same_Some}
 use Rattle.be_actor.specs.declared.Wish.{Wish}
-use Rattle.be_actor.specs.declared.Wish.TheVariants as wish
 use Rattle.be_bitmap.specs.Pictures.{Picture}
 use Rattle.be_command.specs.declared.Command.{Command}
-use Rattle.be_command.specs.declared.Command.TheVariants.{EndUpdate}
 use Rattle.be_command.specs.Effects.{Effect, at_view, changes, ends_update, effect_of}
 use Rattle.be_desk.specs.Changes.{Desk, desk_after}
 use Rattle.be_geom.specs.declared.change.Change.{Change}
 use Rattle.be_geom.specs.declared.change.Change.TheVariants.{Show, Hide, MoveTo, MoveBy, ResizeTo, Activate, Behind, Focus, Close}
 use Rattle.be_link.specs.Queues.{Numbered, Buffer, is_full, fits}
-use Rattle.be_looper.specs.Duties.{Hand, waiter, reply_answer, duty_after_reply, duty_after_forward, duty_handed_on, end_telling, EndTelling, nobody, no_reply, not_understood}
+use Rattle.be_looper.specs.Duties.{Hand, waiter, duty_after_forward, duty_handed_on}
 use Rattle.be_message.specs.declared.target.Target.{Target}
 use Rattle.be_message.specs.Messages.{Message}
 use Rattle.be_pane.specs.Panes.{Pane}
 use Rattle.be_port.specs.declared.Duty.{Duty}
-use Rattle.be_port.specs.declared.Duty.TheVariants as duty
-use Rattle.be_port.specs.Ports.{Letter, Port, judged, front}
-use Rattle.be_script.specs.Limits.{IsWithinLimits}
+use Rattle.be_port.specs.Ports.{Letter, Port, judged}
 use Rattle.be_script.specs.Script.{Declared}
 use Rattle.be_stack.specs.declared.fault.ChangeFault.{ChangeFault}
-use Rattle.be_machine.specs.Activities.{Runner, app, looper, Activity, runner, twin, input, closing, sender_of}
+use Rattle.be_machine.specs.Activities.{Runner, app, looper, Activity, twin, sender_of}
 use Rattle.be_machine.specs.Commands.{draw_act, flush_act, sync_act, exec_act, effect_outcome, drawn, flushed, with_effect, done_at_view, without_front, executed_command, executed}
 use Rattle.be_machine.specs.declared.Act.{Act}
 use Rattle.be_machine.specs.declared.Act.TheVariants as act
-use Rattle.be_machine.specs.declared.Replied.TheVariants as reply
 use Rattle.be_machine.specs.Happenings.{Happening, of_posted, of_act}
-use Rattle.be_machine.specs.Legal.{wish_act, want_act}
-use Rattle.be_machine.specs.Lists.{at, with_both}
-use Rattle.be_machine.specs.Looper.{lock_act, locked_for, freed, sent, sent_duty, with_waiting, told, with_duty, replied_by, reply_act, answer_of, forwarded, forwarded_hand, end_act, end_of, ended_hand, told_at_end, claimed}
+use Rattle.be_machine.specs.Looper.{sent, sent_duty, with_waiting, told, with_duty, forwarded_hand, claimed}
 use Rattle.be_machine.specs.Orderly.{Tally}
-use Rattle.be_machine.specs.Port.{post_act, letter, with_post, is_accepted_at, notify_act, notified, take_act, with_letter_in_hand, taken}
-use Rattle.be_machine.specs.Program.{window_of, hop_of, hand_at, hand_in, hand_of, locked_by, looper_gone_on, moved_on}
-use Rattle.be_machine.specs.State.{State, Looper, free, locked, handling, Stage, at_close}
-use Rattle.be_machine.specs.Step.{granted, is_accepted_wish, met}
-use Rattle.be_machine.specs.Update.{at_stage, begin_act, begun, opened, passed_by}
+use Rattle.be_machine.specs.Port.{post_act, letter, with_post, is_accepted_at}
+use Rattle.be_machine.specs.Program.{hop_of, looper_gone_on, moved_on}
+use Rattle.be_machine.specs.State.{State, Looper, free, locked, handling, Stage}
+use Rattle.be_machine.specs.Update.{at_stage}
 use Rattle.be_machine.specs.Windows.{changed, changed_to, ports_after}
-use Rattle.be_machine.proofs.BodyWishes.{is_body_wish}
-use Rattle.be_machine.proofs.Found.{IsMapped, mapped, IsChained, chained, IsJoined, joined, IsTested, tested, untested, locked_there}
+use Rattle.be_machine.proofs.Found.{IsMapped, mapped, IsChained, chained, IsJoined, joined, IsTested, tested, untested}
 use Rattle.be_machine.proofs.Lists.{AtPlace}
 use Rattle.be_machine.proofs.OrderlyCommands.{draw_goes, flush_goes, exec_goes}
-use Rattle.be_machine.proofs.OrderlyLoopers.{looper_kept, lock_goes, unlock_goes, duty_kept, forward_keeps, reply_keeps, reply_goes, end_goes}
-use Rattle.be_machine.proofs.OrderlyPorts.{post_goes, notice_goes, take_goes, closing_tallied}
+use Rattle.be_machine.proofs.OrderlyLoopers.{looper_kept, duty_kept, forward_keeps}
+use Rattle.be_machine.proofs.OrderlyPorts.{post_goes, closing_tallied}
 use Rattle.be_machine.proofs.Tallied.{OfLooper, OfPort, IsTallied, GoesOn, nothing_happens}
 
 -- what an act of someone says of window w, and that it goes on
@@ -134,7 +125,7 @@ draw_done s who v w t c a e h =
 pub flush_done : (s : State) (who : Activity) (v w : ℕ) (t : Tally) (a : Act) → flush_act s v ≡ Some a → IsTallied s w t → Goes (flushed s v) w t who a
 flush_done s who v w t a e h =
     let at : IsJoined (λ b link. if fits b link then Some (act.Flush v (length b.commands)) else None) (slice_get s.buffers v) (slice_get s.links v) a =
-        joined (λ (b : Buffer) (link : List Numbered). if fits b link then Some (act.Flush v (length b.commands)) else None) (slice_get s.buffers v) (slice_get s.links v) a e in
+    joined (λ (b : Buffer) (link : List Numbered). if fits b link then Some (act.Flush v (length b.commands)) else None) (slice_get s.buffers v) (slice_get s.links v) a e in
     let is : IsTested (fits at.first at.second) (act.Flush v (length at.first.commands)) a = tested (fits at.first at.second) (act.Flush v (length at.first.commands)) a at.is in
     with_act (flushed s v) w t who (act.Flush v (length at.first.commands)) a is.is (flush_goes s v w t at.first at.read_first h)
 
@@ -177,10 +168,10 @@ unfolding executed
 exec_done d s v w t a e h =
     let oldest : Option Numbered = option_and_then (λ link. slice_get link 0) (slice_get s.links v) in
     let at : IsJoined (λ pane c. Some (act.Exec c.number (effect_outcome d.pictures s v (effect_of c.command) pane))) (slice_get s.panes v) oldest a =
-        joined (λ (pane : Pane) (c : Numbered). Some (act.Exec c.number (effect_outcome d.pictures s v (effect_of c.command) pane))) (slice_get s.panes v) oldest a e in
+    joined (λ (pane : Pane) (c : Numbered). Some (act.Exec c.number (effect_outcome d.pictures s v (effect_of c.command) pane))) (slice_get s.panes v) oldest a e in
     let link : IsChained (λ link. slice_get link 0) (slice_get s.links v) at.second = chained (λ (link : List Numbered). slice_get link 0) (slice_get s.links v) at.second at.read_second in
     let goes : Goes (without_front s v) w t (twin v) (act.Exec at.second.number (effect_outcome d.pictures s v (effect_of at.second.command) at.first)) = exec_goes s v w t at.second link.from link.read link.is h in
     let after : Goes (executed_command d s v at.second) w t (twin v) (act.Exec at.second.number (effect_outcome d.pictures s v (effect_of at.second.command) at.first)) =
-        other_state (without_front s v) (executed_command d s v at.second) w t _ (λ u k. effect_tallied d.pictures (without_front s v) v w u (effect_of at.second.command) k) goes in
+    other_state (without_front s v) (executed_command d s v at.second) w t _ (λ u k. effect_tallied d.pictures (without_front s v) v w u (effect_of at.second.command) k) goes in
     subst (λ o. Goes (option_map_or (executed_command d s v) o s) w t (twin v) a) (sym at.read_second)
     (with_act (executed_command d s v at.second) w t (twin v) _ a (same_Some _ a at.is) after)

@@ -1,51 +1,32 @@
 -- What an entry that an instruction asks for says of a window may happen there next.
-use Rattle.std.proofs.Common.{◌≡◌, ℕ, ◌+◌, Bool, true, false, List, [], ◌∷◌, ◌++◌, length, Option, Some, None, refl, sym, ap, subst, ◌∙◌}
-use Rattle.std.specs.Prelude.{slice_get, ◌==◌, option_map, option_and_then, if◌then◌else◌, Result, Ok, Err}
+use Rattle.std.proofs.Common.{◌≡◌, ℕ, true, Option, Some, None, refl, sym, ap, subst, ◌∙◌}
+use Rattle.std.specs.Prelude.{slice_get, ◌==◌, option_map, option_and_then}
 use Rattle.std.specs.Option.{option_map_or}
 use Rattle.std.proofs.lemmas.Option.{same_Some}
 use Rattle.be_actor.specs.declared.Wish.{Wish}
 use Rattle.be_actor.specs.declared.Wish.TheVariants as wish
-use Rattle.be_bitmap.specs.Pictures.{Picture}
-use Rattle.be_command.specs.declared.Command.{Command}
-use Rattle.be_command.specs.declared.Command.TheVariants.{EndUpdate}
-use Rattle.be_command.specs.Effects.{Effect, at_view, changes, ends_update, effect_of}
-use Rattle.be_desk.specs.Changes.{Desk, desk_after}
-use Rattle.be_geom.specs.declared.change.Change.{Change}
-use Rattle.be_geom.specs.declared.change.Change.TheVariants.{Show, Hide, MoveTo, MoveBy, ResizeTo, Activate, Behind, Focus, Close}
-use Rattle.be_link.specs.Queues.{Numbered, Buffer, is_full, fits}
-use Rattle.be_looper.specs.Duties.{Hand, waiter, reply_answer, duty_after_reply, duty_after_forward, duty_handed_on, end_telling, EndTelling, nobody, no_reply, not_understood}
+use Rattle.be_looper.specs.Duties.{Hand, reply_answer, duty_after_reply, duty_handed_on}
 use Rattle.be_message.specs.declared.target.Target.{Target}
 use Rattle.be_message.specs.Messages.{Message}
-use Rattle.be_pane.specs.Panes.{Pane}
 use Rattle.be_port.specs.declared.Duty.{Duty}
 use Rattle.be_port.specs.declared.Duty.TheVariants as duty
-use Rattle.be_port.specs.Ports.{Letter, Port, judged, front}
 use Rattle.be_script.specs.Limits.{IsWithinLimits}
 use Rattle.be_script.specs.Script.{Declared}
-use Rattle.be_stack.specs.declared.fault.ChangeFault.{ChangeFault}
-use Rattle.be_machine.specs.Activities.{Runner, app, looper, Activity, runner, twin, input, closing, sender_of}
-use Rattle.be_machine.specs.Commands.{draw_act, flush_act, sync_act, exec_act, effect_outcome, drawn, flushed, with_effect, done_at_view, without_front, executed_command, executed}
+use Rattle.be_machine.specs.Activities.{Runner, app, looper, runner, sender_of}
+use Rattle.be_machine.specs.Commands.{draw_act, flush_act, sync_act, drawn, flushed}
 use Rattle.be_machine.specs.declared.Act.{Act}
 use Rattle.be_machine.specs.declared.Act.TheVariants as act
-use Rattle.be_machine.specs.declared.Replied.TheVariants as reply
-use Rattle.be_machine.specs.Happenings.{Happening, of_posted, of_act}
-use Rattle.be_machine.specs.Legal.{wish_act, want_act}
-use Rattle.be_machine.specs.Lists.{at, with_both}
-use Rattle.be_machine.specs.Looper.{with_looper, lock_act, locked_for, freed, sent, sent_duty, with_waiting, told, with_duty, replied_by, claim_act, reply_for, kind_of_reply, reply_act, answer_of, forwarded, forwarded_hand, end_act, end_of, ended_hand, told_at_end, claimed}
+use Rattle.be_machine.specs.Legal.{wish_act}
+use Rattle.be_machine.specs.Looper.{with_looper, lock_act, locked_for, freed, sent_duty, told, with_duty, replied_by, claim_act, reply_for, kind_of_reply, reply_act, answer_of, forwarded, forwarded_hand, claimed}
 use Rattle.be_machine.specs.Orderly.{Tally}
-use Rattle.be_machine.specs.Port.{post_act, letter, with_post, is_accepted_at, notify_act, notified, take_act, with_letter_in_hand, taken}
-use Rattle.be_machine.specs.Program.{window_of, hop_of, hand_at, hand_in, hand_of, locked_by, looper_gone_on, moved_on}
-use Rattle.be_machine.specs.State.{State, Looper, free, locked, handling, Stage, at_close}
-use Rattle.be_machine.specs.Step.{granted, is_accepted_wish, met}
-use Rattle.be_machine.specs.Update.{at_stage, begin_act, begun, opened, passed_by}
-use Rattle.be_machine.specs.Windows.{changed, changed_to, ports_after}
+use Rattle.be_machine.specs.Port.{post_act, letter}
+use Rattle.be_machine.specs.Program.{hop_of, hand_at, hand_in, locked_by, moved_on}
+use Rattle.be_machine.specs.State.{State, Looper, free, locked, handling, Stage}
+use Rattle.be_machine.specs.Step.{granted, is_accepted_wish}
 use Rattle.be_machine.proofs.BodyWishes.{is_body_wish, is_app_wish, IsHandling, body_asks, hand_asks, app_asks}
-use Rattle.be_machine.proofs.Found.{IsMapped, mapped, IsChained, chained, IsJoined, joined, IsTested, tested, untested, locked_there}
-use Rattle.be_machine.proofs.Lists.{AtPlace}
-use Rattle.be_machine.proofs.OrderlyCommands.{draw_goes, flush_goes, exec_goes}
-use Rattle.be_machine.proofs.OrderlyLoopers.{looper_kept, lock_goes, unlock_goes, duty_kept, forward_keeps, reply_keeps, reply_goes, end_goes}
-use Rattle.be_machine.proofs.OrderlyPorts.{post_goes, notice_goes, take_goes, closing_tallied}
-use Rattle.be_machine.proofs.Tallied.{OfLooper, OfPort, IsTallied, GoesOn, nothing_happens}
+use Rattle.be_machine.proofs.Found.{IsMapped, mapped, IsChained, chained, locked_there}
+use Rattle.be_machine.proofs.OrderlyLoopers.{lock_goes, unlock_goes, reply_keeps, reply_goes}
+use Rattle.be_machine.proofs.Tallied.{IsTallied, GoesOn, nothing_happens}
 use Rattle.be_machine.specs.Wants.{asks, want_of}
 use Rattle.be_machine.proofs.OrderlySteps.{Goes, with_act, moves, nothing_if, told_tallied, claimed_tallied, duty_tallied, post_done, forwarded_tallied, sent_tallied, draw_done, flush_done, sync_done}
 

@@ -1,6 +1,6 @@
 -- What the limits of a script say of the instructions that loopers and applications run.
-use Rattle.std.proofs.Common.{◌≡◌, ℕ, Bool, true, false, List, [], ◌∷◌, Option, Some, None, refl, sym, ap, subst, ◌∙◌}
-use Rattle.std.specs.Prelude.{◌==◌, ◌&&◌, find, filter, flat_map, slice_get}
+use Rattle.std.proofs.Common.{◌≡◌, ℕ, true, List, Option, Some, None, refl, subst}
+use Rattle.std.specs.Prelude.{◌==◌, ◌&&◌, find, slice_get}
 use Rattle.std.specs.List.{list_all}
 use Rattle.be_actor.specs.declared.Instruction.{Instruction}
 use Rattle.be_handler.specs.declared.Route.{Route}
@@ -8,8 +8,8 @@ use Rattle.be_handler.specs.declared.Route.TheVariants.{Skipped, Handler, Unknow
 use Rattle.be_script.specs.declared.AppLine.{AppLine}
 use Rattle.be_script.specs.declared.BodyLine.{BodyLine}
 use Rattle.be_script.specs.declared.DrawLine.{DrawLine}
-use Rattle.be_script.specs.Limits.{IsWithinLimits, is_window, is_body_line, is_draw_line}
-use Rattle.be_script.specs.Programs.{is_handler_of, is_short, is_body_step, is_body_program, is_draw_step, is_draw_program, is_app_program, is_rest_of_app, view_count}
+use Rattle.be_script.specs.Limits.{IsWithinLimits, is_body_line, is_draw_line}
+use Rattle.be_script.specs.Programs.{is_short, is_body_step, is_body_program, is_draw_step, is_draw_program, is_app_program, is_rest_of_app}
 use Rattle.be_script.specs.Script.{Declared}
 use Rattle.be_script.specs.Windows.{body_lines, is_body_of, steps_of, body_program, draw_steps, draw_program}
 use Rattle.be_machine.specs.Program.{update_program, app_steps, app_program}

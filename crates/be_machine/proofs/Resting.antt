@@ -1,67 +1,42 @@
 -- Only the closing activity stops, and only where all has come to rest.
-use Rattle.std.proofs.Common.{◌≡◌, ℕ, ◌+◌, Bool, true, false, List, [], ◌∷◌, ◌++◌, length, Option, Some, None, refl, sym, ap, subst, ◌∙◌}
-use Rattle.std.specs.Prelude.{slice_get, ◌==◌, option_map, option_and_then, if◌then◌else◌, Result, Ok, Err}
-use Rattle.std.specs.Option.{option_map_or}
-use Rattle.std.proofs.lemmas.Option.{same_Some}
+use Rattle.std.proofs.Common.{◌≡◌, ℕ, ◌+◌, Bool, true, false, List, length, Option, Some, None, refl, ap, subst, ◌∙◌}
+use Rattle.std.specs.Prelude.{slice_get, ◌==◌, option_map, option_and_then, if◌then◌else◌}
 use Rattle.be_actor.specs.declared.Wish.{Wish}
 use Rattle.be_actor.specs.declared.Wish.TheVariants as wish
-use Rattle.be_bitmap.specs.Pictures.{Picture}
-use Rattle.be_command.specs.declared.Command.{Command}
-use Rattle.be_command.specs.declared.Command.TheVariants.{EndUpdate}
-use Rattle.be_command.specs.Effects.{Effect, at_view, changes, ends_update, effect_of}
-use Rattle.be_desk.specs.Changes.{Desk, desk_after}
-use Rattle.be_geom.specs.declared.change.Change.{Change}
-use Rattle.be_geom.specs.declared.change.Change.TheVariants.{Show, Hide, MoveTo, MoveBy, ResizeTo, Activate, Behind, Focus, Close}
+use Rattle.be_command.specs.Effects.{effect_of}
 use Rattle.be_link.specs.Queues.{Numbered, Buffer, is_full, fits}
-use Rattle.be_looper.specs.Duties.{Hand, waiter, reply_answer, duty_after_reply, duty_after_forward, duty_handed_on, end_telling, EndTelling, nobody, no_reply, not_understood}
-use Rattle.be_message.specs.declared.target.Target.{Target}
+use Rattle.be_looper.specs.Duties.{Hand, reply_answer, end_telling, EndTelling, nobody, no_reply, not_understood}
 use Rattle.be_message.specs.Messages.{Message}
 use Rattle.be_pane.specs.Panes.{Pane}
 use Rattle.be_port.specs.declared.Duty.{Duty}
 use Rattle.be_port.specs.declared.Duty.TheVariants as duty
 use Rattle.be_port.specs.Ports.{Letter, Port, judged, front}
-use Rattle.be_script.specs.Limits.{IsWithinLimits}
 use Rattle.be_script.specs.Script.{Declared}
-use Rattle.be_stack.specs.declared.fault.ChangeFault.{ChangeFault}
-use Rattle.be_machine.specs.Activities.{Runner, app, looper, Activity, runner, twin, input, closing, sender_of}
-use Rattle.be_machine.specs.Commands.{draw_act, flush_act, sync_act, exec_act, effect_outcome, drawn, flushed, with_effect, done_at_view, without_front, executed_command, executed}
+use Rattle.be_machine.specs.Activities.{Runner}
+use Rattle.be_machine.specs.Commands.{draw_act, flush_act, sync_act, exec_act, effect_outcome}
 use Rattle.be_machine.specs.declared.Act.{Act}
 use Rattle.be_machine.specs.declared.Act.TheVariants as act
-use Rattle.be_machine.specs.declared.Replied.TheVariants as reply
-use Rattle.be_machine.specs.Happenings.{Happening, of_posted, of_act, of_delivery, happenings_at}
 use Rattle.be_machine.specs.Legal.{wish_act, want_act}
-use Rattle.be_machine.specs.Lists.{at, with_both}
-use Rattle.be_machine.specs.Looper.{with_looper, lock_act, locked_for, freed, sent, sent_duty, with_waiting, told, with_duty, replied_by, reply_act, answer_of, forwarded, forwarded_hand, end_act, end_of, ended_hand, told_at_end, claimed}
-use Rattle.be_machine.specs.Orderly.{Tally, tally_from, AreInTurn, first_tally}
-use Rattle.be_machine.specs.Port.{post_act, letter, with_post, is_accepted_at, notify_act, notified, take_act, with_letter_in_hand, taken}
-use Rattle.be_machine.specs.Program.{window_of, hop_of, hand_at, hand_in, hand_of, locked_by, looper_gone_on, moved_on}
-use Rattle.be_machine.specs.State.{State, Looper, free, locked, handling, Stage, at_close}
-use Rattle.be_machine.specs.Step.{granted, is_accepted_wish, met}
-use Rattle.be_machine.specs.Update.{at_stage, begin_act, begun, opened, passed_by}
-use Rattle.be_machine.specs.Windows.{changed, changed_to, ports_after}
-use Rattle.be_geom.specs.declared.point.Point.{Point}
-use Rattle.be_input.specs.declared.Event.{Event}
-use Rattle.be_input.specs.declared.Event.TheVariants as event
-use Rattle.be_input.specs.Deliveries.{Post, Delivery}
-use Rattle.be_port.specs.declared.Posted.{Posted}
+use Rattle.be_machine.specs.Looper.{lock_act, answer_of, end_act, end_of}
+use Rattle.be_machine.specs.Port.{post_act, take_act}
+use Rattle.be_machine.specs.Program.{window_of, hop_of, hand_at, hand_of}
+use Rattle.be_machine.specs.State.{State, Looper, free, locked, handling}
+use Rattle.be_machine.specs.Step.{met}
 use Rattle.be_script.specs.declared.InputLine.{InputLine}
 use Rattle.be_script.specs.declared.InputLine.TheVariants as line
-use Rattle.be_machine.specs.Activities.{activity_of}
 use Rattle.be_machine.specs.Closing.{stop_act, stopped, all_done, all_quiet}
 use Rattle.be_machine.specs.declared.Entry.{Entry}
-use Rattle.be_machine.specs.History.{AreLegalFrom, state_from}
-use Rattle.be_machine.specs.Input.{input_letter, ports_with, outcome_in, delivery_act, delivery_of, event_act, after_act, used, with_under, activated, with_delivery, with_event}
+use Rattle.be_machine.specs.Input.{event_act}
 use Rattle.be_machine.specs.Legal.{IsLegal}
 use Rattle.be_machine.specs.Program.{has_ended}
 use Rattle.be_machine.specs.Step.{step}
-use Rattle.be_machine.specs.Wants.{Want, asks, takes, begins, flushes, draws_end, ends, notifies, executes, uses, stops, want_of}
-use Rattle.be_machine.specs.Windows.{corner_at, dirty_of}
+use Rattle.be_machine.specs.Wants.{Want, asks, takes, begins, flushes, draws_end, ends, notifies, executes, uses, stops}
+use Rattle.be_machine.specs.Windows.{dirty_of}
 use Rattle.be_update.specs.Sessions.{is_any}
-use Rattle.std.specs.Prelude.{flat_map, not, ◌&&◌}
-use Rattle.be_machine.specs.Legal as legal
-use Rattle.be_machine.specs.Looper.{claim_act, reply_for, kind_of_reply}
+use Rattle.std.specs.Prelude.{not, ◌&&◌}
+use Rattle.be_machine.specs.Looper.{reply_for, kind_of_reply}
 use Rattle.be_machine.proofs.Found.{IsMapped, mapped, IsChained, chained, IsJoined, joined, IsTested, tested, untested}
-use Rattle.be_machine.proofs.LegalEntries.{IsMet, met_by, maker, maker_is}
+use Rattle.be_machine.proofs.LegalEntries.{IsMet, met_by}
 
 not_mapped : {X : Type 0} (f : X → Act) (o : Option X) → ((x : X) → f x ≡ act.Stop → ⊥) → option_map f o ≡ Some act.Stop → ⊥
 not_mapped f o other e = let at : IsMapped f o act.Stop = mapped f o act.Stop e in other at.from at.is
@@ -81,7 +56,7 @@ no_post s v hop e = not_mapped (λ (p : Port Message). act.Post v (judged p hop)
 no_flush : (s : State) (v : ℕ) → flush_act s v ≡ Some act.Stop → ⊥
 no_flush s v e =
     let at : IsJoined (λ b link. if fits b link then Some (act.Flush v (length b.commands)) else None) (slice_get s.buffers v) (slice_get s.links v) act.Stop =
-        joined (λ (b : Buffer) (link : List Numbered). if fits b link then Some (act.Flush v (length b.commands)) else None) (slice_get s.buffers v) (slice_get s.links v) act.Stop e in
+    joined (λ (b : Buffer) (link : List Numbered). if fits b link then Some (act.Flush v (length b.commands)) else None) (slice_get s.buffers v) (slice_get s.links v) act.Stop e in
     not_tested (fits at.first at.second) (act.Flush v (length at.first.commands)) (λ h. cc) at.is
 
 no_sync : (s : State) (v : ℕ) → sync_act s v ≡ Some act.Stop → ⊥
@@ -134,7 +109,7 @@ no_event d s (line.After m) e = not_tested (has_ended d s m) (act.Event (s.event
 no_exec : (d : Declared) (s : State) (v : ℕ) → exec_act d s v ≡ Some act.Stop → ⊥
 no_exec d s v e =
     let at : IsJoined (λ pane c. Some (act.Exec c.number (effect_outcome d.pictures s v (effect_of c.command) pane))) (slice_get s.panes v) (option_and_then (λ link. slice_get link 0) (slice_get s.links v)) act.Stop =
-        joined (λ (pane : Pane) (c : Numbered). Some (act.Exec c.number (effect_outcome d.pictures s v (effect_of c.command) pane))) (slice_get s.panes v) (option_and_then (λ link. slice_get link 0) (slice_get s.links v)) act.Stop e in
+    joined (λ (pane : Pane) (c : Numbered). Some (act.Exec c.number (effect_outcome d.pictures s v (effect_of c.command) pane))) (slice_get s.panes v) (option_and_then (λ link. slice_get link 0) (slice_get s.links v)) act.Stop e in
     let is : Some (act.Exec at.second.number (effect_outcome d.pictures s v (effect_of at.second.command) at.first)) ≡ Some act.Stop = at.is in
     cc
 

@@ -1,14 +1,13 @@
 -- The tally of a window is that of its port, its looper, its buffer and its link.
-use Rattle.std.proofs.Common.{◌≡◌, ℕ, suc, ◌+◌, ◌<◌, ◌≤◌, Bool, true, false, List, [], ◌∷◌, ◌++◌, length, Option, Some, None, refl, sym, ap, subst, ◌∙◌, arith, length-append}
-use Rattle.std.specs.Prelude.{slice_get, ◌==◌, drop, if◌then◌else◌}
+use Rattle.std.proofs.Common.{◌≡◌, ℕ, ◌+◌, ◌≤◌, Bool, true, false, List, [], ◌∷◌, ◌++◌, length, Option, None, refl, sym, subst, arith}
+use Rattle.std.specs.Prelude.{◌==◌, if◌then◌else◌}
 use Rattle.be_link.specs.Queues.{Numbered, Buffer}
-use Rattle.be_looper.specs.Duties.{Hand, waiter}
+use Rattle.be_looper.specs.Duties.{waiter}
 use Rattle.be_message.specs.Messages.{Message}
-use Rattle.be_port.specs.declared.Duty.{Duty}
 use Rattle.be_port.specs.Ports.{Port}
 use Rattle.be_machine.specs.Happenings.{Happening}
 use Rattle.be_machine.specs.Orderly.{Tally, counted, tally_from, AreInTurn}
-use Rattle.be_machine.specs.State.{State, Looper, free, locked, handling, Stage}
+use Rattle.be_machine.specs.State.{State, Looper, free, locked, handling}
 use Rattle.be_machine.proofs.Lists.{AtPlace, same_number, other_number}
 
 -- ---- what the parts show

@@ -1,0 +1,7 @@
+use Rattle.std.specs.Prelude.{refl}
+use Rattle.machine_examples.specs.Opened.{the_machine}
+use Rattle.machine_examples.proofs.posted_to_and_fro.Goals as goal
+
+pub returns : goal.returns
+unfolding the_machine
+returns c = record { entries = refl; screen = refl; work = refl; trace_0 = refl; trace_1 = refl; trace_2 = refl }

@@ -1,0 +1,84 @@
+-- Presses on an inactive window, on the active one, and on one that accepts the first click. All entries, the screen, the traces and the work.
+use Rattle.std.specs.Prelude.{◌≡◌, pos, true, false, List, [], ◌∷◌, Some, None, map}
+use Rattle.be_actor.specs.declared.Instruction.TheVariants as instruction
+use Rattle.be_color.specs.declared.colors.Color.TheVariants.{Solid}
+use Rattle.be_command.specs.declared.Command.TheVariants as command
+use Rattle.be_geom.specs.declared.change.Change.TheVariants as change
+use Rattle.be_geom.specs.Places.{at_pixel}
+use Rattle.be_handler.specs.declared.Route.TheVariants as route
+use Rattle.be_machine.specs.Activities as runner
+use Rattle.be_machine.specs.declared.Act.TheVariants as act
+use Rattle.be_machine.specs.declared.EndAnswer.TheVariants as end
+use Rattle.be_machine.specs.declared.Entry.{Entry}
+use Rattle.be_machine.specs.History.{state_after}
+use Rattle.be_machine.specs.Schedule.{first_entries}
+use Rattle.be_message.specs.declared.kind.Kind.TheVariants as kind
+use Rattle.be_message.specs.declared.target.Target.TheVariants as target
+use Rattle.be_message.specs.Messages.{point}
+use Rattle.be_port.specs.declared.Posted.TheVariants as posted
+use Rattle.be_port.specs.declared.Sender.TheVariants as sender
+use Rattle.be_script.specs.declared.InputLine.TheVariants as input
+use Rattle.be_script.specs.Script.{Declared}
+use Rattle.be_script.specs.Work.{work_of}
+use Rattle.be_twin.specs.declared.Outcome.TheVariants as outcome
+use Rattle.machine_examples.specs.Words.{rect, rgb, pattern, draft, entry, shown_traces}
+use Rattle.machine_examples.specs.Words as shown
+
+abbrev pub row : Declared
+row = record {
+  width = 2;
+  height = 1;
+  pictures = [];
+  windows = record { name = (97 ∷ []); frame = (rect (pos 0) (pos 0) (pos 0) (pos 0)); first_click = false; avoid_focus = false; port = 100; color = (Solid (rgb 255 255 255)) } ∷ record { name = (98 ∷ []); frame = (rect (pos 1) (pos 0) (pos 1) (pos 0)); first_click = true; avoid_focus = false; port = 100; color = (Solid (rgb 255 255 255)) } ∷ [];
+  views = [];
+  handlers = [];
+  filters = [];
+  bodies = [];
+  draws = [];
+  apps = record { name = (109 ∷ []); program = instruction.Lock 0 ∷ instruction.Draw (command.Change change.Show) ∷ instruction.Unlock ∷ instruction.Lock 1 ∷ instruction.Draw (command.Change change.Show) ∷ instruction.Unlock ∷ [] } ∷ [];
+  input = input.Press (at_pixel (pos 0) (pos 0)) ∷ input.Press (at_pixel (pos 0) (pos 0)) ∷ input.Press (at_pixel (pos 1) (pos 0)) ∷ [];
+}
+
+abbrev pub history : List Entry
+history =
+    entry 0 (act.Lock 0)
+    ∷ entry 0 (act.Draw 0 1)
+    ∷ entry 0 (act.Flush 0 1)
+    ∷ entry 0 (act.Unlock 0)
+    ∷ entry 0 (act.Lock 1)
+    ∷ entry 0 (act.Draw 1 1)
+    ∷ entry 0 (act.Flush 1 1)
+    ∷ entry 0 (act.Unlock 1)
+    ∷ entry 2 (act.Exec 1 outcome.Done)
+    ∷ entry 2 (act.Notify 1)
+    ∷ entry 1 (act.Take 1)
+    ∷ entry 1 (act.Begin true)
+    ∷ entry 1 (act.Draw 0 2)
+    ∷ entry 1 (act.Flush 0 1)
+    ∷ entry 1 (act.End end.Nothing)
+    ∷ entry 2 (act.Exec 2 outcome.Done)
+    ∷ entry 4 (act.Exec 1 outcome.Done)
+    ∷ entry 4 (act.Notify 1)
+    ∷ entry 3 (act.Take 1)
+    ∷ entry 3 (act.Begin true)
+    ∷ entry 3 (act.Draw 1 2)
+    ∷ entry 3 (act.Flush 1 1)
+    ∷ entry 3 (act.End end.Nothing)
+    ∷ entry 4 (act.Exec 2 outcome.Done)
+    ∷ entry 5 (act.Event 1 None None)
+    ∷ entry 5 (act.Event 2 (Some (0, (posted.Accepted 2))) None)
+    ∷ entry 1 (act.Take 2)
+    ∷ entry 1 (act.End end.Nothing)
+    ∷ entry 5 (act.Event 3 (Some (1, (posted.Accepted 2))) None)
+    ∷ entry 3 (act.Take 2)
+    ∷ entry 3 (act.End end.Nothing)
+    ∷ entry 6 (act.Stop) ∷ []
+
+-- what the machine makes of the script
+pub record Holds : Type 0 where
+  pub entries : first_entries 33 row 0 ≡ history
+  pub screen : map (λ c. c.rgb) (state_after row history).screen ≡ (rgb 255 255 255) ∷ (rgb 255 255 255) ∷ []
+  pub work : work_of row ≡ 105
+  pub trace_0 : shown_traces row (runner.app 0) history ≡ []
+  pub trace_1 : shown_traces row (runner.looper 0) history ≡ shown.Took 1 (sender.Twin 0) 0 target.Window (route.Handler target.Window) (shown.message 1431323732 ([])) ∷ shown.Listed 0 (rect (pos 0) (pos 0) (pos 0) (pos 0)) ∷ shown.Took 2 sender.Input 0 (target.View 0) route.Unknown (shown.message 1296324430 ((shown.field (119 ∷ 104 ∷ 101 ∷ 114 ∷ 101 ∷ []) kind.Point ((point (at_pixel (pos 0) (pos 0))) ∷ [])) ∷ [])) ∷ []
+  pub trace_2 : shown_traces row (runner.looper 1) history ≡ shown.Took 1 (sender.Twin 1) 0 target.Window (route.Handler target.Window) (shown.message 1431323732 ([])) ∷ shown.Listed 0 (rect (pos 0) (pos 0) (pos 0) (pos 0)) ∷ shown.Took 2 sender.Input 0 (target.View 0) route.Unknown (shown.message 1296324430 ((shown.field (119 ∷ 104 ∷ 101 ∷ 114 ∷ 101 ∷ []) kind.Point ((point (at_pixel (pos 0) (pos 0))) ∷ [])) ∷ [])) ∷ []
