@@ -27,3 +27,6 @@ pub mod WaitingTells
 pub mod Balances
 pub mod BalanceSteps
 pub mod BalanceHistory
+pub mod PixelRules
+pub mod PixelSteps
+pub mod PixelHistory
