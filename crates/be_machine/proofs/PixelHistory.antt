@@ -87,11 +87,11 @@ change_leaves s w change (Ok new) P width stays =
           same ∙ once_desktop (cell_at (width_of s) s.screen x y) ∙ sym (ap (option_map (λ _. desktop_cell)) same);
     }
 
-own_change_leaves : (s : State) (w : ℕ) (change : Change) → Leaves s (changed s w change) (λ u. w ≡ u)
+pub own_change_leaves : (s : State) (w : ℕ) (change : Change) → Leaves s (changed s w change) (λ u. w ≡ u)
 unfolding changed
 own_change_leaves s w change = change_leaves s w change (desk_after s.desk w change) (λ u. w ≡ u) (desk_width s.desk w change) (λ new u old x y c other was now. changed_stays s.desk new (view_colors s) w u change old x y c (λ e. other (sym e)) was now)
 
-activate_leaves : (s : State) (w : ℕ) (P : ℕ → Type 0) → Leaves s (changed s w Activate) P
+pub activate_leaves : (s : State) (w : ℕ) (P : ℕ → Type 0) → Leaves s (changed s w Activate) P
 unfolding changed
 activate_leaves s w P = change_leaves s w Activate (desk_after s.desk w Activate) P (desk_width s.desk w Activate) (λ new u old x y c other was now. still_stays s.desk new (view_colors s) w u Activate old x y c refl was now)
 
