@@ -2,3 +2,13 @@ pub mod Lists
 pub mod LegalEntries
 pub mod Programs
 pub mod Tallied
+pub mod Waiting
+pub mod WaitingSums
+pub mod ProgressStands
+pub mod WaitingMoves
+pub mod WaitingApps
+pub mod WaitingGranted
+pub mod WaitingBodies
+pub mod WaitingSteps
+pub mod WaitingAfter
+pub mod WaitingTells

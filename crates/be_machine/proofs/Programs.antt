@@ -1,8 +1,9 @@
 -- What the limits of a script say of the instructions that loopers and applications run.
 use Rattle.std.proofs.Common.{◌≡◌, ℕ, Bool, true, false, List, [], ◌∷◌, Option, Some, None, refl, sym, ap, subst, ◌∙◌}
-use Rattle.std.specs.Prelude.{◌==◌, ◌&&◌, find, filter, flat_map, slice_get}
+use Rattle.std.specs.Prelude.{◌==◌, ◌&&◌, not, nat_lt, find, filter, flat_map, slice_get}
 use Rattle.std.specs.List.{list_all}
 use Rattle.be_actor.specs.declared.Instruction.{Instruction}
+use Rattle.be_actor.specs.Limits.{is_reserved}
 use Rattle.be_handler.specs.declared.Route.{Route}
 use Rattle.be_handler.specs.declared.Route.TheVariants.{Skipped, Handler, Unknown}
 use Rattle.be_script.specs.declared.AppLine.{AppLine}
@@ -23,7 +24,9 @@ body_program_steps d w steps h = both_second (is_short steps) _ h
 
 body_line_steps : (d : Declared) (w : ℕ) (line : BodyLine) → is_body_line d line ≡ true → (line.window == w) ≡ true → list_all (is_body_step d w) line.program ≡ true
 body_line_steps d w line h e =
-    let at_window : is_body_program d line.window line.program ≡ true = both_first _ _ (both_second _ _ (both_second _ _ (both_second _ _ h))) in
+    let at_window : is_body_program d line.window line.program ≡ true =
+    both_second (is_window d line.window && is_handler_of d line.window line.target && not (is_reserved line.what)) _
+    (both_first (is_window d line.window && is_handler_of d line.window line.target && not (is_reserved line.what) && is_body_program d line.window line.program) _ h) in
     subst (λ v. list_all (is_body_step d v) line.program ≡ true) (same_number line.window w e) (body_program_steps d line.window line.program at_window)
 
 found_body : (d : Declared) (w : ℕ) (o : Option BodyLine) → ((line : BodyLine) → o ≡ Some line → list_all (is_body_step d w) line.program ≡ true) → list_all (is_body_step d w) (steps_of o) ≡ true
@@ -48,7 +51,9 @@ draw_program_steps d w steps h = both_second (is_short steps) _ h
 
 draw_line_steps : (d : Declared) (w : ℕ) (line : DrawLine) → is_draw_line d line ≡ true → (line.window == w) ≡ true → list_all (is_draw_step d w) line.program ≡ true
 draw_line_steps d w line h e =
-    let at_window : is_draw_program d line.window line.program ≡ true = both_first _ _ (both_second _ _ (both_second _ _ h)) in
+    let at_window : is_draw_program d line.window line.program ≡ true =
+    both_second (is_window d line.window && nat_lt line.view (view_count d line.window)) _
+    (both_first (is_window d line.window && nat_lt line.view (view_count d line.window) && is_draw_program d line.window line.program) _ h) in
     subst (λ v. list_all (is_draw_step d v) line.program ≡ true) (same_number line.window w e) (draw_program_steps d line.window line.program at_window)
 
 found_draw : (d : Declared) (w : ℕ) (o : Option DrawLine) → ((line : DrawLine) → o ≡ Some line → list_all (is_draw_step d w) line.program ≡ true) → list_all (is_draw_step d w) (draw_steps o) ≡ true
