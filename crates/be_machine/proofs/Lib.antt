@@ -12,3 +12,12 @@ pub mod WaitingBodies
 pub mod WaitingSteps
 pub mod WaitingAfter
 pub mod WaitingTells
+pub mod ProgressBeside
+pub mod ProgressParts
+pub mod ProgressPlaces
+pub mod ProgressCalm
+pub mod ProgressCalmSteps
+pub mod ProgressLocks
+pub mod ProgressLockSteps
+pub mod ProgressLocksMet
+pub mod ProgressAfter
