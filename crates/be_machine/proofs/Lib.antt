@@ -21,3 +21,8 @@ pub mod ProgressLocks
 pub mod ProgressLockSteps
 pub mod ProgressLocksMet
 pub mod ProgressAfter
+pub mod ProgressCan
+pub mod ProgressNumbers
+pub mod ProgressStuck
+pub mod ProgressEnds
+pub mod ProgressGoesOn

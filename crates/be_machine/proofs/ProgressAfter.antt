@@ -1,36 +1,34 @@
 -- What holds of the state after every legal history.
-use Rattle.std.proofs.Common.{◌≡◌, ℕ, zero, suc, ◌+◌, ◌*◌, ◌<◌, ◌≤◌, Bool, true, false, List, [], ◌∷◌, length, map, replicate, drop, Option, Some, None, refl, sym, ap, subst, ◌∙◌, arith}
-use Rattle.std.specs.Prelude.{slice_get, ◌==◌, option_map}
-use Rattle.std.specs.List.{range_with_len, enumerate_from}
+use Rattle.std.proofs.Common.{◌≡◌, ℕ, suc, ◌+◌, ◌<◌, ◌≤◌, true, false, List, [], ◌∷◌, length, replicate, Option, Some, None, refl, sym, ap, subst, ◌∙◌, arith}
+use Rattle.std.specs.Prelude.{slice_get, option_map}
+use Rattle.std.specs.List.{enumerate_from}
 use Rattle.std.proofs.lemmas.List.{length-map, length-replicate}
-use Rattle.std.proofs.lemmas.Option.{same_Some, slice_get_within}
-use Rattle.be_link.specs.Queues.{Buffer, empty_buffer}
+use Rattle.std.proofs.lemmas.Option.{slice_get_within}
+use Rattle.be_link.specs.Queues.{empty_buffer}
 use Rattle.be_script.specs.declared.InputLine.{InputLine}
 use Rattle.be_script.specs.declared.WindowLine.{WindowLine}
 use Rattle.be_script.specs.Limits.{IsWithinLimits}
-use Rattle.be_script.specs.Programs.{is_rest_of_app}
 use Rattle.be_script.specs.Script.{Declared}
 use Rattle.be_script.specs.Windows.{colors_of}
 use Rattle.be_pane.specs.Panes.{first_pane}
 use Rattle.be_port.specs.Ports.{empty_port}
-use Rattle.be_machine.specs.Activities.{Activity, runner, twin, input, closing}
-use Rattle.be_machine.specs.declared.Act.{Act}
+use Rattle.be_machine.specs.Activities.{Activity}
 use Rattle.be_machine.specs.declared.Entry.{Entry}
 use Rattle.be_machine.specs.History.{AreLegalFrom, state_from, IsLegalHistory, state_after}
 use Rattle.be_machine.specs.Input.{used, with_event}
-use Rattle.be_machine.specs.Legal.{want_act, IsLegal}
-use Rattle.be_machine.specs.Program.{app_program, is_locked_by}
-use Rattle.be_machine.specs.State.{State, Looper, free, locked, handling, App, opening_app, opening_state}
+use Rattle.be_machine.specs.Legal.{IsLegal}
+use Rattle.be_machine.specs.Program.{is_locked_by}
+use Rattle.be_machine.specs.State.{State, free, opening_app, opening_state}
 use Rattle.be_machine.specs.Step.{met, step}
 use Rattle.be_machine.specs.Wants.{Want, asks, takes, begins, flushes, draws_end, ends, notifies, executes, uses, stops, want_of}
 use Rattle.be_machine.proofs.LegalEntries.{IsMet, met_by, maker, maker_is}
 use Rattle.be_machine.proofs.Programs.{app_rest}
-use Rattle.be_machine.proofs.ProgressBeside.{Beside, beside_event}
-use Rattle.be_machine.proofs.ProgressCalm.{IsCalm, AreCalm}
+use Rattle.be_machine.proofs.ProgressBeside.{beside_event}
+use Rattle.be_machine.proofs.ProgressCalm.{IsCalm}
 use Rattle.be_machine.proofs.ProgressCalmSteps.{IsCalmState, calm_met}
-use Rattle.be_machine.proofs.ProgressLocks.{HasLock, Follows, IsKnown, AreLocked}
+use Rattle.be_machine.proofs.ProgressLocks.{Follows}
 use Rattle.be_machine.proofs.ProgressLocksMet.{IsLockedState, locked_met}
-use Rattle.be_machine.proofs.ProgressParts.{SameSizes, same_beside, is_work, same_met, HasParts, parts_kept}
+use Rattle.be_machine.proofs.ProgressParts.{SameSizes, same_beside, same_met, HasParts, parts_kept}
 use Rattle.be_machine.proofs.Waiting.{IsWaiting}
 use Rattle.be_machine.proofs.WaitingAfter.{repeated, opening_waiting}
 use Rattle.be_machine.proofs.WaitingSteps.{waiting_step}

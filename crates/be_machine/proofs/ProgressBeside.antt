@@ -1,9 +1,9 @@
 -- What leaves loopers, buffers and applications as they were: commands that are executed, notices and input.
-use Rattle.std.proofs.Common.{◌≡◌, ℕ, ◌+◌, Bool, true, false, List, length, Option, Some, None, refl, sym, ap, ◌∙◌}
-use Rattle.std.specs.Prelude.{slice_get, Result, Ok, Err, option_and_then}
+use Rattle.std.proofs.Common.{◌≡◌, ℕ, List, length, Option, Some, None, refl, ◌∙◌}
+use Rattle.std.specs.Prelude.{slice_get, Result, Ok, Err}
 use Rattle.std.specs.Option.{option_map_or}
 use Rattle.be_bitmap.specs.Pictures.{Picture}
-use Rattle.be_command.specs.Effects.{Effect, Deed, at_view, changes, ends_update, effect_of}
+use Rattle.be_command.specs.Effects.{Effect, at_view, changes, ends_update, effect_of}
 use Rattle.be_desk.specs.Changes.{Desk, desk_after}
 use Rattle.be_geom.specs.declared.change.Change.{Change}
 use Rattle.be_geom.specs.declared.change.Change.TheVariants.{Show, Hide, MoveTo, MoveBy, ResizeTo, Activate, Behind, Focus, Close}
@@ -21,7 +21,6 @@ use Rattle.be_twin.specs.Executed.{pane_after, without_session}
 use Rattle.be_update.specs.Sessions.{with_notice}
 use Rattle.be_machine.specs.Commands.{sight_at, done_at_view, with_effect, without_front, executed_command, executed}
 use Rattle.be_machine.specs.Input.{input_letter, ports_with, delivery_of, used, with_under, activated, with_delivery, with_event}
-use Rattle.be_machine.specs.Lists.{at}
 use Rattle.be_machine.specs.Port.{notice, notified}
 use Rattle.be_machine.specs.State.{State}
 use Rattle.be_machine.specs.Windows.{ports_after, changed_to, changed}

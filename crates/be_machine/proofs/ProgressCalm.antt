@@ -1,31 +1,17 @@
 -- A buffer holds 32 commands at most, and that of a free looper none.
-use Rattle.std.proofs.Common.{◌≡◌, ℕ, zero, suc, ◌+◌, ◌<◌, ◌≤◌, Bool, true, false, List, [], ◌∷◌, ◌++◌, length, replicate, Option, Some, None, refl, sym, ap, subst, ◌∙◌, arith, length-append}
-use Rattle.std.specs.Prelude.{slice_get, nat_le, ◌==◌, option_map, option_and_then, if◌then◌else◌}
+use Rattle.std.proofs.Common.{◌≡◌, ℕ, ◌+◌, ◌<◌, ◌≤◌, Bool, true, false, List, length, Option, Some, None, refl, sym, ap, ◌∙◌, arith, length-append}
+use Rattle.std.specs.Prelude.{slice_get, nat_le, option_and_then, if◌then◌else◌}
 use Rattle.std.specs.Option.{option_map_or}
 use Rattle.std.proofs.lemmas.Bool.Decides.{nat_tests}
-use Rattle.std.proofs.lemmas.Option.{same_Some}
-use Rattle.be_actor.specs.declared.Instruction.{Instruction}
-use Rattle.be_actor.specs.declared.Instruction.TheVariants.{Note, Post, Send, Reply, Forward, Lock, Unlock, Flush, Sync, Draw}
-use Rattle.be_actor.specs.declared.Wish.{Wish}
-use Rattle.be_actor.specs.declared.Wish.TheVariants as wish
-use Rattle.be_actor.specs.Wishes.{wish_at, has_no_room}
 use Rattle.be_command.specs.declared.Command.{Command}
-use Rattle.be_command.specs.declared.Command.TheVariants.{EndUpdate}
 use Rattle.be_link.specs.Queues.{Buffer, is_full, with_command, emptied}
-use Rattle.be_looper.specs.Duties.{Hand, waiter, duty_after_reply, duty_after_forward, duty_handed_on}
-use Rattle.be_message.specs.Messages.{Message}
-use Rattle.be_port.specs.declared.Duty.{Duty}
-use Rattle.be_script.specs.Script.{Declared}
-use Rattle.be_machine.specs.Activities.{Runner, app, looper}
 use Rattle.be_machine.specs.Commands.{draw_act, drawn, flushed, flushed_into}
 use Rattle.be_machine.specs.declared.Act.{Act}
 use Rattle.be_machine.specs.declared.Act.TheVariants as act
 use Rattle.be_machine.specs.Lists.{at}
-use Rattle.be_machine.specs.Program.{buffered, is_locked_by, locked_by}
-use Rattle.be_machine.specs.State.{State, Looper, free, locked, handling, Stage}
+use Rattle.be_machine.specs.State.{State, Looper, free, locked, handling}
 use Rattle.be_machine.proofs.Lists.{AtPlace}
-use Rattle.be_machine.proofs.ProgressPlaces.{Each, each_at, each_kept}
-use Rattle.be_machine.proofs.WaitingGranted.{position_passes}
+use Rattle.be_machine.proofs.ProgressPlaces.{Each, each_kept}
 
 abbrev pub is_free_looper : Looper → Bool
 is_free_looper free = true

@@ -1,6 +1,6 @@
 -- Every legal entry keeps the sizes of buffers, and that a free looper's is empty.
-use Rattle.std.proofs.Common.{◌≡◌, ℕ, ◌+◌, ◌<◌, ◌≤◌, Bool, true, false, List, length, Option, Some, None, refl, sym, ap, subst, ◌∙◌, arith}
-use Rattle.std.specs.Prelude.{slice_get, ◌==◌, position, option_map, option_and_then, if◌then◌else◌}
+use Rattle.std.proofs.Common.{◌≡◌, ℕ, Bool, true, false, length, Option, Some, None, refl, sym, ap, subst, ◌∙◌}
+use Rattle.std.specs.Prelude.{slice_get, ◌==◌, option_and_then, if◌then◌else◌}
 use Rattle.std.specs.Option.{option_map_or}
 use Rattle.be_actor.specs.declared.Instruction.{Instruction}
 use Rattle.be_actor.specs.declared.Instruction.TheVariants.{Note, Post, Send, Reply, Forward, Lock, Unlock, Flush, Sync, Draw}
@@ -9,21 +9,19 @@ use Rattle.be_actor.specs.declared.Wish.TheVariants as wish
 use Rattle.be_actor.specs.Wishes.{wish_at, has_no_room}
 use Rattle.be_command.specs.declared.Command.{Command}
 use Rattle.be_command.specs.declared.Command.TheVariants.{EndUpdate}
-use Rattle.be_geom.specs.declared.point.Point.{Point}
 use Rattle.be_link.specs.Queues.{Buffer}
 use Rattle.be_looper.specs.Duties.{Hand, waiter, duty_after_reply, duty_after_forward, duty_handed_on, EndTelling, nobody, no_reply, not_understood, end_telling}
 use Rattle.be_message.specs.declared.target.Target.{Target}
 use Rattle.be_message.specs.Messages.{Message}
 use Rattle.be_port.specs.declared.Duty.{Duty}
-use Rattle.be_port.specs.Ports.{Letter}
 use Rattle.be_script.specs.Limits.{IsWithinLimits}
 use Rattle.be_script.specs.Script.{Declared}
-use Rattle.be_machine.specs.Activities.{Runner, app, looper, Activity, runner, twin, input, closing, sender_of}
+use Rattle.be_machine.specs.Activities.{app, looper, Activity, sender_of}
 use Rattle.be_machine.specs.Commands.{draw_act, drawn, flushed}
 use Rattle.be_machine.specs.declared.Act.{Act}
-use Rattle.be_machine.specs.Legal.{in_own, wish_act, want_act}
+use Rattle.be_machine.specs.Legal.{wish_act, want_act}
 use Rattle.be_machine.specs.Looper.{with_looper, freed, with_duty, with_duty_by, with_waiting, told, told_at_end, ended_hand, forwarded_hand}
-use Rattle.be_machine.specs.Port.{letter, with_post, is_accepted_at, taken, notified}
+use Rattle.be_machine.specs.Port.{letter, with_post, is_accepted_at, taken}
 use Rattle.be_machine.specs.Program.{buffered, is_locked_by, locked_by, hand_of, hand_at, hop_of, looper_gone_on, moved_on}
 use Rattle.be_machine.specs.State.{State, Looper, free, locked, handling, Stage, at_close}
 use Rattle.be_machine.specs.Step.{granted, met}
@@ -32,7 +30,7 @@ use Rattle.be_machine.specs.Wants.{Want, asks, takes, begins, flushes, draws_end
 use Rattle.be_update.specs.Sessions.{is_any}
 use Rattle.be_machine.specs.Windows.{dirty_of, corner_at}
 use Rattle.be_machine.proofs.LegalEntries.{maker}
-use Rattle.be_machine.proofs.ProgressBeside.{Beside, beside_executed, beside_notified, beside_event}
+use Rattle.be_machine.proofs.ProgressBeside.{Beside, beside_executed, beside_event}
 use Rattle.be_machine.proofs.ProgressCalm.{is_free_looper, AreCalm, calm_looper, calm_freed, calm_flushed, calm_drawn}
 use Rattle.be_machine.proofs.ProgressStands.{AppStands, LooperStands, app_stands, looper_stands, Handles, handles, ends_empty}
 use Rattle.be_machine.proofs.Lists.{same_number}

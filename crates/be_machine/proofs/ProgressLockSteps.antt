@@ -1,6 +1,6 @@
 -- A lock that an application gets or gives back is the one that its program has from there on.
-use Rattle.std.proofs.Common.{◌≡◌, ℕ, ◌+◌, ◌<◌, ◌≤◌, Bool, true, false, List, [], ◌∷◌, drop, length, Option, Some, None, refl, sym, ap, subst, ◌∙◌, arith}
-use Rattle.std.specs.Prelude.{slice_get, ◌==◌, position, if◌then◌else◌}
+use Rattle.std.proofs.Common.{◌≡◌, ℕ, ◌+◌, ◌<◌, Bool, true, false, List, drop, length, Option, Some, None, refl, sym, ap, subst, ◌∙◌, arith}
+use Rattle.std.specs.Prelude.{slice_get, ◌==◌, if◌then◌else◌}
 use Rattle.std.proofs.lemmas.List.Quantifiers.{position-Some}
 use Rattle.std.proofs.lemmas.Option.{same_Some, slice_get_within}
 use Rattle.be_actor.specs.declared.Instruction.{Instruction}
@@ -10,14 +10,14 @@ use Rattle.be_actor.specs.declared.Wish.{Wish}
 use Rattle.be_actor.specs.declared.Wish.TheVariants as wish
 use Rattle.be_actor.specs.Wishes.{wish_at, place_after, next_place, has_no_room}
 use Rattle.be_geom.specs.Numbers.{is_number}
-use Rattle.be_script.specs.Programs.{is_app_step, lock_behind, is_rest_of_app}
+use Rattle.be_script.specs.Programs.{is_rest_of_app}
 use Rattle.be_script.specs.Script.{Declared}
 use Rattle.be_machine.specs.Activities.{app}
 use Rattle.be_machine.specs.Lists.{at}
 use Rattle.be_machine.specs.Program.{app_program, buffered, is_locked_by, locked_by, app_gone_on}
-use Rattle.be_machine.specs.State.{State, Looper, free, locked, handling, Stage, App}
-use Rattle.be_machine.proofs.Lists.{IsThere, there, length_at, same_number, other_number}
-use Rattle.be_machine.proofs.ProgressPlaces.{Each, each_at, each_kept, same_place, other_place}
+use Rattle.be_machine.specs.State.{State, Looper, free, locked, handling, App}
+use Rattle.be_machine.proofs.Lists.{IsThere, there, length_at, same_number}
+use Rattle.be_machine.proofs.ProgressPlaces.{each_at, each_kept, same_place, other_place}
 use Rattle.be_machine.proofs.ProgressLocks.{HasLock, Follows, IsKnown, AreLocked, StepKeeps, step_keeps, has_kept}
 use Rattle.be_machine.proofs.ProgressStands.{AppStands}
 use Rattle.be_machine.proofs.WaitingApps.{gone_to}

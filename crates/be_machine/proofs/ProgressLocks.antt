@@ -1,23 +1,22 @@
 -- Each application has the lock that its program has at its place, and no other.
-use Rattle.std.proofs.Common.{◌≡◌, ℕ, zero, suc, ◌+◌, ◌<◌, ◌≤◌, Bool, true, false, List, [], ◌∷◌, drop, length, Option, Some, None, ◌⊎◌, inl, inr, refl, sym, ap, subst, ◌∙◌, arith}
-use Rattle.std.specs.Prelude.{slice_get, ◌==◌, ◌&&◌, if◌then◌else◌}
-use Rattle.std.specs.Option.{option_map_or}
-use Rattle.std.proofs.lemmas.Option.{same_Some, slice_get_within}
+use Rattle.std.proofs.Common.{◌≡◌, ℕ, ◌+◌, ◌<◌, Bool, true, false, List, ◌∷◌, drop, length, Option, Some, None, refl, sym, ap, subst, ◌∙◌}
+use Rattle.std.specs.Prelude.{slice_get, ◌==◌, if◌then◌else◌}
+use Rattle.std.proofs.lemmas.Option.{same_Some}
 use Rattle.be_actor.specs.declared.Instruction.{Instruction}
 use Rattle.be_actor.specs.declared.Instruction.TheVariants.{Note, Post, Send, Reply, Forward, Lock, Unlock, Flush, Sync, Draw}
 use Rattle.be_actor.specs.declared.Place.{Place}
 use Rattle.be_actor.specs.declared.Wish.{Wish}
 use Rattle.be_actor.specs.declared.Wish.TheVariants as wish
-use Rattle.be_actor.specs.Wishes.{wish_at, place_after, place_after_flush, next_place, second_part, has_no_room}
+use Rattle.be_actor.specs.Wishes.{wish_at, place_after, next_place, second_part, has_no_room}
 use Rattle.be_geom.specs.Numbers.{is_number}
 use Rattle.be_script.specs.Programs.{is_app_step, lock_behind, is_rest_of_app}
 use Rattle.be_script.specs.Script.{Declared}
 use Rattle.be_machine.specs.Activities.{app}
 use Rattle.be_machine.specs.Lists.{at}
 use Rattle.be_machine.specs.Program.{app_program, buffered, is_locked_by, app_gone_on}
-use Rattle.be_machine.specs.State.{State, Looper, free, locked, handling, Stage, App}
-use Rattle.be_machine.proofs.Lists.{AtPlace, both_first, both_second, length_at, same_number}
-use Rattle.be_machine.proofs.ProgressPlaces.{Each, each_at, each_kept, same_place, other_place, drop_read}
+use Rattle.be_machine.specs.State.{State, Looper, App}
+use Rattle.be_machine.proofs.Lists.{both_first, both_second, length_at}
+use Rattle.be_machine.proofs.ProgressPlaces.{Each, each_kept, drop_read}
 use Rattle.be_machine.proofs.ProgressStands.{AppStands}
 use Rattle.be_machine.proofs.WaitingApps.{gone_to}
 
@@ -58,8 +57,8 @@ has_kept loopers w m f lock same h = record {
 pub locks_kept : (d : Declared) (loopers : List Looper) (apps : List App) (w : ℕ) (f : Looper → Looper) → ((m : ℕ) (l : Looper) → slice_get loopers w ≡ Some l → is_locked_by m (f l) ≡ is_locked_by m l) → AreLocked d loopers apps → AreLocked d (at loopers w f) apps
 locks_kept d loopers apps w f same h = record {
   follows = λ m a read.
-    let old : Follows d loopers m a = h.follows m a read in
-    record { lock = old.lock; has = has_kept loopers w m f old.lock (same m) old.has; keeps = old.keeps };
+      let old : Follows d loopers m a = h.follows m a read in
+      record { lock = old.lock; has = has_kept loopers w m f old.lock (same m) old.has; keeps = old.keeps };
   known = each_kept (λ u l. IsKnown d l) loopers w f (λ l read known m e. known m (sym (same m l read) ∙ e)) h.known;
 }
 
@@ -135,17 +134,17 @@ keeps_on d lock program i old new next (passes more same) h =
 pub gone_on_kept : (d : Declared) (s : State) (loopers : List Looper) (m : ℕ) (accepted : Bool) (x : Wish) (is : AppStands d s m x) → is_lockless x ≡ true → AreLocked d loopers s.apps → AreLocked d loopers (at s.apps m (app_gone_on d m accepted x))
 gone_on_kept d s loopers m accepted x is lockless h = record {
   follows = each_kept (Follows d loopers) s.apps m (app_gone_on d m accepted x) (λ a read old.
-    let same : is.it ≡ a = same_Some is.it a (sym is.read ∙ read) in
-    let program = app_program d m in
-    let went : GoesOn is.step is.it.place (place_after is.step is.it.place accepted x) =
-    subst (λ y. GoesOn is.step is.it.place (place_after is.step is.it.place accepted y)) is.asked (goes_on is.step is.it.place accepted (buffered s (app m)) (ap is_lockless is.asked ∙ lockless)) in
-    let keeps : is_rest_of_app d old.lock (drop is.it.place.step program) ≡ true = subst (λ (b : App). is_rest_of_app d old.lock (drop b.place.step program) ≡ true) (sym same) old.keeps in
-    let now : is_rest_of_app d old.lock (drop (place_after is.step is.it.place accepted x).step program) ≡ true = keeps_on d old.lock program is.step is.it.place (place_after is.step is.it.place accepted x) is.next went keeps in
-    record {
-      lock = old.lock;
-      has = old.has;
-      keeps = subst (λ (b : App). is_rest_of_app d old.lock (drop (app_gone_on d m accepted x b).place.step program) ≡ true) same
-          (ap (λ (p : Place). is_rest_of_app d old.lock (drop p.step program)) (gone_to program is.it.place is.step accepted x is.next) ∙ now);
-    }) h.follows;
+      let same : is.it ≡ a = same_Some is.it a (sym is.read ∙ read) in
+      let program = app_program d m in
+      let went : GoesOn is.step is.it.place (place_after is.step is.it.place accepted x) =
+      subst (λ y. GoesOn is.step is.it.place (place_after is.step is.it.place accepted y)) is.asked (goes_on is.step is.it.place accepted (buffered s (app m)) (ap is_lockless is.asked ∙ lockless)) in
+      let keeps : is_rest_of_app d old.lock (drop is.it.place.step program) ≡ true = subst (λ (b : App). is_rest_of_app d old.lock (drop b.place.step program) ≡ true) (sym same) old.keeps in
+      let now : is_rest_of_app d old.lock (drop (place_after is.step is.it.place accepted x).step program) ≡ true = keeps_on d old.lock program is.step is.it.place (place_after is.step is.it.place accepted x) is.next went keeps in
+      record {
+        lock = old.lock;
+        has = old.has;
+        keeps = subst (λ (b : App). is_rest_of_app d old.lock (drop (app_gone_on d m accepted x b).place.step program) ≡ true) same
+            (ap (λ (p : Place). is_rest_of_app d old.lock (drop p.step program)) (gone_to program is.it.place is.step accepted x is.next) ∙ now);
+      }) h.follows;
   known = h.known;
 }

@@ -1,11 +1,10 @@
 -- Every legal entry keeps that each application has the lock that its program has at its place.
-use Rattle.std.proofs.Common.{◌≡◌, ℕ, ◌+◌, ◌<◌, ◌≤◌, Bool, true, false, List, length, Option, Some, None, refl, sym, ap, subst, ◌∙◌, arith}
-use Rattle.std.specs.Prelude.{slice_get, ◌==◌, option_map, option_and_then, if◌then◌else◌}
+use Rattle.std.proofs.Common.{◌≡◌, ℕ, ◌<◌, Bool, true, false, length, Option, Some, None, refl, sym, ap, subst, ◌∙◌, arith}
+use Rattle.std.specs.Prelude.{slice_get, option_and_then, if◌then◌else◌}
 use Rattle.std.specs.Option.{option_map_or}
 use Rattle.std.proofs.lemmas.Option.{same_Some, slice_get_within}
 use Rattle.be_actor.specs.declared.Wish.{Wish}
 use Rattle.be_actor.specs.declared.Wish.TheVariants as wish
-use Rattle.be_command.specs.declared.Command.{Command}
 use Rattle.be_command.specs.declared.Command.TheVariants.{EndUpdate}
 use Rattle.be_link.specs.Queues.{Buffer}
 use Rattle.be_looper.specs.Duties.{Hand, waiter, duty_after_reply, duty_after_forward, duty_handed_on, EndTelling, nobody, no_reply, not_understood, end_telling}
@@ -17,13 +16,13 @@ use Rattle.be_reply.specs.Cells as reply
 use Rattle.be_script.specs.Limits.{IsWithinLimits}
 use Rattle.be_script.specs.Script.{Declared}
 use Rattle.be_update.specs.Sessions.{is_any}
-use Rattle.be_machine.specs.Activities.{Runner, app, looper, Activity, runner, twin, input, closing, sender_of}
+use Rattle.be_machine.specs.Activities.{app, looper, Activity, sender_of}
 use Rattle.be_machine.specs.Commands.{drawn, flushed, flushed_into}
 use Rattle.be_machine.specs.declared.Act.{Act}
 use Rattle.be_machine.specs.declared.Act.TheVariants as act
-use Rattle.be_machine.specs.Legal.{in_own, wish_act, want_act}
+use Rattle.be_machine.specs.Legal.{wish_act, want_act}
 use Rattle.be_machine.specs.Lists.{at}
-use Rattle.be_machine.specs.Looper.{with_looper, freed, with_duty, with_duty_by, with_waiting, with_cell, told, told_at_end, ended_hand, forwarded_hand}
+use Rattle.be_machine.specs.Looper.{with_looper, freed, with_duty, with_duty_by, with_waiting, told, told_at_end, ended_hand, forwarded_hand}
 use Rattle.be_machine.specs.Port.{letter, with_post, is_accepted_at, taken}
 use Rattle.be_machine.specs.Program.{is_locked_by, locked_by, hand_of, hand_at, hop_of, app_gone_on, looper_gone_on, moved_on}
 use Rattle.be_machine.specs.State.{State, Looper, free, locked, handling, Stage, App, at_close}

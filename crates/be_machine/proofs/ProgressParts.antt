@@ -1,32 +1,29 @@
 -- Each list of the state has one element for each window, or for each application.
-use Rattle.std.proofs.Common.{◌≡◌, ℕ, ◌+◌, Bool, true, false, List, [], ◌∷◌, length, map, replicate, Option, Some, None, refl, sym, ap, subst, ◌∙◌}
+use Rattle.std.proofs.Common.{◌≡◌, ℕ, Bool, true, false, length, Option, Some, None, refl, ap, ◌∙◌}
 use Rattle.std.specs.Prelude.{slice_get, option_and_then, if◌then◌else◌}
 use Rattle.std.specs.Option.{option_map_or}
 use Rattle.be_actor.specs.declared.Wish.{Wish}
 use Rattle.be_actor.specs.declared.Wish.TheVariants as wish
 use Rattle.be_command.specs.declared.Command.{Command}
 use Rattle.be_command.specs.declared.Command.TheVariants.{EndUpdate}
-use Rattle.be_geom.specs.declared.point.Point.{Point}
 use Rattle.be_link.specs.Queues.{Buffer, with_command, emptied, lengthened}
 use Rattle.be_looper.specs.Duties.{Hand, waiter, duty_after_reply, duty_after_forward, duty_handed_on, EndTelling, nobody, no_reply, not_understood, end_telling}
 use Rattle.be_message.specs.declared.target.Target.{Target}
 use Rattle.be_message.specs.Messages.{Message}
 use Rattle.be_port.specs.declared.Duty.{Duty}
-use Rattle.be_port.specs.Ports.{Letter, Port, posted, front, without_front}
+use Rattle.be_port.specs.Ports.{Letter, posted, front, without_front}
 use Rattle.be_reply.specs.Cells as reply
 use Rattle.be_script.specs.Script.{Declared}
-use Rattle.be_update.specs.Sessions.{with_session, passed, session_of}
+use Rattle.be_update.specs.Sessions.{passed}
 use Rattle.be_machine.specs.Activities.{Runner, app, looper, sender_of}
 use Rattle.be_machine.specs.Commands.{drawn, flushed, flushed_into, executed}
-use Rattle.be_machine.specs.Lists.{at}
-use Rattle.be_machine.specs.Looper.{with_looper, freed, with_cell, with_waiting, sent, claimed, with_duty, with_duty_by, told, word_alone, told_at_end, ended_hand, replied_by, forwarded, forwarded_hand, locked_for}
-use Rattle.be_machine.specs.Port.{letter, letter_route, first_stage, with_post, with_letter_in_hand, taken, notified, is_accepted_at}
+use Rattle.be_machine.specs.Looper.{with_looper, freed, with_cell, with_waiting, sent, claimed, with_duty, with_duty_by, told, told_at_end, ended_hand, forwarded_hand, locked_for}
+use Rattle.be_machine.specs.Port.{letter, with_post, with_letter_in_hand, taken, notified, is_accepted_at}
 use Rattle.be_machine.specs.Program.{hop_of, hand_of, hand_at, window_of, app_gone_on, looper_gone_on, moved_on}
-use Rattle.be_machine.specs.State.{State, Looper, Stage, App, at_close}
-use Rattle.be_machine.specs.Step.{in_own, granted, met}
-use Rattle.be_machine.specs.Update.{at_stage, opened, passed_by, begun, listing_of}
+use Rattle.be_machine.specs.State.{State, Looper, App, at_close}
+use Rattle.be_machine.specs.Step.{granted, met}
+use Rattle.be_machine.specs.Update.{at_stage, opened, passed_by, begun}
 use Rattle.be_machine.specs.Wants.{Want, asks, takes, begins, flushes, draws_end, ends, notifies, executes, uses, stops}
-use Rattle.be_machine.specs.Windows.{dirty_of}
 use Rattle.be_machine.proofs.Lists.{length_at}
 use Rattle.be_machine.proofs.ProgressBeside.{Beside, beside_executed, beside_notified}
 

@@ -1,23 +1,21 @@
 -- At which instruction somebody stands who asks for something, and what a looper is at that wants something else.
-use Rattle.std.proofs.Common.{◌≡◌, ℕ, Bool, true, false, List, Option, Some, None, refl, sym, ap, subst, ◌∙◌}
-use Rattle.std.specs.Prelude.{◌==◌, ◌&&◌, slice_get, option_map, option_and_then, if◌then◌else◌}
-use Rattle.std.specs.List.{list_all}
+use Rattle.std.proofs.Common.{◌≡◌, ℕ, Bool, true, false, List, Option, Some, None, refl, sym}
+use Rattle.std.specs.Prelude.{◌==◌, slice_get, option_map, option_and_then, if◌then◌else◌}
 use Rattle.std.proofs.lemmas.Option.{same_Some}
 use Rattle.be_actor.specs.declared.Instruction.{Instruction}
 use Rattle.be_actor.specs.declared.Instruction.TheVariants.{Note, Post, Send, Reply, Forward, Lock, Unlock, Flush, Sync, Draw}
 use Rattle.be_actor.specs.declared.Place.{Place}
 use Rattle.be_actor.specs.declared.Wish.{Wish}
 use Rattle.be_actor.specs.Wishes.{wish_at, wish_of, has_no_room}
-use Rattle.be_command.specs.Limits.{is_drawing}
 use Rattle.be_looper.specs.Duties.{Hand}
 use Rattle.be_message.specs.Messages.{Message}
 use Rattle.be_script.specs.Limits.{IsWithinLimits}
 use Rattle.be_script.specs.Programs.{is_body_step, is_draw_step, is_command_for}
 use Rattle.be_script.specs.Script.{Declared}
-use Rattle.be_machine.specs.Activities.{Runner, app, looper, Activity, runner}
+use Rattle.be_machine.specs.Activities.{app, looper, runner}
 use Rattle.be_machine.specs.Program.{app_wish, body_wish, app_program, letter_program, update_program, buffered}
 use Rattle.be_machine.specs.State.{State, App, Looper, free, locked, handling, Stage, in_body, beginning, in_update, at_close}
-use Rattle.be_machine.specs.Wants.{Want, asks, takes, begins, flushes, draws_end, ends, asks_or, end_want, draw_end_want, stage_want, looper_want, want_of}
+use Rattle.be_machine.specs.Wants.{Want, asks, takes, flushes, draws_end, ends, asks_or, end_want, draw_end_want, stage_want, looper_want, want_of}
 use Rattle.be_machine.proofs.Lists.{both_first, all_get}
 use Rattle.be_machine.proofs.Programs.{body_steps, update_steps}
 
@@ -49,7 +47,7 @@ app_stands d s m wish e = app_there d s m wish (slice_get s.apps m) refl e
 -- ---- bodies
 
 -- what may stand in a Draw body may stand in a body
-draw_step_is : (d : Declared) (w : ℕ) (i : Instruction) → is_draw_step d w i ≡ true → is_body_step d w i ≡ true
+pub draw_step_is : (d : Declared) (w : ℕ) (i : Instruction) → is_draw_step d w i ≡ true → is_body_step d w i ≡ true
 draw_step_is d w (Note word) h = h
 draw_step_is d w (Post v target draft) h = cc
 draw_step_is d w (Send v target draft) h = cc

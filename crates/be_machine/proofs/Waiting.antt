@@ -1,10 +1,9 @@
 -- Who waits: for each application that waits, and has no reply yet, one letter on its way or in a hand owes it one.
-use Rattle.std.proofs.Common.{◌≡◌, ℕ, zero, suc, ◌+◌, ◌<◌, ◌≤◌, Bool, true, false, List, [], ◌∷◌, length, Option, Some, None}
-use Rattle.std.specs.Prelude.{slice_get, ◌==◌, not, if◌then◌else◌}
+use Rattle.std.proofs.Common.{◌≡◌, ℕ, ◌+◌, ◌≤◌, Bool, true, false, List, [], ◌∷◌, length, Option, Some, None}
+use Rattle.std.specs.Prelude.{slice_get, ◌==◌, not}
 use Rattle.be_actor.specs.declared.Instruction.{Instruction}
 use Rattle.be_actor.specs.declared.Instruction.TheVariants.{Note, Post, Send, Reply, Forward, Lock, Unlock, Flush, Sync, Draw}
 use Rattle.be_actor.specs.declared.Place.{Place}
-use Rattle.be_looper.specs.Duties.{Hand}
 use Rattle.be_message.specs.Messages.{Message}
 use Rattle.be_port.specs.declared.Duty.{Duty}
 use Rattle.be_port.specs.declared.Duty.TheVariants.{Free, Owed, Done}
@@ -12,7 +11,7 @@ use Rattle.be_port.specs.Ports.{Letter, Port, queue_of}
 use Rattle.be_reply.specs.Cells as reply
 use Rattle.be_script.specs.Script.{Declared}
 use Rattle.be_machine.specs.Program.{app_program}
-use Rattle.be_machine.specs.State.{State, Looper, free, locked, handling, Stage, App}
+use Rattle.be_machine.specs.State.{State, Looper, free, locked, handling, App}
 use Rattle.be_machine.proofs.Lists.{AtPlace}
 
 -- ---- how much is owed

@@ -1,19 +1,18 @@
 -- Who waits for whom, after every legal history.
-use Rattle.std.proofs.Common.{◌≡◌, ℕ, zero, suc, ◌+◌, ◌<◌, ◌≤◌, Bool, true, false, List, [], ◌∷◌, length, map, replicate, Option, Some, None, refl, sym, ap, subst, ◌∙◌, arith}
+use Rattle.std.proofs.Common.{◌≡◌, ℕ, zero, suc, List, [], ◌∷◌, length, map, replicate, Some, refl, sym, subst, arith}
 use Rattle.std.specs.Prelude.{slice_get}
 use Rattle.std.proofs.lemmas.Option.{same_Some}
-use Rattle.be_message.specs.Messages.{Message}
-use Rattle.be_port.specs.Ports.{Port, empty_port}
+use Rattle.be_port.specs.Ports.{empty_port}
 use Rattle.be_script.specs.declared.WindowLine.{WindowLine}
 use Rattle.be_script.specs.Limits.{IsWithinLimits}
 use Rattle.be_script.specs.Script.{Declared}
 use Rattle.be_machine.specs.declared.Entry.{Entry}
 use Rattle.be_machine.specs.History.{AreLegalFrom, state_from, IsLegalHistory, state_after}
 use Rattle.be_machine.specs.Program.{app_program}
-use Rattle.be_machine.specs.State.{State, Looper, free, App, opening_app, opening_state}
+use Rattle.be_machine.specs.State.{State, free, opening_app, opening_state}
 use Rattle.be_machine.specs.Step.{step}
 use Rattle.be_machine.proofs.Lists.{AtPlace}
-use Rattle.be_machine.proofs.Waiting.{total, owed_by_port, owed_by_looper, due_to, claims, IsBusyByPlace, IsTakenInTime, IsWaiting, Waits}
+use Rattle.be_machine.proofs.Waiting.{total, owed_by_port, owed_by_looper, due_to, IsBusyByPlace, IsTakenInTime, IsWaiting}
 use Rattle.be_machine.proofs.WaitingApps.{claims_first}
 use Rattle.be_machine.proofs.WaitingSteps.{waiting_step}
 

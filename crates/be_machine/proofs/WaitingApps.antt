@@ -1,6 +1,6 @@
 -- What an application is granted keeps who waits for whom.
-use Rattle.std.proofs.Common.{◌≡◌, ℕ, zero, suc, ◌+◌, ◌<◌, ◌≤◌, Bool, true, false, List, [], ◌∷◌, Option, Some, None, refl, sym, ap, subst, ◌∙◌, arith}
-use Rattle.std.specs.Prelude.{slice_get, ◌==◌, not, position, option_map, option_and_then, if◌then◌else◌}
+use Rattle.std.proofs.Common.{◌≡◌, ℕ, ◌+◌, Bool, true, false, List, Option, Some, None, refl, sym, ap, ◌∙◌}
+use Rattle.std.specs.Prelude.{slice_get, ◌==◌, not, option_and_then, if◌then◌else◌}
 use Rattle.std.specs.Option.{option_map_or}
 use Rattle.std.proofs.lemmas.Option.{same_Some}
 use Rattle.be_actor.specs.declared.Instruction.{Instruction}
@@ -8,29 +8,18 @@ use Rattle.be_actor.specs.declared.Instruction.TheVariants.{Note, Post, Send, Re
 use Rattle.be_actor.specs.declared.Place.{Place}
 use Rattle.be_actor.specs.declared.Wish.{Wish}
 use Rattle.be_actor.specs.declared.Wish.TheVariants as wish
-use Rattle.be_actor.specs.Wishes.{wish_at, place_after, place_after_flush, next_place, second_part, has_no_room}
+use Rattle.be_actor.specs.Wishes.{wish_at, place_after, place_after_flush, next_place}
 use Rattle.be_link.specs.Queues.{Buffer}
-use Rattle.be_message.specs.declared.target.Target.{Target}
-use Rattle.be_message.specs.Messages.{Message}
-use Rattle.be_port.specs.declared.Duty.TheVariants.{Free, Owed, Done}
-use Rattle.be_port.specs.Ports.{Letter, Port, judged, is_accepted, with_letter, posted}
-use Rattle.be_reply.specs.Cells as reply
 use Rattle.be_script.specs.Script.{Declared}
-use Rattle.be_machine.specs.Activities.{Runner, app, looper, sender_of}
-use Rattle.be_machine.specs.Commands.{drawn, flushed, flushed_into}
+use Rattle.be_machine.specs.Activities.{app}
+use Rattle.be_machine.specs.Commands.{flushed, flushed_into}
 use Rattle.be_machine.specs.declared.Act.{Act}
-use Rattle.be_machine.specs.Legal.{want_act, wish_act}
-use Rattle.be_machine.specs.Lists.{at}
-use Rattle.be_machine.specs.Looper.{lock_act, locked_for, freed, with_looper, sent_duty, reply_for, claim_act, kind_of_reply}
-use Rattle.be_machine.specs.Port.{letter, with_post, is_accepted_at}
-use Rattle.be_machine.specs.Program.{app_program, buffered, is_locked_by, locked_by, hop_of, gone_on, app_gone_on, moved_on}
-use Rattle.be_machine.specs.State.{State, Looper, free, locked, handling, Stage, App}
-use Rattle.be_machine.specs.Step.{granted, is_accepted_wish, met}
-use Rattle.be_machine.specs.Wants.{asks}
+use Rattle.be_machine.specs.Looper.{lock_act, locked_for, with_looper}
+use Rattle.be_machine.specs.Program.{app_program, buffered, gone_on, app_gone_on, moved_on}
+use Rattle.be_machine.specs.State.{State, Looper, free, locked, handling}
 use Rattle.be_machine.proofs.ProgressStands.{AppStands}
-use Rattle.be_machine.proofs.Waiting.{owed_by_looper, due_in, is_busy, claims, claims_at, IsBusyByPlace, IsWaiting, Waits}
-use Rattle.be_machine.proofs.WaitingSums.{at_twice}
-use Rattle.be_machine.proofs.WaitingMoves.{loopers_kept, post_kept, apps_kept, sent_kept}
+use Rattle.be_machine.proofs.Waiting.{owed_by_looper, claims, claims_at, IsBusyByPlace, IsWaiting}
+use Rattle.be_machine.proofs.WaitingMoves.{loopers_kept, apps_kept}
 
 -- ---- where an application is after what it was granted
 

@@ -1,5 +1,5 @@
 -- Every wish of a body that is granted keeps who waits for whom.
-use Rattle.std.proofs.Common.{◌≡◌, ℕ, ◌+◌, ◌<◌, ◌≤◌, Bool, true, false, List, Option, Some, None, refl, sym, ap, subst, ◌∙◌, arith}
+use Rattle.std.proofs.Common.{◌≡◌, ℕ, ◌+◌, Bool, true, false, Option, Some, refl, sym, ap, subst, ◌∙◌, arith}
 use Rattle.std.specs.Prelude.{slice_get, ◌==◌, option_and_then, if◌then◌else◌}
 use Rattle.std.specs.Option.{option_map_or}
 use Rattle.std.proofs.lemmas.Option.{same_Some}
@@ -13,18 +13,18 @@ use Rattle.be_message.specs.declared.target.Target.{Target}
 use Rattle.be_message.specs.Messages.{Message}
 use Rattle.be_port.specs.declared.Duty.{Duty}
 use Rattle.be_port.specs.declared.Duty.TheVariants.{Free, Owed, Done}
-use Rattle.be_port.specs.Ports.{Letter, Port, posted}
+use Rattle.be_port.specs.Ports.{Letter}
 use Rattle.be_script.specs.Programs.{is_body_step}
 use Rattle.be_script.specs.Script.{Declared}
-use Rattle.be_machine.specs.Activities.{Runner, app, looper, sender_of}
-use Rattle.be_machine.specs.Looper.{locked_for, with_looper, with_waiting, told, with_duty, with_duty_by, replied_by, forwarded, forwarded_hand}
+use Rattle.be_machine.specs.Activities.{looper, sender_of}
+use Rattle.be_machine.specs.Looper.{locked_for, with_waiting, told, with_duty, with_duty_by, replied_by, forwarded, forwarded_hand}
 use Rattle.be_machine.specs.Port.{letter, with_post, is_accepted_at}
 use Rattle.be_machine.specs.Program.{hand_in, hand_of, hop_of, looper_gone_on, moved_on, buffered}
-use Rattle.be_machine.specs.State.{State, Looper, free, locked, handling, Stage, App}
-use Rattle.be_machine.specs.Step.{granted, is_accepted_wish, met}
+use Rattle.be_machine.specs.State.{State, Looper, free, locked, handling, Stage}
+use Rattle.be_machine.specs.Step.{granted, met}
 use Rattle.be_machine.specs.Wants.{asks}
 use Rattle.be_machine.proofs.ProgressStands.{LooperStands}
-use Rattle.be_machine.proofs.Waiting.{owes, one_where, owed_by_looper, IsWaiting, Waits}
+use Rattle.be_machine.proofs.Waiting.{owes, owed_by_looper, IsWaiting}
 use Rattle.be_machine.proofs.WaitingMoves.{loopers_kept, post_kept, forward_kept, answer_kept}
 use Rattle.be_machine.proofs.WaitingApps.{flushed_kept}
 use Rattle.be_machine.proofs.WaitingGranted.{Accepts, accepts, refused_kept}

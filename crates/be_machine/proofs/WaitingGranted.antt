@@ -1,34 +1,33 @@
 -- Every wish of an application that is granted keeps who waits for whom.
-use Rattle.std.proofs.Common.{◌≡◌, ℕ, zero, suc, ◌+◌, ◌<◌, ◌≤◌, Bool, true, false, List, [], ◌∷◌, Option, Some, None, refl, sym, ap, subst, ◌∙◌, arith}
-use Rattle.std.specs.Prelude.{slice_get, ◌==◌, not, position, option_map, option_and_then, if◌then◌else◌}
+use Rattle.std.proofs.Common.{◌≡◌, ℕ, Bool, true, false, List, Option, Some, None, refl, sym, ap, subst, ◌∙◌}
+use Rattle.std.specs.Prelude.{slice_get, ◌==◌, position, option_map, option_and_then, if◌then◌else◌}
 use Rattle.std.specs.Option.{option_map_or}
 use Rattle.std.proofs.lemmas.List.Quantifiers.{position-Some}
-use Rattle.std.proofs.lemmas.Option.{same_Some, get_or_from_slice_get}
+use Rattle.std.proofs.lemmas.Option.{get_or_from_slice_get}
 use Rattle.be_actor.specs.declared.Instruction.{Instruction}
 use Rattle.be_actor.specs.declared.Instruction.TheVariants.{Note, Post, Send, Reply, Forward, Lock, Unlock, Flush, Sync, Draw}
-use Rattle.be_actor.specs.declared.Place.{Place}
 use Rattle.be_actor.specs.declared.Wish.{Wish}
 use Rattle.be_actor.specs.declared.Wish.TheVariants as wish
-use Rattle.be_actor.specs.Wishes.{wish_at, place_after, next_place, second_part, has_no_room}
+use Rattle.be_actor.specs.Wishes.{wish_at, place_after, second_part, has_no_room}
 use Rattle.be_command.specs.declared.Command.{Command}
 use Rattle.be_link.specs.Queues.{Buffer}
 use Rattle.be_message.specs.declared.target.Target.{Target}
 use Rattle.be_message.specs.Messages.{Message}
-use Rattle.be_port.specs.declared.Duty.TheVariants.{Free, Owed, Done}
+use Rattle.be_port.specs.declared.Duty.TheVariants.{Free, Owed}
 use Rattle.be_port.specs.Ports.{Letter, Port, judged, is_accepted, with_letter, posted}
 use Rattle.be_reply.specs.Cells as reply
 use Rattle.be_script.specs.Script.{Declared}
-use Rattle.be_machine.specs.Activities.{Runner, app, looper, sender_of}
+use Rattle.be_machine.specs.Activities.{app, sender_of}
 use Rattle.be_machine.specs.Commands.{drawn, flushed, flushed_into}
 use Rattle.be_machine.specs.declared.Act.{Act}
 use Rattle.be_machine.specs.Legal.{want_act, wish_act}
 use Rattle.be_machine.specs.Lists.{at}
-use Rattle.be_machine.specs.Looper.{freed, with_looper, with_waiting, with_cell, cell_of, kind_of_reply, claim_act}
+use Rattle.be_machine.specs.Looper.{freed, with_looper, with_waiting, with_cell, kind_of_reply, claim_act}
 use Rattle.be_machine.specs.declared.Act.TheVariants as act
 use Rattle.be_machine.specs.Port.{letter, with_post, is_accepted_at}
-use Rattle.be_machine.specs.Program.{app_program, buffered, is_locked_by, locked_by, hop_of, gone_on, app_gone_on, moved_on}
-use Rattle.be_machine.specs.State.{State, Looper, free, locked, handling, Stage, App}
-use Rattle.be_machine.specs.Step.{granted, is_accepted_wish, met}
+use Rattle.be_machine.specs.Program.{app_program, buffered, is_locked_by, locked_by, app_gone_on, moved_on}
+use Rattle.be_machine.specs.State.{State, Looper, free, locked, handling, App}
+use Rattle.be_machine.specs.Step.{granted, met}
 use Rattle.be_machine.specs.Wants.{asks}
 use Rattle.be_machine.proofs.ProgressStands.{AppStands}
 use Rattle.be_machine.proofs.Waiting.{owed_by_looper, owed_by_port, due_in, is_busy, claims, claims_at, IsBusyByPlace, IsWaiting, Waits}

@@ -1,19 +1,17 @@
 -- What changes of ports, loopers and applications keep who waits for whom.
-use Rattle.std.proofs.Common.{◌≡◌, ℕ, zero, suc, ◌+◌, ◌<◌, ◌≤◌, Bool, true, false, List, [], ◌∷◌, ◌++◌, length, Option, Some, None, refl, sym, ap, subst, ◌∙◌, arith, length-append}
+use Rattle.std.proofs.Common.{◌≡◌, ℕ, ◌+◌, ◌<◌, ◌≤◌, Bool, true, false, List, [], ◌∷◌, ◌++◌, length, Option, Some, None, refl, sym, ap, subst, ◌∙◌, arith, length-append}
 use Rattle.std.specs.Prelude.{slice_get, ◌==◌, if◌then◌else◌}
-use Rattle.std.proofs.lemmas.Bool.Decides.{nat_tests}
 use Rattle.std.proofs.lemmas.Option.{same_Some, slice_get_within}
 use Rattle.be_handler.specs.declared.Route.{Route}
-use Rattle.be_looper.specs.Duties.{Hand, in_hand}
+use Rattle.be_looper.specs.Duties.{in_hand}
 use Rattle.be_message.specs.Messages.{Message}
-use Rattle.be_port.specs.declared.Duty.{Duty}
-use Rattle.be_port.specs.declared.Duty.TheVariants.{Free, Owed, Done}
+use Rattle.be_port.specs.declared.Duty.TheVariants.{Free, Owed}
 use Rattle.be_port.specs.Ports.{Letter, Port, judged, is_accepted, with_letter, posted, front, without_front}
 use Rattle.be_reply.specs.Cells as reply
 use Rattle.be_script.specs.Script.{Declared}
 use Rattle.be_machine.specs.Lists.{at}
-use Rattle.be_machine.specs.State.{Looper, free, locked, handling, Stage, App}
-use Rattle.be_machine.proofs.Lists.{AtPlace, place_here, place_kept, place_elsewhere, at_here, at_elsewhere, at_past, same_number, other_number, is_same_number}
+use Rattle.be_machine.specs.State.{Looper, free, handling, Stage, App}
+use Rattle.be_machine.proofs.Lists.{AtPlace, place_here, place_kept, place_elsewhere, at_here, at_elsewhere, at_past, same_number, other_number}
 use Rattle.be_machine.proofs.Waiting.{total, one_where, owes, owed_by_letter, owed_by_port, owed_by_looper, owed_in, due_in, due_to, is_busy, IsBusyByPlace, IsTakenInTime, Waits}
 use Rattle.be_machine.proofs.WaitingSums.{total_at, total_kept, total_more, total_front}
 

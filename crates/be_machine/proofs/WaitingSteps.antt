@@ -1,6 +1,6 @@
 -- Every legal entry keeps who waits for whom.
-use Rattle.std.proofs.Common.{◌≡◌, ℕ, ◌+◌, ◌<◌, ◌≤◌, Bool, true, false, List, Option, Some, None, refl, sym, ap, subst, ◌∙◌, arith}
-use Rattle.std.specs.Prelude.{slice_get, ◌==◌, Result, Ok, Err, option_map, option_and_then, if◌then◌else◌}
+use Rattle.std.proofs.Common.{◌≡◌, ℕ, ◌+◌, Bool, true, false, List, Option, Some, None, refl, sym, ap, subst, ◌∙◌}
+use Rattle.std.specs.Prelude.{slice_get, Result, Ok, Err, option_map, option_and_then, if◌then◌else◌}
 use Rattle.std.specs.Option.{option_map_or}
 use Rattle.std.proofs.lemmas.Option.{same_Some}
 use Rattle.be_bitmap.specs.Pictures.{Picture}
@@ -21,22 +21,22 @@ use Rattle.be_message.specs.Words.{no_reply_word, not_understood_word}
 use Rattle.be_pane.specs.Panes.{Pane}
 use Rattle.be_port.specs.declared.Duty.{Duty}
 use Rattle.be_port.specs.declared.Duty.TheVariants.{Free, Owed, Done}
-use Rattle.be_port.specs.Ports.{Letter, Port, posted, front, closed_port}
+use Rattle.be_port.specs.Ports.{Letter, Port, front, closed_port}
 use Rattle.be_script.specs.declared.InputLine.{InputLine}
 use Rattle.be_script.specs.declared.InputLine.TheVariants as line
 use Rattle.be_script.specs.Limits.{IsWithinLimits}
 use Rattle.be_script.specs.Script.{Declared}
 use Rattle.be_stack.specs.declared.fault.ChangeFault.{ChangeFault}
-use Rattle.be_machine.specs.Activities.{Runner, app, looper, Activity, runner, twin, input, closing}
-use Rattle.be_machine.specs.Commands.{drawn, flushed, done_at_view, with_effect, without_front, executed_command, executed}
+use Rattle.be_machine.specs.Activities.{app, looper, Activity}
+use Rattle.be_machine.specs.Commands.{drawn, done_at_view, with_effect, without_front, executed_command, executed}
 use Rattle.be_machine.specs.declared.Act.{Act}
 use Rattle.be_machine.specs.declared.Act.TheVariants as act
 use Rattle.be_machine.specs.declared.Entry.{Entry}
 use Rattle.be_machine.specs.Input.{input_letter, ports_with, delivery_of, used, with_under, activated, with_delivery, with_event}
 use Rattle.be_machine.specs.Legal.{want_act, IsLegal}
-use Rattle.be_machine.specs.Lists.{at, with_both}
+use Rattle.be_machine.specs.Lists.{with_both}
 use Rattle.be_machine.specs.Looper.{with_looper, freed, word_alone, told_at_end, ended_hand}
-use Rattle.be_machine.specs.Port.{letter_route, first_stage, notice, take_act, with_letter_in_hand, taken, notified}
+use Rattle.be_machine.specs.Port.{letter_route, first_stage, notice, take_act, with_letter_in_hand, taken}
 use Rattle.be_machine.specs.Program.{hand_in, hand_at}
 use Rattle.be_machine.specs.State.{State, Looper, free, locked, handling, Stage, at_close}
 use Rattle.be_machine.specs.Step.{met, step}
@@ -45,7 +45,7 @@ use Rattle.be_machine.specs.Wants.{Want, asks, takes, begins, flushes, draws_end
 use Rattle.be_machine.specs.Windows.{ports_after, changed_to, changed}
 use Rattle.be_machine.proofs.LegalEntries.{IsMet, met_by, maker, maker_is}
 use Rattle.be_machine.proofs.ProgressStands.{app_stands, looper_stands}
-use Rattle.be_machine.proofs.Waiting.{owes, owed_by_looper, owed_by_port, IsTakenInTime, IsWaiting, Waits}
+use Rattle.be_machine.proofs.Waiting.{owes, owed_by_looper, IsWaiting, Waits}
 use Rattle.be_machine.proofs.WaitingMoves.{loopers_kept, ports_kept, post_kept, notice_kept, take_kept, answer_kept}
 use Rattle.be_machine.proofs.WaitingApps.{flushed_kept}
 use Rattle.be_machine.proofs.WaitingGranted.{app_granted}

@@ -1,5 +1,7 @@
 //! What holds of every legal history. Each law is the contract of a function with an empty body.
 
 mod orderly;
+mod progress;
 
 pub use orderly::every_history_is_orderly;
+pub use progress::no_history_is_stuck;
