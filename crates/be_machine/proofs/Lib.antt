@@ -26,3 +26,6 @@ pub mod ProgressNumbers
 pub mod ProgressStuck
 pub mod ProgressEnds
 pub mod ProgressGoesOn
+pub mod ProgressRest
+pub mod ProgressStops
+pub mod ProgressFinished
