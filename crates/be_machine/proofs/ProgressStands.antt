@@ -47,7 +47,7 @@ app_stands d s m wish e = app_there d s m wish (slice_get s.apps m) refl e
 -- ---- bodies
 
 -- what may stand in a Draw body may stand in a body
-draw_step_is : (d : Declared) (w : ℕ) (i : Instruction) → is_draw_step d w i ≡ true → is_body_step d w i ≡ true
+pub draw_step_is : (d : Declared) (w : ℕ) (i : Instruction) → is_draw_step d w i ≡ true → is_body_step d w i ≡ true
 draw_step_is d w (Note word) h = h
 draw_step_is d w (Post v target draft) h = cc
 draw_step_is d w (Send v target draft) h = cc

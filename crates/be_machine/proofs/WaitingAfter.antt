@@ -45,7 +45,7 @@ opening_due (suc n) (suc m) = opening_due n m
 opening_busy : (d : Declared) (m : ℕ) → IsBusyByPlace d m opening_app
 opening_busy d m = sym (claims_first (slice_get (app_program d m) 0))
 
-opening_waiting : (d : Declared) → IsWaiting d (opening_state d)
+pub opening_waiting : (d : Declared) → IsWaiting d (opening_state d)
 unfolding opening_state
 opening_waiting d = record {
   busy = λ m a read. subst (IsBusyByPlace d m) (repeated (length d.apps) m opening_app a read) (opening_busy d m);

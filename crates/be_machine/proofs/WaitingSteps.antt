@@ -107,7 +107,7 @@ begun_kept d s w h = by_test (IsWaiting d) _ _ (passed_by s w) (opened_by d s w 
 
 -- ---- the end of a message
 
-hand_read : (s : State) (w : ℕ) (hand : Hand Message) (o : Option Looper) → slice_get s.loopers w ≡ o → option_and_then hand_in o ≡ Some hand → (stage : Stage) × (slice_get s.loopers w ≡ Some (handling hand stage))
+pub hand_read : (s : State) (w : ℕ) (hand : Hand Message) (o : Option Looper) → slice_get s.loopers w ≡ o → option_and_then hand_in o ≡ Some hand → (stage : Stage) × (slice_get s.loopers w ≡ Some (handling hand stage))
 hand_read s w hand (Some (handling other stage)) read e = (stage, read ∙ ap (λ x. Some (handling x stage)) (same_Some other hand e))
 hand_read s w hand (Some (locked m)) read e = cc
 hand_read s w hand (Some free) read e = cc
