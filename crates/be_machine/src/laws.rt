@@ -3,5 +3,5 @@
 mod counts;
 mod orderly;
 
-pub use counts::numbers_stay_small;
+pub use counts::{no_history_outgrows_its_work, numbers_stay_small};
 pub use orderly::every_history_is_orderly;
