@@ -24,7 +24,7 @@ use Rattle.be_script.specs.declared.InputLine.{InputLine}
 use Rattle.be_script.specs.declared.InputLine.TheVariants as line
 use Rattle.be_script.specs.Script.{Declared}
 use Rattle.be_twin.specs.Executed.{without_session}
-use Rattle.be_update.specs.Sessions.{is_any, with_notice}
+use Rattle.be_update.specs.Sessions.{is_any, passed, with_notice}
 use Rattle.be_machine.specs.Activities.{Runner, app, looper, activity_of, sender_of}
 use Rattle.be_machine.specs.Commands.{drawn, flushed, flushed_into, with_effect, done_at_view, without_front as without_command, executed, executed_command}
 use Rattle.be_machine.specs.declared.Entry.{Entry}
@@ -211,14 +211,9 @@ grows_opened s w corner = record {
 }
 
 grows_passed : (s : State) (w : ℕ) → Grows 0 0 0 s (passed_by s w)
-grows_passed s w = record {
-  arrived = ports_stay s.ports;
-  made = buffers_stay s.buffers;
-  used = omega arith;
-  panes = length_at s.panes w _;
-  ports = refl;
-  rooted = λ h. h;
-}
+grows_passed s w =
+    let t : State = record s { panes = at s.panes w passed } in
+    and_then s t _ (same_panes s w passed) (same_loopers t _)
 
 grows_begun : (s : State) (w : ℕ) → Grows 0 0 0 s (begun s w)
 unfolding begun

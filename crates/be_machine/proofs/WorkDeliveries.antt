@@ -31,9 +31,6 @@ AllFit what posts = (i : ℕ) → MayFit what (slice_get posts i)
 none_fits : (what : ℕ) → MayFit what None
 none_fits what post e = cc
 
-none_fit : (what : ℕ) → AllFit what []
-none_fit what i post e = cc
-
 option_fits : (what : ℕ) (o : Option Post) → MayFit what o → AllFit what (option_to_list o)
 option_fits what (Some p) h zero post e = h post e
 option_fits what (Some p) h (suc i) post e = cc

@@ -5,7 +5,7 @@ use Rattle.std.proofs.lemmas.List.Sums.{sum_by-append, sum_by-cons}
 use Rattle.be_geom.specs.Numbers.{is_number}
 use Rattle.be_views.specs.Trees.{Tree, View, children_from, children_of, parent_of, preorder_from, preorder}
 use Rattle.be_machine.specs.Orderly.{one_if}
-use Rattle.be_machine.proofs.Lists.{same_number, is_same_number}
+use Rattle.be_machine.proofs.Lists.{same_number}
 use Rattle.be_machine.proofs.NumbersGrow.{IsRooted}
 
 -- ---- how often a view stands in the preorder
@@ -48,9 +48,6 @@ over_if : (f : ℕ → ℕ) (b : Bool) (c : ℕ × View) (cs : List (ℕ × View
 unfolding over
 over_if f true c cs = refl
 over_if f false c cs = omega arith
-
-same_one : (m n : ℕ) → m ≡ n → one_if (m == n) ≡ 1
-same_one m n e = rw (← e) (let is : (m == m) ≡ true = is_same_number m in rw is refl)
 
 other_by : (m n : ℕ) (b : Bool) → (m == n) ≡ b → (m ≡ n → ⊥) → one_if b ≡ 0
 other_by m n true e h = absurd (h (same_number m n e))

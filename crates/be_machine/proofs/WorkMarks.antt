@@ -92,9 +92,6 @@ cleaned_keeps desk w u screen e =
 
 -- ---- a focus changes no pixel
 
-still_if : (a b : Bool) (c exposed : Cell) → a ≡ true → (if a then c else exposed) ≡ c
-still_if a b c exposed h = rw h refl
-
 still_cell : (before after : Desk) (all : List (List Color)) (w t : ℕ) (old : Lookup) (x y : ℤ) (c : Cell) (b : Bool) → (t == w) ≡ b → owner_at before.windows x y ≡ Some t → (if b then own_cell before after all w still old x y c else own_cell before after all t still old x y c) ≡ c
 still_cell before after all w t old x y c true e owner =
     let mine : owns before w x y ≡ true = ap (is_number w) owner ∙ e in

@@ -57,10 +57,6 @@ is_shown_target target.Window = true
 is_shown_target (target.View v) = true
 is_shown_target (target.Plain h) = false
 
-three_more : (d : Declared) (updates w : ℕ) (t : Target) (what : ℕ) → 3 ≤ message_cost d updates w t what
-unfolding message_cost
-three_more d updates w t what = omega arith
-
 missing_by : (d : Declared) (updates w v what : ℕ) → (route_of (chain_of d w) what (target.View v) ≡ route.TheVariants.Unknown) ⊎ (route_of (chain_of d w) what (target.View v) ≡ route_of (chain_of d w) what target.Window) → message_cost d updates w (target.View v) what ≤ message_cost d updates w target.Window what
 unfolding message_cost body_program
 missing_by d updates w v what (inl unknown) = rw unknown (omega arith)

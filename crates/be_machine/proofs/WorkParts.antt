@@ -94,9 +94,6 @@ loopers_drop d loopers w f down = omega (arith, weight_at (looper_share d) loope
 
 -- ---- ports
 
-port_share : Declared → ℕ → Port Message → ℕ
-port_share d w p = sum_by (letter_share d w) (queue_of p)
-
 letter_adds : (d : Declared) (w : ℕ) (letter : Letter Message) (p : Port Message) → sum_by (letter_share d w) (queue_of (with_letter letter p)) ≤ sum_by (letter_share d w) (queue_of p) + letter_share d w letter
 letter_adds d w letter p = sum_drop_push (letter_share d w) p.taken p.arrived letter
 

@@ -27,10 +27,6 @@ use Rattle.be_machine.proofs.Lists.{both_first, both_second, same_number}
 Together : Target → Target → Option (Target × Bool) → Option (Target × Bool) → Type 0
 Together a b x y = (x ≡ y) ⊎ ((x ≡ Some (a, false)) × (y ≡ Some (b, false)))
 
-through_none : (what : ℕ) (fs : List Filter) (a b : Target) (o : Option (Target × Bool)) → Together a b (through what fs o) (through what fs o)
-unfolding Together
-through_none what fs a b o = inl refl
-
 ruled_together : (what : ℕ) (fs : List Filter) (a b : Target) (r : Rule) → Together a b (through what fs (Some (a, false))) (through what fs (Some (b, false))) → Together a b (through what fs (ruled a false r)) (through what fs (ruled b false r))
 unfolding Together
 ruled_together what fs a b Skip h = inl refl
