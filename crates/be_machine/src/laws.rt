@@ -1,10 +1,12 @@
 //! What holds of every legal history. Each law is the contract of a function with an empty body.
 
+mod counts;
 mod orderly;
 mod pixels;
 mod progress;
 mod touched;
 
+pub use counts::{no_history_outgrows_its_work, numbers_stay_small};
 pub use orderly::every_history_is_orderly;
 pub use pixels::{
     a_pixel_is_changed_by_its_window_alone, commands_stay_in_their_window, drawing_leaves_marks, the_desktop_shows_where_no_window_is,
