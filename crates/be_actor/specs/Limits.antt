@@ -14,7 +14,7 @@ use Rattle.be_actor.specs.Drafts.{DraftWords, Word, value, current, copied}
 abbrev pub is_reserved : ℕ → Bool
 is_reserved what = what == update_notice || what == no_reply_word || what == not_understood_word
 
--- a value that a line can spell: any but a message
+-- a value of a type that a line can spell: any but a message; that a text of a line has no space isn't asked here
 abbrev pub is_spelt : Datum → Bool
 is_spelt (bool b) = true
 is_spelt (int z) = true

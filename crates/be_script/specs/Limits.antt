@@ -1,4 +1,5 @@
--- What every script keeps that is read (limits are this project's own).
+-- What every script keeps that is read (limits are this project's own). The ranges of coordinates, numbers and colours
+-- are those of a script's types, and what only its text has isn't asked here: the letters of a what, the lengths of lines.
 use Rattle.std.specs.Prelude.{◌≡◌, ℕ, ◌+◌, ◌*◌, ◌≤◌, ◌==◌, pos, ℤ, Bool, true, false, not, ◌&&◌, ◌-ℤ◌, nat_le, nat_lt, List, [], ◌∷◌, ◌++◌, map, filter, length, Option, Some, None, slice_get}
 use Rattle.std.specs.List.{list_all, range_with_len}
 use Rattle.be_actor.specs.Limits.{is_reserved}

@@ -1,4 +1,5 @@
--- What a change makes of the windows.
+-- What a change makes of the windows (The Be Book: the calls of BWindow; that Show and Hide neither change the order nor
+-- activate, and that a window which is hidden or closed isn't active any more, is this project's own).
 use Rattle.std.specs.Prelude.{ℕ, ℤ, Bool, true, ◌==◌, ◌&&◌, ◌||◌, ◌+◌, ◌-◌, ◌+ℤ◌, ◌-ℤ◌, not, min, List, ◌∷◌, Option, Some, None, Result, Ok, Err, slice_get, if◌then◌else◌}
 use Rattle.std.specs.Int.RustNames.{bit_and}
 use Rattle.be_geom.specs.declared.change.Change.{Change}
@@ -39,6 +40,7 @@ hidden s w window =
     record (with_window s w (record window { hides = min (window.hides + 1) 4294967295 })) { active = active_without w s.active }
 
 -- a window that is activated becomes the active one where it is shown and doesn't avoid the focus, by the flag of worth 2
+-- (its worth is this project's own)
 abbrev pub takes_focus : Window → Bool
 takes_focus window = is_shown_window window && not (bit_and window.flags.0 2 == 2)
 

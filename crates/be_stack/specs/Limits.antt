@@ -1,4 +1,4 @@
--- What may be asked of the windows.
+-- What may be asked of the windows (the numbers are this project's own).
 use Rattle.std.specs.Prelude.{pos, negsuc, Bool, true, ◌&&◌, nat_lt, length}
 use Rattle.be_geom.specs.declared.change.Change.{Change}
 use Rattle.be_geom.specs.declared.change.Change.TheVariants.{MoveBy, ResizeTo, Behind}

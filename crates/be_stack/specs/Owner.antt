@@ -1,4 +1,4 @@
--- Who owns a pixel of the screen.
+-- Who owns a pixel of the screen (The Be Book: a window covers those behind it).
 use Rattle.std.specs.Prelude.{ℕ, ℤ, pos, Bool, ◌&&◌, List, Option, None, slice_get, find, int_le, int_lt, if◌then◌else◌}
 use Rattle.be_geom.specs.Rects.{rect_has}
 use Rattle.be_stack.specs.declared.window.Window.{Window}

@@ -1,4 +1,4 @@
--- The windows of a screen, and what is kept of each.
+-- The windows of a screen, and what is kept of each (The Be Book: BWindow).
 use Rattle.std.specs.Prelude.{ℕ, ℤ, pos, Bool, false, ◌==◌, ◌&&◌, ◌-ℤ◌, not, List, [], ◌∷◌, ◌++◌, Option, Some, None, slice_get, slice_set}
 use Rattle.be_geom.specs.declared.rect.Rect.{Rect}
 use Rattle.be_geom.specs.Points.{between}
