@@ -29,3 +29,5 @@ pub mod ProgressGoesOn
 pub mod ProgressRest
 pub mod ProgressStops
 pub mod ProgressFinished
+pub mod ProgressReady
+pub mod ProgressSchedule
