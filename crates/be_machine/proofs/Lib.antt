@@ -2,6 +2,7 @@ pub mod Lists
 pub mod LegalEntries
 pub mod Programs
 pub mod Tallied
+pub mod ProgressCases
 pub mod Waiting
 pub mod WaitingSums
 pub mod ProgressStands
