@@ -4,4 +4,4 @@ mod orderly;
 mod progress;
 
 pub use orderly::every_history_is_orderly;
-pub use progress::{no_history_is_stuck, nothing_follows_stop};
+pub use progress::{each_seed_has_one_history, no_history_is_stuck, nothing_follows_stop};
