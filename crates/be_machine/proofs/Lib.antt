@@ -78,3 +78,6 @@ pub mod WorkInput
 pub mod WorkOpening
 pub mod WorkFalls
 pub mod WorkHistory
+pub mod ProgressCases
+pub mod ProgressReady
+pub mod ProgressSchedule

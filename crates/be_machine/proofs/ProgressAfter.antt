@@ -127,7 +127,7 @@ no_events : (d : Declared) → (opening_state d).events ≤ length d.input
 unfolding opening_state
 no_events d = omega arith
 
-opening_settled : (d : Declared) → IsWithinLimits d → IsSettled d (opening_state d)
+pub opening_settled : (d : Declared) → IsWithinLimits d → IsSettled d (opening_state d)
 opening_settled d limits = record { parts = opening_parts d; calm = opening_calm d; locks = opening_locks d limits; waits = opening_waiting d; events = no_events d }
 
 -- ---- after a history

@@ -1,7 +1,6 @@
 -- What leaves loopers, buffers and applications as they were: commands that are executed, notices and input.
 use Rattle.std.proofs.Common.{◌≡◌, ℕ, List, length, Option, Some, None, refl, ◌∙◌}
-use Rattle.std.specs.Prelude.{slice_get, Result, Ok, Err}
-use Rattle.std.specs.Option.{option_map_or}
+use Rattle.std.specs.Prelude.{slice_get, option_and_then, Result, Ok, Err}
 use Rattle.be_bitmap.specs.Pictures.{Picture}
 use Rattle.be_command.specs.Effects.{Effect, at_view, changes, ends_update, effect_of}
 use Rattle.be_desk.specs.Changes.{Desk, desk_after}
@@ -11,7 +10,6 @@ use Rattle.be_input.specs.declared.Event.TheVariants as event
 use Rattle.be_input.specs.Deliveries.{Post, Delivery}
 use Rattle.be_link.specs.Queues.{Numbered, shortened}
 use Rattle.be_message.specs.Messages.{Message}
-use Rattle.be_pane.specs.Panes.{Pane}
 use Rattle.be_port.specs.Ports.{Port, with_letter, posted, closed_port}
 use Rattle.be_script.specs.declared.InputLine.{InputLine}
 use Rattle.be_script.specs.declared.InputLine.TheVariants as line
@@ -24,6 +22,7 @@ use Rattle.be_machine.specs.Input.{input_letter, ports_with, delivery_of, used, 
 use Rattle.be_machine.specs.Port.{notice, notified}
 use Rattle.be_machine.specs.State.{State}
 use Rattle.be_machine.specs.Windows.{ports_after, changed_to, changed}
+use Rattle.be_machine.proofs.ProgressCases.{by_option}
 use Rattle.be_machine.proofs.Lists.{length_at}
 
 -- of ports, links and panes there are as many as before
@@ -76,25 +75,18 @@ beside_changed s w change = changed_by s w change (desk_after s.desk w change)
 
 -- ---- commands
 
-deed_by : (s : State) (f : Pane → State) (o : Option Pane) → ((pane : Pane) → Beside s (f pane)) → Beside s (option_map_or f o s)
-deed_by s f (Some pane) h = h pane
-deed_by s f None h = beside_itself s
-
 beside_effect : (pictures : List Picture) (s : State) (w : ℕ) (effect : Effect) → Beside s (with_effect pictures s w effect)
-beside_effect pictures s w (at_view v deed) = deed_by s (done_at_view pictures s w v deed) (slice_get s.panes w) (λ pane. record { loopers = refl; buffers = refl; apps = refl; events = refl; stopped = refl; ports = refl; links = refl; panes = length_at s.panes w (pane_after pictures deed v (sight_at s w v pane)) })
+beside_effect pictures s w (at_view v deed) = by_option (Beside s) (done_at_view pictures s w v deed) s (slice_get s.panes w) (beside_itself s) (λ pane. record { loopers = refl; buffers = refl; apps = refl; events = refl; stopped = refl; ports = refl; links = refl; panes = length_at s.panes w (pane_after pictures deed v (sight_at s w v pane)) })
 beside_effect pictures s w (changes change) = beside_changed s w change
 beside_effect pictures s w ends_update = record { loopers = refl; buffers = refl; apps = refl; events = refl; stopped = refl; ports = refl; links = refl; panes = length_at s.panes w without_session }
 
 beside_front : (s : State) (w : ℕ) → Beside s (without_front s w)
 beside_front s w = record { loopers = refl; buffers = refl; apps = refl; events = refl; stopped = refl; ports = refl; links = length_at s.links w shortened; panes = refl }
 
-executed_by : (d : Declared) (s : State) (w : ℕ) (o : Option Numbered) → Beside s (option_map_or (executed_command d s w) o s)
-executed_by d s w (Some c) = beside_then s (without_front s w) _ (beside_front s w) (beside_effect d.pictures (without_front s w) w (effect_of c.command))
-executed_by d s w None = beside_itself s
-
 pub beside_executed : (d : Declared) (s : State) (w : ℕ) → Beside s (executed d s w)
 unfolding executed
-beside_executed d s w = executed_by d s w _
+beside_executed d s w = by_option (Beside s) (executed_command d s w) s (option_and_then (λ (link : List Numbered). slice_get link 0) (slice_get s.links w)) (beside_itself s)
+    (λ c. beside_then s (without_front s w) _ (beside_front s w) (beside_effect d.pictures (without_front s w) w (effect_of c.command)))
 
 pub beside_notified : (s : State) (w : ℕ) → Beside s (notified s w)
 beside_notified s w = record { loopers = refl; buffers = refl; apps = refl; events = refl; stopped = refl; ports = length_at s.ports w (with_letter (notice w)); links = refl; panes = length_at s.panes w with_notice }

@@ -1,7 +1,6 @@
 -- A buffer holds 32 commands at most, and that of a free looper none.
-use Rattle.std.proofs.Common.{◌≡◌, ℕ, ◌+◌, ◌<◌, ◌≤◌, Bool, true, false, List, length, Option, Some, None, refl, sym, ap, ◌∙◌, arith, length-append}
+use Rattle.std.proofs.Common.{◌≡◌, ℕ, ◌+◌, ◌<◌, ◌≤◌, Bool, true, false, List, length, Some, None, refl, sym, ap, ◌∙◌, arith, length-append}
 use Rattle.std.specs.Prelude.{slice_get, nat_le, option_and_then, if◌then◌else◌}
-use Rattle.std.specs.Option.{option_map_or}
 use Rattle.std.proofs.lemmas.Bool.Decides.{nat_tests}
 use Rattle.be_command.specs.declared.Command.{Command}
 use Rattle.be_link.specs.Queues.{Buffer, is_full, with_command, emptied}
@@ -10,6 +9,7 @@ use Rattle.be_machine.specs.declared.Act.{Act}
 use Rattle.be_machine.specs.declared.Act.TheVariants as act
 use Rattle.be_machine.specs.Lists.{at}
 use Rattle.be_machine.specs.State.{State, Looper, free, locked, handling}
+use Rattle.be_machine.proofs.ProgressCases.{by_option}
 use Rattle.be_machine.proofs.Lists.{AtPlace}
 use Rattle.be_machine.proofs.ProgressPlaces.{Each, each_kept}
 
@@ -49,12 +49,8 @@ calm_buffer loopers buffers w f change h =
     λ u l read b there. turned u b there l read
 
 -- the buffer is emptied
-calm_flushed_by : (s : State) (w : ℕ) (o : Option Buffer) → AreCalm s.loopers s.buffers → AreCalm (option_map_or (flushed_into s w) o s).loopers (option_map_or (flushed_into s w) o s).buffers
-calm_flushed_by s w (Some b) h = calm_buffer s.loopers s.buffers w emptied (λ l b here there calm. record { within = omega arith; idle = λ e. refl }) h
-calm_flushed_by s w None h = h
-
 pub calm_flushed : (s : State) (w : ℕ) → AreCalm s.loopers s.buffers → AreCalm (flushed s w).loopers (flushed s w).buffers
-calm_flushed s w h = calm_flushed_by s w (slice_get s.buffers w) h
+calm_flushed s w h = by_option (λ t. AreCalm t.loopers t.buffers) (flushed_into s w) s (slice_get s.buffers w) h (λ b. calm_buffer s.loopers s.buffers w emptied (λ l b here there calm. record { within = omega arith; idle = λ e. refl }) h)
 
 -- ---- a command more
 

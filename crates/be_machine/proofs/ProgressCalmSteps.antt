@@ -29,6 +29,7 @@ use Rattle.be_machine.specs.Update.{at_stage, opened, passed_by, begun}
 use Rattle.be_machine.specs.Wants.{Want, asks, takes, begins, flushes, draws_end, ends, notifies, executes, uses, stops, want_of}
 use Rattle.be_update.specs.Sessions.{is_any}
 use Rattle.be_machine.specs.Windows.{dirty_of, corner_at}
+use Rattle.be_machine.proofs.ProgressCases.{by_test, by_option, neither}
 use Rattle.be_machine.proofs.LegalEntries.{maker}
 use Rattle.be_machine.proofs.ProgressBeside.{Beside, beside_executed, beside_event}
 use Rattle.be_machine.proofs.ProgressCalm.{is_free_looper, AreCalm, calm_looper, calm_freed, calm_flushed, calm_drawn}
@@ -41,36 +42,24 @@ use Rattle.be_machine.proofs.WaitingSteps.{Takes, take_tells, taken_is}
 abbrev pub IsCalmState : State → Type 0
 IsCalmState s = AreCalm s.loopers s.buffers
 
-by_test : {X : Type 0} (P : X → Type 0) (b : Bool) (x y : X) → P x → P y → P (if b then x else y)
-by_test P true x y h k = h
-by_test P false x y h k = k
-
-by_option : {X : Type 0} (P : State → Type 0) (f : X → State) (s : State) (o : Option X) → P s → ((x : X) → P (f x)) → P (option_map_or f o s)
-by_option P f s (Some x) h k = k x
-by_option P f s None h k = h
-
 -- ---- an application's lock
 
 unlock_if : (b : Bool) → (if b then wish.Unlock else wish.Flush) ≡ wish.Unlock → b ≡ true
 unlock_if true e = refl
 unlock_if false e = cc
 
-not_unlock : (b : Bool) (x y : Wish) (P : Type 0) → (x ≡ wish.Unlock → ⊥) → (y ≡ wish.Unlock → ⊥) → (if b then x else y) ≡ wish.Unlock → P
-not_unlock true x y P h k e = absurd (h e)
-not_unlock false x y P h k e = absurd (k e)
-
 -- a lock is given back with an empty buffer
 pub unlock_empty : (part n : ℕ) (i : Instruction) → wish_at part None n i ≡ wish.Unlock → (n == 0) ≡ true
 unlock_empty part n Unlock e = unlock_if (n == 0) e
 unlock_empty part n (Note word) e = cc
 unlock_empty part n (Post w target draft) e = cc
-unlock_empty part n (Send w target draft) e = not_unlock (part == 0) _ wish.Claim _ (λ h. cc) (λ h. cc) e
+unlock_empty part n (Send w target draft) e = neither (part == 0) _ wish.Claim wish.Unlock _ (λ h. cc) (λ h. cc) e
 unlock_empty part n (Reply draft) e = cc
 unlock_empty part n (Forward w target) e = cc
 unlock_empty part n (Lock w) e = cc
 unlock_empty part n Flush e = cc
-unlock_empty part n Sync e = not_unlock (part == 0) wish.Flush wish.SyncDone _ (λ h. cc) (λ h. cc) e
-unlock_empty part n (Draw c) e = not_unlock (has_no_room n) wish.Flush (wish.Draw c) _ (λ h. cc) (λ h. cc) e
+unlock_empty part n Sync e = neither (part == 0) wish.Flush wish.SyncDone wish.Unlock _ (λ h. cc) (λ h. cc) e
+unlock_empty part n (Draw c) e = neither (has_no_room n) wish.Flush (wish.Draw c) wish.Unlock _ (λ h. cc) (λ h. cc) e
 
 none_in : (s : State) (w : ℕ) (b : Buffer) (o : Option ℕ) → o ≡ Some w → slice_get s.buffers w ≡ Some b → (option_map_or (λ (x : Buffer). length x.commands) (option_and_then (λ v. slice_get s.buffers v) o) 0 == 0) ≡ true → length b.commands ≡ 0
 none_in s w b o at read e =

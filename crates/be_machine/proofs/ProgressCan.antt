@@ -1,12 +1,11 @@
 -- Where the link of its window is empty, who has a looper can go on.
-use Rattle.std.proofs.Common.{◌≡◌, ℕ, ◌+◌, ◌<◌, ◌≤◌, Bool, true, false, List, length, Option, Some, None, refl, sym, ap, ◌∙◌, arith}
+use Rattle.std.proofs.Common.{◌≡◌, ℕ, ◌+◌, ◌<◌, ◌≤◌, true, false, List, length, Option, Some, None, refl, sym, ap, ◌∙◌, arith}
 use Rattle.std.specs.Prelude.{slice_get, nat_le, nat_lt, ◌==◌, option_map, option_and_then, if◌then◌else◌}
 use Rattle.std.specs.Option.{option_map_or}
 use Rattle.std.proofs.lemmas.Bool.Decides.{nat_tests}
 use Rattle.be_actor.specs.declared.Instruction.{Instruction}
 use Rattle.be_actor.specs.declared.Instruction.TheVariants.{Note, Post, Send, Reply, Forward, Lock, Unlock, Flush, Sync, Draw}
 use Rattle.be_actor.specs.declared.Place.{Place}
-use Rattle.be_actor.specs.declared.Wish.{Wish}
 use Rattle.be_actor.specs.declared.Wish.TheVariants as wish
 use Rattle.be_actor.specs.Wishes.{wish_at, wish_of, has_no_room}
 use Rattle.be_link.specs.Queues.{Buffer, Numbered, is_full, fits}
@@ -31,6 +30,7 @@ use Rattle.be_machine.specs.Program.{window_of, hop_of, hand_of, buffered, lette
 use Rattle.be_machine.specs.State.{State, Stage, in_body, beginning, in_update, at_close}
 use Rattle.be_machine.specs.Update.{owes_notice}
 use Rattle.be_machine.specs.Wants.{Want, begins, flushes, draws_end, ends, asks_or, end_want, draw_end_want, stage_want}
+use Rattle.be_machine.proofs.ProgressCases.{by_outcome}
 use Rattle.be_machine.proofs.Lists.{IsThere, there, both_first, all_get}
 use Rattle.be_machine.proofs.Programs.{body_steps, update_steps}
 use Rattle.be_machine.proofs.ProgressParts.{HasParts}
@@ -42,10 +42,6 @@ Can o = o ≡ None → ⊥
 
 pub can_some : (o : Option Act) (a : Act) → o ≡ Some a → Can o
 can_some o a e none = cc
-
-pub by_if : (f : Wish → Option Act) (b : Bool) (x y : Wish) → (b ≡ true → Can (f x)) → (b ≡ false → Can (f y)) → Can (f (if b then x else y))
-by_if f true x y h k = h refl
-by_if f false x y h k = k refl
 
 -- ---- a window
 
@@ -126,10 +122,10 @@ locked_can d s m w part (Send v target draft) parts own h = cc
 locked_can d s m w part (Reply draft) parts own h = cc
 locked_can d s m w part (Forward v target) parts own h = cc
 locked_can d s m w part (Lock v) parts own h = cc
-locked_can d s m w part Unlock parts own h = by_if (wish_act s (app m)) (buffered s (app m) == 0) wish.Unlock wish.Flush (λ e. can_unlock s (app m) w own) (λ e. can_flush s (app m) w own)
+locked_can d s m w part Unlock parts own h = by_outcome (λ x. Can (wish_act s (app m) x)) (buffered s (app m) == 0) wish.Unlock wish.Flush (λ e. can_unlock s (app m) w own) (λ e. can_flush s (app m) w own)
 locked_can d s m w part Flush parts own h = can_flush s (app m) w own
-locked_can d s m w part Sync parts own h = by_if (wish_act s (app m)) (part == 0) wish.Flush wish.SyncDone (λ e. can_flush s (app m) w own) (λ e. can_sync s (app m) w own)
-locked_can d s m w part (Draw c) parts own h = by_if (wish_act s (app m)) (has_no_room (buffered s (app m))) wish.Flush (wish.Draw c) (λ e. can_flush s (app m) w own) (λ e. can_draw s (app m) w own e)
+locked_can d s m w part Sync parts own h = by_outcome (λ x. Can (wish_act s (app m) x)) (part == 0) wish.Flush wish.SyncDone (λ e. can_flush s (app m) w own) (λ e. can_sync s (app m) w own)
+locked_can d s m w part (Draw c) parts own h = by_outcome (λ x. Can (wish_act s (app m) x)) (has_no_room (buffered s (app m))) wish.Flush (wish.Draw c) (λ e. can_flush s (app m) w own) (λ e. can_draw s (app m) w own e)
 
 can_reply : (s : State) (w : ℕ) (hand : Hand Message) → hand_of s (looper w) ≡ Some hand → Can (option_map (λ (h : Hand Message). answer_of (reply_answer h.duty)) (hand_of s (looper w)))
 can_reply s w hand read = can_some _ _ (ap (option_map (λ (h : Hand Message). answer_of (reply_answer h.duty))) read)
@@ -145,24 +141,20 @@ body_can d s w part now hand (Forward v target) parts own read h = can_post d s 
 body_can d s w part now hand (Lock v) parts own read h = cc
 body_can d s w part now hand Unlock parts own read h = cc
 body_can d s w part now hand Flush parts own read h = can_flush s (looper w) w own
-body_can d s w part now hand Sync parts own read h = by_if (wish_act s (looper w)) (part == 0) wish.Flush wish.SyncDone (λ e. can_flush s (looper w) w own) (λ e. can_sync s (looper w) w own)
-body_can d s w part now hand (Draw c) parts own read h = by_if (wish_act s (looper w)) (has_no_room (buffered s (looper w))) wish.Flush (wish.Draw c) (λ e. can_flush s (looper w) w own) (λ e. can_draw s (looper w) w own e)
+body_can d s w part now hand Sync parts own read h = by_outcome (λ x. Can (wish_act s (looper w) x)) (part == 0) wish.Flush wish.SyncDone (λ e. can_flush s (looper w) w own) (λ e. can_sync s (looper w) w own)
+body_can d s w part now hand (Draw c) parts own read h = by_outcome (λ x. Can (wish_act s (looper w) x)) (has_no_room (buffered s (looper w))) wish.Flush (wish.Draw c) (λ e. can_flush s (looper w) w own) (λ e. can_draw s (looper w) w own e)
 
 -- ---- a looper with a letter in its hand
-
-want_if : (f : Want → Option Act) (b : Bool) (x y : Want) → (b ≡ true → Can (f x)) → (b ≡ false → Can (f y)) → Can (f (if b then x else y))
-want_if f true x y h k = h refl
-want_if f false x y h k = k refl
 
 end_can : (d : Declared) (s : State) (w : ℕ) (hand : Hand Message) → Owns s (looper w) w → hand_of s (looper w) ≡ Some hand → Can (want_act d s (end_want s w))
 unfolding want_act
 end_can d s w hand own read =
-    want_if (want_act d s) (buffered s (looper w) == 0) (ends w) (flushes w) (λ e. can_some _ _ (ap (option_map end_act) read)) (λ e. can_some _ _ (flush_some s (looper w) w own))
+    by_outcome (λ x. Can (want_act d s x)) (buffered s (looper w) == 0) (ends w) (flushes w) (λ e. can_some _ _ (ap (option_map end_act) read)) (λ e. can_some _ _ (flush_some s (looper w) w own))
 
 draw_end_can : (d : Declared) (s : State) (w : ℕ) → Owns s (looper w) w → Can (want_act d s (draw_end_want s w))
 unfolding want_act
 draw_end_can d s w own =
-    want_if (want_act d s) (has_no_room (buffered s (looper w))) (flushes w) (draws_end w) (λ e. can_some _ _ (flush_some s (looper w) w own)) (λ e. can_some _ _ (draw_some s (looper w) w own e))
+    by_outcome (λ x. Can (want_act d s x)) (has_no_room (buffered s (looper w))) (flushes w) (draws_end w) (λ e. can_some _ _ (flush_some s (looper w) w own)) (λ e. can_some _ _ (draw_some s (looper w) w own e))
 
 asks_can : (d : Declared) (s : State) (w : ℕ) (hand : Hand Message) (program : List Instruction) (place : Place) (last : Want) (o : Option Instruction) → HasParts d s → Owns s (looper w) w → hand_of s (looper w) ≡ Some hand → slice_get program place.step ≡ o → ((i : Instruction) → slice_get program place.step ≡ Some i → is_body_step d w i ≡ true) → Can (want_act d s last) → Can (want_act d s (asks_or (looper w) (option_map (wish_at place.part (Some hand.letter.body) (buffered s (looper w))) o) last))
 unfolding want_act

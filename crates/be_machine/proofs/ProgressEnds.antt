@@ -28,9 +28,10 @@ use Rattle.be_machine.specs.Program.{app_program, buffered, has_ended}
 use Rattle.be_machine.specs.State.{State, Looper, free, App}
 use Rattle.be_machine.specs.Update.{owes_notice}
 use Rattle.be_machine.specs.Wants.{uses, want_of}
+use Rattle.be_machine.proofs.ProgressCases.{by_outcome}
 use Rattle.be_machine.proofs.Lists.{IsThere, there, both_first, all_get}
 use Rattle.be_machine.proofs.ProgressAfter.{IsSettled}
-use Rattle.be_machine.proofs.ProgressCan.{IsQuiet, Can, can_some, can_post, by_if, is_below, none_is_zero}
+use Rattle.be_machine.proofs.ProgressCan.{IsQuiet, Can, can_some, can_post, is_below, none_is_zero}
 use Rattle.be_machine.proofs.ProgressLocks.{HasLock, Follows, StepKeeps, step_keeps}
 use Rattle.be_machine.proofs.ProgressPlaces.{same_place, get_past, all_pass, all_pass_below}
 use Rattle.be_machine.proofs.ProgressStuck.{NoAct, NobodyActs, IsIdle, app_act}
@@ -94,7 +95,7 @@ unfolding wish_act
 free_can d s m a (Note word) h idle read next allowed = can_some _ _ refl
 free_can d s m a (Post v target draft) h idle read next allowed = can_post d s v 0 target h.parts (both_first (is_address d v target) _ allowed)
 free_can d s m a (Send v target draft) h idle read next allowed =
-    by_if (wish_act s (app m)) (a.place.part == 0) (wish.Send v target _) wish.Claim
+    by_outcome (λ x. Can (wish_act s (app m) x)) (a.place.part == 0) (wish.Send v target _) wish.Claim
     (λ first. can_post d s v 0 target h.parts (both_first (is_address d v target) _ allowed))
     (λ second. can_claim s m a read (h.waits.busy m a read ∙ ap (λ o. claims o a.place.part) next ∙ ap not second) (none_due d s m a h idle read))
 free_can d s m a (Reply draft) h idle read next allowed = cc

@@ -41,5 +41,9 @@ by_search d s limits h running (inr none) =
     let nobody : NobodyActs d s = nobody_acts d s none in
     absurd (not_stuck d s limits h nobody (λ w inside. twin_quiet d s w h nobody inside) (λ w inside. looper_idle d s w limits h nobody inside) running)
 
+-- in a settled state that hasn't stopped somebody has a legal entry
+pub settled_goes_on : (d : Declared) (s : State) → IsWithinLimits d → IsSettled d s → s.stopped ≡ false → (e : Entry) × IsLegal d s e
+settled_goes_on d s limits h running = by_search d s limits h running (found_below d s (activities d))
+
 pub goes_on : (d : Declared) (h : List Entry) → IsWithinLimits d → IsLegalHistory d h → (state_after d h).stopped ≡ false → (e : Entry) × IsLegal d (state_after d h) e
-goes_on d h limits legal running = by_search d (state_after d h) limits (settled_after d h limits legal) running (found_below d (state_after d h) (activities d))
+goes_on d h limits legal running = settled_goes_on d (state_after d h) limits (settled_after d h limits legal) running

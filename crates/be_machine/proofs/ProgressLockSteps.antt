@@ -1,6 +1,6 @@
 -- A lock that an application gets or gives back is the one that its program has from there on.
 use Rattle.std.proofs.Common.{◌≡◌, ℕ, ◌+◌, ◌<◌, Bool, true, false, List, drop, length, Option, Some, None, refl, sym, ap, subst, ◌∙◌, arith}
-use Rattle.std.specs.Prelude.{slice_get, ◌==◌, if◌then◌else◌}
+use Rattle.std.specs.Prelude.{slice_get, ◌==◌}
 use Rattle.std.proofs.lemmas.List.Quantifiers.{position-Some}
 use Rattle.std.proofs.lemmas.Option.{same_Some, slice_get_within}
 use Rattle.be_actor.specs.declared.Instruction.{Instruction}
@@ -16,6 +16,7 @@ use Rattle.be_machine.specs.Activities.{app}
 use Rattle.be_machine.specs.Lists.{at}
 use Rattle.be_machine.specs.Program.{app_program, buffered, is_locked_by, locked_by, app_gone_on}
 use Rattle.be_machine.specs.State.{State, Looper, free, locked, handling, App}
+use Rattle.be_machine.proofs.ProgressCases.{neither}
 use Rattle.be_machine.proofs.Lists.{IsThere, there, length_at, same_number}
 use Rattle.be_machine.proofs.ProgressPlaces.{each_at, each_kept, same_place, other_place}
 use Rattle.be_machine.proofs.ProgressLocks.{HasLock, Follows, IsKnown, AreLocked, StepKeeps, step_keeps, has_kept}
@@ -24,10 +25,6 @@ use Rattle.be_machine.proofs.WaitingApps.{gone_to}
 use Rattle.be_machine.proofs.WaitingGranted.{position_passes}
 
 -- ---- at which instruction
-
-neither : (b : Bool) (x y z : Wish) (P : Type 0) → (x ≡ z → ⊥) → (y ≡ z → ⊥) → (if b then x else y) ≡ z → P
-neither true x y z P h k e = absurd (h e)
-neither false x y z P h k e = absurd (k e)
 
 same_lock : (w v : ℕ) → wish.Lock w ≡ wish.Lock v → Lock w ≡ Lock v
 same_lock w v e = let same : w ≡ v = cc in ap Lock same

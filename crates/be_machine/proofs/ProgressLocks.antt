@@ -15,6 +15,7 @@ use Rattle.be_machine.specs.Activities.{app}
 use Rattle.be_machine.specs.Lists.{at}
 use Rattle.be_machine.specs.Program.{app_program, buffered, is_locked_by, app_gone_on}
 use Rattle.be_machine.specs.State.{State, Looper, App}
+use Rattle.be_machine.proofs.ProgressCases.{by_test}
 use Rattle.be_machine.proofs.Lists.{both_first, both_second, length_at}
 use Rattle.be_machine.proofs.ProgressPlaces.{Each, each_kept, drop_read}
 use Rattle.be_machine.proofs.ProgressStands.{AppStands}
@@ -104,8 +105,7 @@ pub data GoesOn (i : Instruction) (old new : Place) : Type 0 where
   passes : new.step ≡ old.step + 1 → ((lock : Option ℕ) → lock_behind lock i ≡ lock) → GoesOn i old new
 
 by_either : (i : Instruction) (place : Place) (accepted : Bool) (b : Bool) (x y : Wish) → (is_lockless x ≡ true → GoesOn i place (place_after i place accepted x)) → (is_lockless y ≡ true → GoesOn i place (place_after i place accepted y)) → is_lockless (if b then x else y) ≡ true → GoesOn i place (place_after i place accepted (if b then x else y))
-by_either i place accepted true x y h k e = h e
-by_either i place accepted false x y h k e = k e
+by_either i place accepted b x y h k = by_test (λ z. is_lockless z ≡ true → GoesOn i place (place_after i place accepted z)) b x y h k
 
 sent_on : (w : Instruction) (place : Place) (accepted : Bool) → ((lock : Option ℕ) → lock_behind lock w ≡ lock) → GoesOn w place (if accepted then second_part place else next_place place)
 sent_on w place true same = stays refl

@@ -6,7 +6,6 @@ use Rattle.std.proofs.lemmas.Option.{same_Some, slice_get_within}
 use Rattle.be_actor.specs.declared.Wish.{Wish}
 use Rattle.be_actor.specs.declared.Wish.TheVariants as wish
 use Rattle.be_command.specs.declared.Command.TheVariants.{EndUpdate}
-use Rattle.be_link.specs.Queues.{Buffer}
 use Rattle.be_looper.specs.Duties.{Hand, waiter, duty_after_reply, duty_after_forward, duty_handed_on, EndTelling, nobody, no_reply, not_understood, end_telling}
 use Rattle.be_message.specs.declared.target.Target.{Target}
 use Rattle.be_message.specs.Messages.{Message}
@@ -30,6 +29,8 @@ use Rattle.be_machine.specs.Step.{granted, met}
 use Rattle.be_machine.specs.Update.{at_stage, opened, passed_by, begun}
 use Rattle.be_machine.specs.Wants.{Want, asks, takes, begins, flushes, draws_end, ends, notifies, executes, uses, stops, want_of}
 use Rattle.be_machine.specs.Windows.{dirty_of, corner_at}
+use Rattle.be_machine.proofs.WaitingGranted.{flushed_apps}
+use Rattle.be_machine.proofs.ProgressCases.{by_test, by_option}
 use Rattle.be_machine.proofs.LegalEntries.{maker}
 use Rattle.be_machine.proofs.ProgressBeside.{Beside, beside_executed, beside_event}
 use Rattle.be_machine.proofs.ProgressLocks.{AreLocked, locks_kept, cells_kept, is_lockless, gone_on_kept}
@@ -43,14 +44,6 @@ use Rattle.be_machine.proofs.WaitingSums.{at_twice}
 
 abbrev pub IsLockedState : Declared → State → Type 0
 IsLockedState d s = AreLocked d s.loopers s.apps
-
-by_test : {X : Type 0} (P : X → Type 0) (b : Bool) (x y : X) → P x → P y → P (if b then x else y)
-by_test P true x y h k = h
-by_test P false x y h k = k
-
-by_option : {X : Type 0} (P : State → Type 0) (f : X → State) (s : State) (o : Option X) → P s → ((x : X) → P (f x)) → P (option_map_or f o s)
-by_option P f s (Some x) h k = k x
-by_option P f s None h k = h
 
 -- ---- applications
 
@@ -77,13 +70,8 @@ quiet_by d s m x f (Some w) is lockless loopers apps h =
     subst (λ ls. AreLocked d ls (at (f w).apps m (app_gone_on d m false x))) (sym (loopers w)) (subst (λ xs. AreLocked d s.loopers (at xs m (app_gone_on d m false x))) (sym (apps w)) (gone_on_kept d s s.loopers m false x is lockless h))
 quiet_by d s m x f None is lockless loopers apps h = gone_on_kept d s s.loopers m false x is lockless h
 
-flushed_loopers : (s : State) (w : ℕ) (o : Option Buffer) → (option_map_or (flushed_into s w) o s).loopers ≡ s.loopers
-flushed_loopers s w (Some b) = refl
-flushed_loopers s w None = refl
-
-flushed_apps : (s : State) (w : ℕ) (o : Option Buffer) → (option_map_or (flushed_into s w) o s).apps ≡ s.apps
-flushed_apps s w (Some b) = refl
-flushed_apps s w None = refl
+flushed_loopers : (s : State) (w : ℕ) → (flushed s w).loopers ≡ s.loopers
+flushed_loopers s w = by_option (λ t. t.loopers ≡ s.loopers) (flushed_into s w) s (slice_get s.buffers w) refl (λ b. refl)
 
 locked_app : (d : Declared) (s : State) (m : ℕ) (x : Wish) (a : Act) → HasParts d s → AppStands d s m x → want_act d s (asks (app m) x) ≡ Some a → IsLockedState d s → IsLockedState d (met d s (asks (app m) x))
 unfolding met moved_on granted want_act wish_act
@@ -96,7 +84,7 @@ locked_app d s m wish.Claim a parts is e h = cell_gone_on d s m false wish.Claim
 locked_app d s m (wish.Lock v) a parts is e h =
     lock_locks d s m v is (lock_tells s.loopers v a (slice_get s.loopers v) refl e) (let inside : m < length s.apps = slice_get_within s.apps m is.it is.read in let same : length s.apps ≡ length d.apps = parts.apps in omega (arith, inside, same)) h
 locked_app d s m wish.Unlock a parts is e h = unlocked_by d s m a (locked_by s m) is refl e h
-locked_app d s m wish.Flush a parts is e h = quiet_by d s m wish.Flush (flushed s) (locked_by s m) is refl (λ w. flushed_loopers s w (slice_get s.buffers w)) (λ w. flushed_apps s w (slice_get s.buffers w)) h
+locked_app d s m wish.Flush a parts is e h = quiet_by d s m wish.Flush (flushed s) (locked_by s m) is refl (flushed_loopers s) (flushed_apps s) h
 locked_app d s m wish.SyncDone a parts is e h = gone_on_kept d s s.loopers m false _ is refl h
 locked_app d s m (wish.Draw c) a parts is e h = quiet_by d s m (wish.Draw c) (λ w. drawn s w c) (locked_by s m) is refl (λ w. refl) (λ w. refl) h
 

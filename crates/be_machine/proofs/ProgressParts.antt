@@ -6,7 +6,7 @@ use Rattle.be_actor.specs.declared.Wish.{Wish}
 use Rattle.be_actor.specs.declared.Wish.TheVariants as wish
 use Rattle.be_command.specs.declared.Command.{Command}
 use Rattle.be_command.specs.declared.Command.TheVariants.{EndUpdate}
-use Rattle.be_link.specs.Queues.{Buffer, with_command, emptied, lengthened}
+use Rattle.be_link.specs.Queues.{with_command, emptied, lengthened}
 use Rattle.be_looper.specs.Duties.{Hand, waiter, duty_after_reply, duty_after_forward, duty_handed_on, EndTelling, nobody, no_reply, not_understood, end_telling}
 use Rattle.be_message.specs.declared.target.Target.{Target}
 use Rattle.be_message.specs.Messages.{Message}
@@ -14,7 +14,8 @@ use Rattle.be_port.specs.declared.Duty.{Duty}
 use Rattle.be_port.specs.Ports.{Letter, posted, front, without_front}
 use Rattle.be_reply.specs.Cells as reply
 use Rattle.be_script.specs.Script.{Declared}
-use Rattle.be_update.specs.Sessions.{passed}
+use Rattle.be_update.specs.Sessions.{is_any, passed}
+use Rattle.be_machine.specs.Windows.{dirty_of, corner_at}
 use Rattle.be_machine.specs.Activities.{Runner, app, looper, sender_of}
 use Rattle.be_machine.specs.Commands.{drawn, flushed, flushed_into, executed}
 use Rattle.be_machine.specs.Looper.{with_looper, freed, with_cell, with_waiting, sent, claimed, with_duty, with_duty_by, told, told_at_end, ended_hand, forwarded_hand, locked_for}
@@ -24,6 +25,7 @@ use Rattle.be_machine.specs.State.{State, Looper, App, at_close}
 use Rattle.be_machine.specs.Step.{granted, met}
 use Rattle.be_machine.specs.Update.{at_stage, opened, passed_by, begun}
 use Rattle.be_machine.specs.Wants.{Want, asks, takes, begins, flushes, draws_end, ends, notifies, executes, uses, stops}
+use Rattle.be_machine.proofs.ProgressCases.{by_test, by_option}
 use Rattle.be_machine.proofs.Lists.{length_at}
 use Rattle.be_machine.proofs.ProgressBeside.{Beside, beside_executed, beside_notified}
 
@@ -85,30 +87,21 @@ same_claimed : (s : State) (who : Runner) → SameSizes s (claimed s who)
 same_claimed s (app m) = same_cell s m (λ _. reply.idle)
 same_claimed s (looper w) = same_itself s
 
-flushed_by : (s : State) (w : ℕ) (o : Option Buffer) → SameSizes s (option_map_or (flushed_into s w) o s)
-flushed_by s w (Some b) = record { ports = refl; loopers = refl; buffers = length_at s.buffers w emptied; links = length_at s.links w (lengthened b); panes = refl; apps = refl; events = refl; stopped = refl }
-flushed_by s w None = same_itself s
-
 same_flushed : (s : State) (w : ℕ) → SameSizes s (flushed s w)
-same_flushed s w = flushed_by s w (slice_get s.buffers w)
-
-same_if : (s t u : State) (b : Bool) → SameSizes s t → SameSizes s u → SameSizes s (if b then t else u)
-same_if s t u true h k = h
-same_if s t u false h k = k
+same_flushed s w = by_option (SameSizes s) (flushed_into s w) s (slice_get s.buffers w) (same_itself s) (λ b. record { ports = refl; loopers = refl; buffers = length_at s.buffers w emptied; links = length_at s.links w (lengthened b); panes = refl; apps = refl; events = refl; stopped = refl })
 
 same_or : {X : Type 0} (s : State) (f : X → State) (o : Option X) → ((x : X) → SameSizes s (f x)) → SameSizes s (option_map_or f o s)
-same_or s f (Some x) h = h x
-same_or s f None h = same_itself s
+same_or s f o h = by_option (SameSizes s) f s o (same_itself s) h
 
 -- ---- what is granted
 
 forwarded_by : (s : State) (who : Runner) (w : ℕ) (target : Target) (hand : Hand Message) → SameSizes s (forwarded_hand s who w target hand)
 forwarded_by s who w target hand =
     let t : State = with_post s w (letter (sender_of who) target (hop_of s who) (duty_handed_on hand.duty) hand.letter.body) in
-    same_if s (with_duty duty_after_forward who t) t (is_accepted_at s w (hop_of s who)) (same_then s t _ (same_post s w _) (same_duty duty_after_forward who t)) (same_post s w _)
+    by_test (SameSizes s) (is_accepted_at s w (hop_of s who)) (with_duty duty_after_forward who t) t (same_then s t _ (same_post s w _) (same_duty duty_after_forward who t)) (same_post s w _)
 
 sent_by : (s : State) (who : Runner) (w : ℕ) (sent : Letter Message) (b : Bool) → SameSizes s (if b then with_waiting who (with_post s w sent) else with_post s w sent)
-sent_by s who w sent b = same_if s (with_waiting who (with_post s w sent)) (with_post s w sent) b (same_then s (with_post s w sent) _ (same_post s w sent) (same_waiting who (with_post s w sent))) (same_post s w sent)
+sent_by s who w sent b = by_test (SameSizes s) b (with_waiting who (with_post s w sent)) (with_post s w sent) (same_then s (with_post s w sent) _ (same_post s w sent) (same_waiting who (with_post s w sent))) (same_post s w sent)
 
 same_granted : (s : State) (who : Runner) (x : Wish) → SameSizes s (granted s who x)
 unfolding granted
@@ -139,7 +132,7 @@ same_taken d s w = same_or s (with_letter_in_hand d s w) (option_and_then front 
 same_begun : (s : State) (w : ℕ) → SameSizes s (begun s w)
 unfolding begun
 same_begun s w =
-    same_if s _ (passed_by s w) _ (same_or s (opened s w) _ (λ corner. record { ports = refl; loopers = length_at s.loopers w _; buffers = refl; links = refl; panes = length_at s.panes w _; apps = refl; events = refl; stopped = refl }))
+    by_test (SameSizes s) (is_any (dirty_of s w)) (option_map_or (opened s w) (corner_at s w) s) (passed_by s w) (same_or s (opened s w) (corner_at s w) (λ corner. record { ports = refl; loopers = length_at s.loopers w _; buffers = refl; links = refl; panes = length_at s.panes w _; apps = refl; events = refl; stopped = refl }))
     (record { ports = refl; loopers = length_at s.loopers w (at_stage at_close); buffers = refl; links = refl; panes = length_at s.panes w passed; apps = refl; events = refl; stopped = refl })
 
 same_telling : (t : EndTelling) (s : State) → SameSizes s (told_at_end t s)

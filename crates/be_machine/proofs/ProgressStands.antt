@@ -16,6 +16,7 @@ use Rattle.be_machine.specs.Activities.{app, looper, runner}
 use Rattle.be_machine.specs.Program.{app_wish, body_wish, app_program, letter_program, update_program, buffered}
 use Rattle.be_machine.specs.State.{State, App, Looper, free, locked, handling, Stage, in_body, beginning, in_update, at_close}
 use Rattle.be_machine.specs.Wants.{Want, asks, takes, flushes, draws_end, ends, asks_or, end_want, draw_end_want, stage_want, looper_want, want_of}
+use Rattle.be_machine.proofs.ProgressCases.{neither}
 use Rattle.be_machine.proofs.Lists.{both_first, all_get}
 use Rattle.be_machine.proofs.Programs.{body_steps, update_steps}
 
@@ -69,10 +70,6 @@ pub record LooperStands (d : Declared) (s : State) (w : ℕ) (wish : Wish) : Typ
   pub allowed : is_body_step d w step ≡ true
   pub asked : wish_at place.part (Some hand.letter.body) (buffered s (looper w)) step ≡ wish
 
-not_asks : (b : Bool) (x y : Want) (P : Want → Type 0) → (P x → ⊥) → (P y → ⊥) → P (if b then x else y) → ⊥
-not_asks true x y P h k e = h e
-not_asks false x y P h k e = k e
-
 body_at : (d : Declared) (s : State) (w : ℕ) (wish : Wish) (hand : Hand Message) (stage : Stage) (place : Place) (program : List Instruction) (last : Want) (o : Option Instruction) → slice_get s.loopers w ≡ Some (handling hand stage) → slice_get program place.step ≡ o → ((i : Instruction) → slice_get program place.step ≡ Some i → is_body_step d w i ≡ true) → (last ≡ asks (looper w) wish → ⊥) → asks_or (looper w) (option_map (wish_at place.part (Some hand.letter.body) (buffered s (looper w))) o) last ≡ asks (looper w) wish → LooperStands d s w wish
 body_at d s w wish hand stage place program last (Some i) read next allowed other e =
     let same : wish_at place.part (Some hand.letter.body) (buffered s (looper w)) i ≡ wish = cc in
@@ -80,10 +77,10 @@ body_at d s w wish hand stage place program last (Some i) read next allowed othe
 body_at d s w wish hand stage place program last None read next allowed other e = absurd (other e)
 
 end_asks : (s : State) (w : ℕ) (wish : Wish) → end_want s w ≡ asks (looper w) wish → ⊥
-end_asks s w wish e = not_asks (buffered s (looper w) == 0) (ends w) (flushes w) (λ x. x ≡ asks (looper w) wish) (λ h. cc) (λ h. cc) e
+end_asks s w wish e = neither (buffered s (looper w) == 0) (ends w) (flushes w) (asks (looper w) wish) _ (λ h. cc) (λ h. cc) e
 
 draw_end_asks : (s : State) (w : ℕ) (wish : Wish) → draw_end_want s w ≡ asks (looper w) wish → ⊥
-draw_end_asks s w wish e = not_asks (has_no_room (buffered s (looper w))) (flushes w) (draws_end w) (λ x. x ≡ asks (looper w) wish) (λ h. cc) (λ h. cc) e
+draw_end_asks s w wish e = neither (has_no_room (buffered s (looper w))) (flushes w) (draws_end w) (asks (looper w) wish) _ (λ h. cc) (λ h. cc) e
 
 stage_stands : (d : Declared) (s : State) (w : ℕ) (wish : Wish) (hand : Hand Message) (stage : Stage) → IsWithinLimits d → slice_get s.loopers w ≡ Some (handling hand stage) → stage_want d s w hand stage ≡ asks (looper w) wish → LooperStands d s w wish
 unfolding wish_of

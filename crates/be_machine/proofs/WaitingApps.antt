@@ -9,7 +9,6 @@ use Rattle.be_actor.specs.declared.Place.{Place}
 use Rattle.be_actor.specs.declared.Wish.{Wish}
 use Rattle.be_actor.specs.declared.Wish.TheVariants as wish
 use Rattle.be_actor.specs.Wishes.{wish_at, place_after, place_after_flush, next_place}
-use Rattle.be_link.specs.Queues.{Buffer}
 use Rattle.be_script.specs.Script.{Declared}
 use Rattle.be_machine.specs.Activities.{app}
 use Rattle.be_machine.specs.Commands.{flushed, flushed_into}
@@ -17,6 +16,7 @@ use Rattle.be_machine.specs.declared.Act.{Act}
 use Rattle.be_machine.specs.Looper.{lock_act, locked_for, with_looper}
 use Rattle.be_machine.specs.Program.{app_program, buffered, gone_on, app_gone_on, moved_on}
 use Rattle.be_machine.specs.State.{State, Looper, free, locked, handling}
+use Rattle.be_machine.proofs.ProgressCases.{by_option}
 use Rattle.be_machine.proofs.ProgressStands.{AppStands}
 use Rattle.be_machine.proofs.Waiting.{owed_by_looper, claims, claims_at, IsBusyByPlace, IsWaiting}
 use Rattle.be_machine.proofs.WaitingMoves.{loopers_kept, apps_kept}
@@ -155,9 +155,5 @@ lock_tells loopers v act None read e = cc
 pub lock_kept : (d : Declared) (s : State) (m v : ℕ) → slice_get s.loopers v ≡ Some free → IsWaiting d s → IsWaiting d (with_looper s v (locked_for (app m)))
 lock_kept d s m v read h = loopers_kept d s.ports s.loopers s.apps v (locked_for (app m)) (λ k l there. ap (owed_by_looper k) (same_Some free l (sym read ∙ there))) h
 
-flushed_by : (d : Declared) (s : State) (w : ℕ) (o : Option Buffer) → IsWaiting d s → IsWaiting d (option_map_or (flushed_into s w) o s)
-flushed_by d s w (Some b) h = h
-flushed_by d s w None h = h
-
 pub flushed_kept : (d : Declared) (s : State) (w : ℕ) → IsWaiting d s → IsWaiting d (flushed s w)
-flushed_kept d s w h = flushed_by d s w (slice_get s.buffers w) h
+flushed_kept d s w h = by_option (IsWaiting d) (flushed_into s w) s (slice_get s.buffers w) h (λ b. h)

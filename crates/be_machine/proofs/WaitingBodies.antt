@@ -23,6 +23,7 @@ use Rattle.be_machine.specs.Program.{hand_in, hand_of, hop_of, looper_gone_on, m
 use Rattle.be_machine.specs.State.{State, Looper, free, locked, handling, Stage}
 use Rattle.be_machine.specs.Step.{granted, met}
 use Rattle.be_machine.specs.Wants.{asks}
+use Rattle.be_machine.proofs.ProgressCases.{by_test, neither}
 use Rattle.be_machine.proofs.ProgressStands.{LooperStands}
 use Rattle.be_machine.proofs.Waiting.{owes, owed_by_looper, IsWaiting}
 use Rattle.be_machine.proofs.WaitingMoves.{loopers_kept, post_kept, forward_kept, answer_kept}
@@ -42,24 +43,7 @@ body_moved d t w accepted x h = loopers_kept d t.ports t.loopers t.apps w (loope
 
 -- ---- a body gives back no lock
 
-abbrev is_unlock : Wish → Bool
-is_unlock wish.Unlock = true
-is_unlock (wish.Send w target message) = false
-is_unlock wish.Claim = false
-is_unlock (wish.Note word) = false
-is_unlock (wish.Post w target message) = false
-is_unlock (wish.Forward w target) = false
-is_unlock (wish.Reply message) = false
-is_unlock (wish.Lock w) = false
-is_unlock wish.Flush = false
-is_unlock wish.SyncDone = false
-is_unlock (wish.Draw command) = false
-
-neither_unlocks : (b : Bool) (x y : Wish) → is_unlock x ≡ false → is_unlock y ≡ false → is_unlock (if b then x else y) ≡ true → (P : Type 0) → P
-neither_unlocks true x y h k e P = cc
-neither_unlocks false x y h k e P = cc
-
-keeps_hand : (d : Declared) (w part buffered : ℕ) (now : Option Message) (i : Instruction) → is_body_step d w i ≡ true → is_unlock (wish_at part now buffered i) ≡ true → (P : Type 0) → P
+keeps_hand : (d : Declared) (w part buffered : ℕ) (now : Option Message) (i : Instruction) → is_body_step d w i ≡ true → wish_at part now buffered i ≡ wish.Unlock → (P : Type 0) → P
 keeps_hand d w part buffered now (Send v target draft) allowed e P = cc
 keeps_hand d w part buffered now (Note word) allowed e P = cc
 keeps_hand d w part buffered now (Post v target draft) allowed e P = cc
@@ -68,17 +52,13 @@ keeps_hand d w part buffered now (Forward v target) allowed e P = cc
 keeps_hand d w part buffered now (Lock v) allowed e P = cc
 keeps_hand d w part buffered now Unlock allowed e P = cc
 keeps_hand d w part buffered now Flush allowed e P = cc
-keeps_hand d w part buffered now Sync allowed e P = neither_unlocks (part == 0) wish.Flush wish.SyncDone refl refl e P
-keeps_hand d w part buffered now (Draw c) allowed e P = neither_unlocks (has_no_room buffered) wish.Flush (wish.Draw c) refl refl e P
+keeps_hand d w part buffered now Sync allowed e P = neither (part == 0) wish.Flush wish.SyncDone wish.Unlock P (λ h. cc) (λ h. cc) e
+keeps_hand d w part buffered now (Draw c) allowed e P = neither (has_no_room buffered) wish.Flush (wish.Draw c) wish.Unlock P (λ h. cc) (λ h. cc) e
 
 pub no_unlock : (d : Declared) (s : State) (w : ℕ) (P : Type 0) → LooperStands d s w wish.Unlock → P
-no_unlock d s w P is = keeps_hand d w is.place.part (buffered s (looper w)) (Some is.hand.letter.body) is.step is.allowed (ap is_unlock is.asked) P
+no_unlock d s w P is = keeps_hand d w is.place.part (buffered s (looper w)) (Some is.hand.letter.body) is.step is.allowed is.asked P
 
 -- ---- posts and forwards
-
-sent_by : (d : Declared) (s : State) (w : ℕ) (b : Bool) → IsWaiting d s → IsWaiting d (if b then with_waiting (looper w) s else s)
-sent_by d s w true h = h
-sent_by d s w false h = h
 
 forward_owes : (m : ℕ) (duty : Duty) → owes m (duty_handed_on duty) + owes m (duty_after_forward duty) ≡ owes m duty
 forward_owes m (Owed n) = omega arith
@@ -125,7 +105,7 @@ body_granted d s w (wish.Note word) is h = body_moved d s w false (wish.Note wor
 body_granted d s w (wish.Post v target message) is h = body_moved d _ w (is_accepted_at s v (hop_of s (looper w))) (wish.Post v target message) (post_kept d s.ports s.loopers s.apps v (letter (sender_of (looper w)) target (hop_of s (looper w)) Free message) refl h)
 body_granted d s w (wish.Send v target message) is h =
     let sent = letter (sender_of (looper w)) target (hop_of s (looper w)) Free message in
-    body_moved d _ w (is_accepted_at s v (hop_of s (looper w))) (wish.Send v target message) (sent_by d (with_post s v sent) w (is_accepted_at s v (hop_of s (looper w))) (post_kept d s.ports s.loopers s.apps v sent refl h))
+    body_moved d _ w (is_accepted_at s v (hop_of s (looper w))) (wish.Send v target message) (by_test (IsWaiting d) (is_accepted_at s v (hop_of s (looper w))) (with_waiting (looper w) (with_post s v sent)) (with_post s v sent) (post_kept d s.ports s.loopers s.apps v sent refl h) (post_kept d s.ports s.loopers s.apps v sent refl h))
 body_granted d s w (wish.Forward v target) is h = body_moved d _ w (is_accepted_at s v (hop_of s (looper w))) (wish.Forward v target) (body_forward d s w v target is h)
 body_granted d s w (wish.Reply message) is h = body_moved d _ w false (wish.Reply message) (body_reply d s w message is h)
 body_granted d s w wish.Claim is h = body_moved d s w false wish.Claim h

@@ -9,8 +9,6 @@ use Rattle.be_actor.specs.declared.Instruction.TheVariants.{Note, Post, Send, Re
 use Rattle.be_actor.specs.declared.Wish.{Wish}
 use Rattle.be_actor.specs.declared.Wish.TheVariants as wish
 use Rattle.be_actor.specs.Wishes.{wish_at, place_after, second_part, has_no_room}
-use Rattle.be_command.specs.declared.Command.{Command}
-use Rattle.be_link.specs.Queues.{Buffer}
 use Rattle.be_message.specs.declared.target.Target.{Target}
 use Rattle.be_message.specs.Messages.{Message}
 use Rattle.be_port.specs.declared.Duty.TheVariants.{Free, Owed}
@@ -29,6 +27,7 @@ use Rattle.be_machine.specs.Program.{app_program, buffered, is_locked_by, locked
 use Rattle.be_machine.specs.State.{State, Looper, free, locked, handling, App}
 use Rattle.be_machine.specs.Step.{granted, met}
 use Rattle.be_machine.specs.Wants.{asks}
+use Rattle.be_machine.proofs.ProgressCases.{by_option, neither}
 use Rattle.be_machine.proofs.ProgressStands.{AppStands}
 use Rattle.be_machine.proofs.Waiting.{owed_by_looper, owed_by_port, due_in, is_busy, claims, claims_at, IsBusyByPlace, IsWaiting, Waits}
 use Rattle.be_machine.proofs.WaitingSums.{at_twice}
@@ -50,21 +49,8 @@ unlock_by : (d : Declared) (s : State) (m : ℕ) (o : Option ℕ) → locked_by 
 unlock_by d s m (Some w) found h = loopers_kept d s.ports s.loopers s.apps w (λ _. free) (λ k l read. sym (lock_owes k m l (position_passes (is_locked_by m) s.loopers w l found read))) h
 unlock_by d s m None found h = h
 
-flush_by : (d : Declared) (s : State) (o : Option ℕ) → IsWaiting d s → IsWaiting d (option_map_or (flushed s) o s)
-flush_by d s (Some w) h = flushed_kept d s w h
-flush_by d s None h = h
-
-draw_by : (d : Declared) (s : State) (command : Command) (o : Option ℕ) → IsWaiting d s → IsWaiting d (option_map_or (λ w. drawn s w command) o s)
-draw_by d s command (Some w) h = h
-draw_by d s command None h = h
-
-same_apps : (o : Option ℕ) (f : ℕ → State) (s : State) → ((w : ℕ) → (f w).apps ≡ s.apps) → (option_map_or f o s).apps ≡ s.apps
-same_apps (Some w) f s h = h w
-same_apps None f s h = refl
-
-flushed_apps : (s : State) (w : ℕ) (o : Option Buffer) → (option_map_or (flushed_into s w) o s).apps ≡ s.apps
-flushed_apps s w (Some b) = refl
-flushed_apps s w None = refl
+pub flushed_apps : (s : State) (w : ℕ) → (flushed s w).apps ≡ s.apps
+flushed_apps s w = by_option (λ t. t.apps ≡ s.apps) (flushed_into s w) s (slice_get s.buffers w) refl (λ b. refl)
 
 -- ---- what a port says of a letter
 
@@ -94,34 +80,17 @@ refused_kept d s v letter e h = ports_kept d s.ports s.loopers s.apps v (posted 
 
 -- ---- a letter for whose reply an application waits
 
-abbrev is_send : Wish → Bool
-is_send (wish.Send w target message) = true
-is_send wish.Claim = false
-is_send (wish.Note word) = false
-is_send (wish.Post w target message) = false
-is_send (wish.Forward w target) = false
-is_send (wish.Reply message) = false
-is_send (wish.Lock w) = false
-is_send wish.Unlock = false
-is_send wish.Flush = false
-is_send wish.SyncDone = false
-is_send (wish.Draw command) = false
-
-neither_sends : (b : Bool) (x y : Wish) → is_send x ≡ false → is_send y ≡ false → is_send (if b then x else y) ≡ true → (P : Type 0) → P
-neither_sends true x y h k e P = cc
-neither_sends false x y h k e P = cc
-
-sends : (part buffered : ℕ) (i : Instruction) → is_send (wish_at part None buffered i) ≡ true → claims (Some i) 1 ≡ true
-sends part buffered (Send w target draft) e = refl
-sends part buffered (Note word) e = cc
-sends part buffered (Post w target draft) e = cc
-sends part buffered (Reply draft) e = cc
-sends part buffered (Forward w target) e = cc
-sends part buffered (Lock w) e = cc
-sends part buffered Unlock e = neither_sends (buffered == 0) wish.Unlock wish.Flush refl refl e _
-sends part buffered Flush e = cc
-sends part buffered Sync e = neither_sends (part == 0) wish.Flush wish.SyncDone refl refl e _
-sends part buffered (Draw c) e = neither_sends (has_no_room buffered) wish.Flush (wish.Draw c) refl refl e _
+sends : (part buffered v : ℕ) (target : Target) (message : Message) (i : Instruction) → wish_at part None buffered i ≡ wish.Send v target message → claims (Some i) 1 ≡ true
+sends part buffered v target message (Send w to draft) e = refl
+sends part buffered v target message (Note word) e = cc
+sends part buffered v target message (Post w to draft) e = cc
+sends part buffered v target message (Reply draft) e = cc
+sends part buffered v target message (Forward w to) e = cc
+sends part buffered v target message (Lock w) e = cc
+sends part buffered v target message Unlock e = neither (buffered == 0) wish.Unlock wish.Flush (wish.Send v target message) _ (λ h. cc) (λ h. cc) e
+sends part buffered v target message Flush e = cc
+sends part buffered v target message Sync e = neither (part == 0) wish.Flush wish.SyncDone (wish.Send v target message) _ (λ h. cc) (λ h. cc) e
+sends part buffered v target message (Draw c) e = neither (has_no_room buffered) wish.Flush (wish.Draw c) (wish.Send v target message) _ (λ h. cc) (λ h. cc) e
 
 idle_due : (c : reply.Cell) → is_busy c ≡ false → due_in c ≡ 0
 idle_due reply.waiting e = cc
@@ -136,7 +105,7 @@ sent_busy : (d : Declared) (s : State) (m v : ℕ) (target : Target) (message : 
 unfolding place_after
 sent_busy d s m v target message is h =
     let program = app_program d m in
-    let second : claims_at program (second_part is.it.place) ≡ true = ap (λ o. claims o 1) is.next ∙ sends is.it.place.part (buffered s (app m)) is.step (ap is_send is.asked) in
+    let second : claims_at program (second_part is.it.place) ≡ true = ap (λ o. claims o 1) is.next ∙ sends is.it.place.part (buffered s (app m)) v target message is.step is.asked in
     sym (ap (claims_at program) (gone_to program is.it.place is.step true (wish.Send v target message) is.next) ∙ second)
 
 refused_busy : (d : Declared) (s : State) (m v : ℕ) (target : Target) (message : Message) (is : AppStands d s m (wish.Send v target message)) → IsBusyByPlace d m is.it → IsBusyByPlace d m (app_gone_on d m false (wish.Send v target message) is.it)
@@ -193,9 +162,9 @@ app_granted d s m (wish.Reply message) a is e h = quiet_kept d s s m false (wish
 app_granted d s m wish.Claim a is e h = claim_kept d s m a is e h
 app_granted d s m (wish.Lock v) a is e h = quiet_kept d s (with_looper s v (λ _. locked m)) m false (wish.Lock v) is refl refl (lock_kept d s m v (lock_tells s.loopers v a (slice_get s.loopers v) refl e) h)
 app_granted d s m wish.Unlock a is e h =
-    quiet_kept d s (option_map_or (freed s) (locked_by s m) s) m false wish.Unlock is refl (same_apps (locked_by s m) (freed s) s (λ w. refl)) (unlock_by d s m (locked_by s m) refl h)
+    quiet_kept d s (option_map_or (freed s) (locked_by s m) s) m false wish.Unlock is refl (by_option (λ t. t.apps ≡ s.apps) (freed s) s (locked_by s m) refl (λ w. refl)) (unlock_by d s m (locked_by s m) refl h)
 app_granted d s m wish.Flush a is e h =
-    quiet_kept d s (option_map_or (flushed s) (locked_by s m) s) m false wish.Flush is refl (same_apps (locked_by s m) (flushed s) s (λ w. flushed_apps s w (slice_get s.buffers w))) (flush_by d s (locked_by s m) h)
+    quiet_kept d s (option_map_or (flushed s) (locked_by s m) s) m false wish.Flush is refl (by_option (λ t. t.apps ≡ s.apps) (flushed s) s (locked_by s m) refl (flushed_apps s)) (by_option (IsWaiting d) (flushed s) s (locked_by s m) h (λ w. flushed_kept d s w h))
 app_granted d s m wish.SyncDone a is e h = quiet_kept d s s m false wish.SyncDone is refl refl h
 app_granted d s m (wish.Draw command) a is e h =
-    quiet_kept d s (option_map_or (λ w. drawn s w command) (locked_by s m) s) m false (wish.Draw command) is refl (same_apps (locked_by s m) (λ w. drawn s w command) s (λ w. refl)) (draw_by d s command (locked_by s m) h)
+    quiet_kept d s (option_map_or (λ w. drawn s w command) (locked_by s m) s) m false (wish.Draw command) is refl (by_option (λ t. t.apps ≡ s.apps) (λ w. drawn s w command) s (locked_by s m) refl (λ w. refl)) (by_option (IsWaiting d) (λ w. drawn s w command) s (locked_by s m) h (λ w. h))

@@ -1,6 +1,6 @@
 -- What changes of ports, loopers and applications keep who waits for whom.
 use Rattle.std.proofs.Common.{◌≡◌, ℕ, ◌+◌, ◌<◌, ◌≤◌, Bool, true, false, List, [], ◌∷◌, ◌++◌, length, Option, Some, None, refl, sym, ap, subst, ◌∙◌, arith, length-append}
-use Rattle.std.specs.Prelude.{slice_get, ◌==◌, if◌then◌else◌}
+use Rattle.std.specs.Prelude.{slice_get, ◌==◌}
 use Rattle.std.proofs.lemmas.Option.{same_Some, slice_get_within}
 use Rattle.be_handler.specs.declared.Route.{Route}
 use Rattle.be_looper.specs.Duties.{in_hand}
@@ -11,6 +11,7 @@ use Rattle.be_reply.specs.Cells as reply
 use Rattle.be_script.specs.Script.{Declared}
 use Rattle.be_machine.specs.Lists.{at}
 use Rattle.be_machine.specs.State.{Looper, free, handling, Stage, App}
+use Rattle.be_machine.proofs.ProgressCases.{by_test}
 use Rattle.be_machine.proofs.Lists.{AtPlace, place_here, place_kept, place_elsewhere, at_here, at_elsewhere, at_past, same_number, other_number}
 use Rattle.be_machine.proofs.Waiting.{total, one_where, owes, owed_by_letter, owed_by_port, owed_by_looper, owed_in, due_in, due_to, is_busy, IsBusyByPlace, IsTakenInTime, Waits}
 use Rattle.be_machine.proofs.WaitingSums.{total_at, total_kept, total_more, total_front}
@@ -52,13 +53,9 @@ more_owed m letter p h = total_more (owed_by_letter m) p.arrived p.taken letter 
 in_time_more : (letter : Letter Message) (p : Port Message) → IsTakenInTime p → IsTakenInTime (with_letter letter p)
 in_time_more letter p h = let longer : length (p.arrived ++ letter ∷ []) ≡ length p.arrived + 1 = length-append p.arrived (letter ∷ []) in omega (arith, longer)
 
-if_either : {X : Type 0} (P : X → Type 0) (b : Bool) (x y : X) → P x → P y → P (if b then x else y)
-if_either P true x y h k = h
-if_either P false x y h k = k
-
 pub in_time_posted : (letter : Letter Message) (p : Port Message) → IsTakenInTime p → IsTakenInTime (posted letter p)
 unfolding posted
-in_time_posted letter p h = if_either IsTakenInTime (is_accepted (judged p letter.hop)) (with_letter letter p) p (in_time_more letter p h) h
+in_time_posted letter p h = by_test IsTakenInTime (is_accepted (judged p letter.hop)) (with_letter letter p) p (in_time_more letter p h) h
 
 -- a letter that owes nothing
 pub free_letter : (m : ℕ) (letter : Letter Message) (p : Port Message) → letter.duty ≡ Free → IsTakenInTime p → owed_by_port m (with_letter letter p) ≡ owed_by_port m p
@@ -69,7 +66,7 @@ free_letter m letter p nothing h =
 
 free_posted : (m : ℕ) (letter : Letter Message) (p : Port Message) → letter.duty ≡ Free → IsTakenInTime p → owed_by_port m (posted letter p) ≡ owed_by_port m p
 unfolding posted
-free_posted m letter p nothing h = if_either (λ q. owed_by_port m q ≡ owed_by_port m p) (is_accepted (judged p letter.hop)) (with_letter letter p) p (free_letter m letter p nothing h) refl
+free_posted m letter p nothing h = by_test (λ q. owed_by_port m q ≡ owed_by_port m p) (is_accepted (judged p letter.hop)) (with_letter letter p) p (free_letter m letter p nothing h) refl
 
 -- a post to which nobody waits for a reply
 pub post_kept : (d : Declared) (ports : List (Port Message)) (loopers : List Looper) (apps : List App) (v : ℕ) (letter : Letter Message) → letter.duty ≡ Free → Waits d ports loopers apps → Waits d (at ports v (posted letter)) loopers apps

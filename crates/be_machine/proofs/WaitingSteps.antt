@@ -1,6 +1,6 @@
 -- Every legal entry keeps who waits for whom.
-use Rattle.std.proofs.Common.{◌≡◌, ℕ, ◌+◌, Bool, true, false, List, Option, Some, None, refl, sym, ap, subst, ◌∙◌}
-use Rattle.std.specs.Prelude.{slice_get, Result, Ok, Err, option_map, option_and_then, if◌then◌else◌}
+use Rattle.std.proofs.Common.{◌≡◌, ℕ, ◌+◌, List, Option, Some, None, refl, sym, ap, subst, ◌∙◌}
+use Rattle.std.specs.Prelude.{slice_get, Result, Ok, Err, option_map, option_and_then}
 use Rattle.std.specs.Option.{option_map_or}
 use Rattle.std.proofs.lemmas.Option.{same_Some}
 use Rattle.be_bitmap.specs.Pictures.{Picture}
@@ -9,7 +9,6 @@ use Rattle.be_command.specs.Effects.{Effect, at_view, changes, ends_update, effe
 use Rattle.be_desk.specs.Changes.{Desk, desk_after}
 use Rattle.be_geom.specs.declared.change.Change.{Change}
 use Rattle.be_geom.specs.declared.change.Change.TheVariants.{Show, Hide, MoveTo, MoveBy, ResizeTo, Activate, Behind, Focus, Close}
-use Rattle.be_geom.specs.declared.point.Point.{Point}
 use Rattle.be_handler.specs.declared.Route.{Route}
 use Rattle.be_handler.specs.declared.Route.TheVariants.{Skipped, Handler, Unknown}
 use Rattle.be_input.specs.declared.Event.TheVariants as event
@@ -18,7 +17,6 @@ use Rattle.be_link.specs.Queues.{Numbered}
 use Rattle.be_looper.specs.Duties.{Hand, end_telling}
 use Rattle.be_message.specs.Messages.{Message}
 use Rattle.be_message.specs.Words.{no_reply_word, not_understood_word}
-use Rattle.be_pane.specs.Panes.{Pane}
 use Rattle.be_port.specs.declared.Duty.{Duty}
 use Rattle.be_port.specs.declared.Duty.TheVariants.{Free, Owed, Done}
 use Rattle.be_port.specs.Ports.{Letter, Port, front, closed_port}
@@ -42,7 +40,9 @@ use Rattle.be_machine.specs.State.{State, Looper, free, locked, handling, Stage,
 use Rattle.be_machine.specs.Step.{met, step}
 use Rattle.be_machine.specs.Update.{at_stage, opened, passed_by, begun}
 use Rattle.be_machine.specs.Wants.{Want, asks, takes, begins, flushes, draws_end, ends, notifies, executes, uses, stops, want_of}
-use Rattle.be_machine.specs.Windows.{ports_after, changed_to, changed}
+use Rattle.be_update.specs.Sessions.{is_any}
+use Rattle.be_machine.specs.Windows.{dirty_of, corner_at, ports_after, changed_to, changed}
+use Rattle.be_machine.proofs.ProgressCases.{by_test, by_option}
 use Rattle.be_machine.proofs.LegalEntries.{IsMet, met_by, maker, maker_is}
 use Rattle.be_machine.proofs.ProgressStands.{app_stands, looper_stands}
 use Rattle.be_machine.proofs.Waiting.{owes, owed_by_looper, IsWaiting, Waits}
@@ -93,17 +93,9 @@ staged_owes k stage free = refl
 staged_kept : (d : Declared) (s : State) (w : ℕ) (stage : Stage) → IsWaiting d s → IsWaiting d (with_looper s w (at_stage stage))
 staged_kept d s w stage h = loopers_kept d s.ports s.loopers s.apps w (at_stage stage) (λ k l read. staged_owes k stage l) h
 
-opened_by : (d : Declared) (s : State) (w : ℕ) (o : Option Point) → IsWaiting d s → IsWaiting d (option_map_or (opened s w) o s)
-opened_by d s w (Some corner) h = staged_kept d s w _ h
-opened_by d s w None h = h
-
-by_test : {X : Type 0} (P : X → Type 0) (b : Bool) (x y : X) → P x → P y → P (if b then x else y)
-by_test P true x y h k = h
-by_test P false x y h k = k
-
 begun_kept : (d : Declared) (s : State) (w : ℕ) → IsWaiting d s → IsWaiting d (begun s w)
 unfolding begun
-begun_kept d s w h = by_test (IsWaiting d) _ _ (passed_by s w) (opened_by d s w _ h) (staged_kept d s w at_close h)
+begun_kept d s w h = by_test (IsWaiting d) (is_any (dirty_of s w)) (option_map_or (opened s w) (corner_at s w) s) (passed_by s w) (by_option (IsWaiting d) (opened s w) s (corner_at s w) h (λ corner. staged_kept d s w _ h)) (staged_kept d s w at_close h)
 
 -- ---- the end of a message
 
@@ -153,22 +145,14 @@ changed_kept : (d : Declared) (s : State) (w : ℕ) (change : Change) → IsWait
 unfolding changed
 changed_kept d s w change h = changed_by d s w change (desk_after s.desk w change) h
 
-deed_by : (d : Declared) (s t : State) (f : Pane → State) (o : Option Pane) → IsWaiting d s → ((pane : Pane) → IsWaiting d (f pane)) → IsWaiting d (option_map_or f o s)
-deed_by d s t f (Some pane) h k = k pane
-deed_by d s t f None h k = h
-
 effect_kept : (d : Declared) (pictures : List Picture) (s : State) (w : ℕ) (effect : Effect) → IsWaiting d s → IsWaiting d (with_effect pictures s w effect)
-effect_kept d pictures s w (at_view v deed) h = deed_by d s s (done_at_view pictures s w v deed) (slice_get s.panes w) h (λ pane. h)
+effect_kept d pictures s w (at_view v deed) h = by_option (IsWaiting d) (done_at_view pictures s w v deed) s (slice_get s.panes w) h (λ pane. h)
 effect_kept d pictures s w (changes change) h = changed_kept d s w change h
 effect_kept d pictures s w ends_update h = h
 
-executed_by : (d : Declared) (s : State) (w : ℕ) (o : Option Numbered) → IsWaiting d s → IsWaiting d (option_map_or (executed_command d s w) o s)
-executed_by d s w (Some c) h = effect_kept d d.pictures (without_front s w) w (effect_of c.command) h
-executed_by d s w None h = h
-
 executed_kept : (d : Declared) (s : State) (w : ℕ) → IsWaiting d s → IsWaiting d (executed d s w)
 unfolding executed
-executed_kept d s w h = executed_by d s w _ h
+executed_kept d s w h = by_option (IsWaiting d) (executed_command d s w) s (option_and_then (λ (link : List Numbered). slice_get link 0) (slice_get s.links w)) h (λ c. effect_kept d d.pictures (without_front s w) w (effect_of c.command) h)
 
 -- ---- input
 

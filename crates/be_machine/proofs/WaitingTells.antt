@@ -1,15 +1,14 @@
 -- Where a letter in a hand owes a reply, who waits for it is there and has none yet.
-use Rattle.std.proofs.Common.{◌≡◌, ℕ, ◌+◌, ◌<◌, ◌≤◌, Bool, true, false, List, Option, Some, None, refl, sym, ap, ◌∙◌, arith}
-use Rattle.std.specs.Prelude.{slice_get, ◌==◌}
+use Rattle.std.proofs.Common.{◌≡◌, ℕ, ◌≤◌, Option, Some, None, refl, ap, ◌∙◌, arith}
+use Rattle.std.specs.Prelude.{slice_get}
 use Rattle.be_looper.specs.Duties.{Hand}
 use Rattle.be_message.specs.Messages.{Message}
 use Rattle.be_port.specs.declared.Duty.TheVariants.{Owed}
-use Rattle.be_port.specs.Ports.{Port}
 use Rattle.be_reply.specs.Cells as reply
 use Rattle.be_script.specs.Script.{Declared}
-use Rattle.be_machine.specs.State.{State, Looper, handling, Stage, App}
+use Rattle.be_machine.specs.State.{State, handling, Stage, App}
 use Rattle.be_machine.proofs.Lists.{is_same_number}
-use Rattle.be_machine.proofs.Waiting.{total, one_where, owes, owed_by_port, owed_by_looper, owed_in, due_to, IsWaiting}
+use Rattle.be_machine.proofs.Waiting.{total, one_where, owes, owed_by_looper, owed_in, due_to, IsWaiting}
 use Rattle.be_machine.proofs.WaitingSums.{one_of_all}
 
 -- the application waits

@@ -7,6 +7,7 @@ ghost use Rattle.be_machine.specs.declared.Entry.{Entry};
 ghost use Rattle.be_machine.specs.History.{IsFinished, IsLegalHistory, state_after};
 ghost use Rattle.be_machine.specs.Legal.{IsLegal, legal_act};
 ghost use Rattle.be_machine.specs.Orderly.{EndsInStop};
+ghost use Rattle.be_machine.specs.Schedule.{IsScheduled};
 ghost use Rattle.be_machine.specs.State.{State};
 
 /// Every legal history goes on until Stop: in a state that hasn't stopped some activity has a legal entry.
@@ -26,4 +27,13 @@ pub fn nothing_follows_stop()
     ensures is_finished { (d : Declared) (h : List Entry) → IsLegalHistory d h → EndsInStop h → IsFinished d h }
     ensures none_follows { (d : Declared) (h : List Entry) (a : ℕ) → IsFinished d h → legal_act d (state_after d h) a ≡ None }
     ensures all_rest { (d : Declared) (s : State) (e : Entry) → IsLegal d s e → e.act ≡ Stop → (all_done d s ≡ true) × (all_quiet s ≡ true) }
+{}
+
+/// For each seed there is exactly one finished history that is scheduled by it.
+///
+/// A schedule chooses at each turn among all legal entries: the first for seed 0, for any other seed the one that a row of
+/// random numbers from it chooses.
+pub fn each_seed_has_one_history()
+    ensures there { (d : Declared) (seed : ℕ) → IsWithinLimits d → (h : List Entry) × IsScheduled d seed h }
+    ensures alone { (d : Declared) (seed : ℕ) (h : List Entry) (k : List Entry) → IsScheduled d seed h → IsScheduled d seed k → h ≡ k }
 {}
