@@ -1,0 +1,9 @@
+mod Growth
+mod Marked
+mod Stopping
+mod KeepPlaces
+mod KeepCommit
+mod KeepPasses
+mod KeepStop
+mod KeepOpen
+mod InHand
