@@ -1,6 +1,5 @@
 -- What a pass knows, and the parts in its hands.
-use Rattle.std.proofs.Common.{rules, ◌≢◌, ⊎_elim, ◌≡◌, ℕ, zero, suc, take, get_or, ◌+◌, ◌<◌, ◌≤◌, Bool, true, false, ◌&&◌, nat_lt, min, List, [], ◌∷◌, ◌++◌, map, length, Option, None, sym, refl, ap, ◌∙◌, subst, arith}
-use Rattle.std.proofs.lemmas.Bool.Decides.{nat_tests}
+use Rattle.std.proofs.Common.{◌≢◌, ⊎_elim, ◌≡◌, ℕ, zero, suc, ◌+◌, ◌<◌, ◌≤◌, true, nat_lt, min, List, [], ◌∷◌, ◌++◌, map, length, Option, None, sym, refl, ap, ◌∙◌, subst, arith}
 use mathlib.Core.Option.{some, some-injective, some-ne-none}
 use lib.ListN.{get_elem?}
 use Rattle.be_hall.specs.declared.view.View.{View}
@@ -13,15 +12,8 @@ use Rattle.be_hall.specs.Logs.{appended, InHistory, AllBefore, IsAbove}
 use Rattle.be_hall.specs.History.{AllStand, Suits}
 use Rattle.be_hall.specs.Steps.{Sees, Committed}
 use Rattle.be_hall.specs.Passes.{marks_of, emptied, Makes, Gives}
+use Rattle.be_hall.proofs.Rising.{other_true, rising_short, rises_front, below_last}
 use Rattle.be_hall.proofs.Growth.{inside, tail_of, longer, legal_snoc, each_longer, all_snoc, fits_once, known_places}
-
-both_true : (a b : Bool) → (a && b) ≡ true → a ≡ true
-both_true true b h = refl
-both_true false b h = h
-
-other_true : (a b : Bool) → (a && b) ≡ true → b ≡ true
-other_true true b h = h
-other_true false b h = absurd (grind rules)
 
 abbrev first_or : {A : Type 0} → A → List A → A
 first_or d [] = d
@@ -189,13 +181,6 @@ pub marks_snoc : {T M E : Type 0} (meaning : T → M) (log : T → List (ℕ × 
 marks_snoc meaning log [] p x = refl
 marks_snoc {M = M} {E = E} meaning log (y ∷ ys) p x = ap (λ (l : List (Mark M E)). mark y.0 (meaning y.1) (log y.1) ∷ l) (marks_snoc meaning log ys p x)
 
-pub rising_short : (low : ℕ) (ps : List ℕ) (p : ℕ) → rises_from low (ps ++ p ∷ []) ≡ true → low + length ps ≤ p
-rising_short low [] p h = grind (arith, nat_tests)
-rising_short low (q ∷ qs) p h =
-    let here : nat_lt low (q + 1) ≡ true = both_true (nat_lt low (q + 1)) _ h in
-    let more = rising_short (q + 1) qs p (other_true (nat_lt low (q + 1)) _ h) in
-    let below : low < q + 1 = grind (arith, nat_tests) in omega arith
-
 pub room_left : (many listed place places slots held_slots room : ℕ) → listed ≡ many → 0 + listed ≤ place → place < places → slots ≡ places → held_slots ≡ slots → held_slots ≤ room → many < room
 room_left many listed place places slots held_slots room b c d e f g = omega arith
 
@@ -209,33 +194,6 @@ module _ {T M E : Type 0} (meaning : T → M) (log : T → List (ℕ × E)) wher
 
   pub still_places : (held held' : List (ℕ × T)) → meant meaning held' ≡ meant meaning held → places_of held' ≡ places_of held
   still_places held held' m = sym (meant_places meaning log held') ∙ (ap (λ (l : List (ℕ × M)). map (λ x. x.0) l) m ∙ meant_places meaning log held)
-
-both_hold : (a b : Bool) → a ≡ true → b ≡ true → (a && b) ≡ true
-both_hold true b h k = k
-both_hold false b h k = h
-
-pub rises_take : (low : ℕ) (ps : List ℕ) (i : ℕ) → i < length ps → rises_from low ps ≡ true → rises_from low (take i ps ++ get_or ps i 0 ∷ []) ≡ true
-rises_take low [] i h r = absurd (omega arith)
-rises_take low (q ∷ qs) zero h r = both_hold (nat_lt low (q + 1)) true (both_true (nat_lt low (q + 1)) _ r) refl
-rises_take low (q ∷ qs) (suc i) h r = both_hold (nat_lt low (q + 1)) _ (both_true (nat_lt low (q + 1)) _ r) (rises_take (q + 1) qs i (omega arith) (other_true (nat_lt low (q + 1)) _ r))
-
-pub less_than : (p n : ℕ) → p < n → nat_lt p n ≡ true
-less_than p n h = grind (arith, nat_tests)
-
-pub is_less : (p n : ℕ) → nat_lt p n ≡ true → p < n
-is_less p n h = grind (arith, nat_tests)
-
-pub below_snoc : (n : ℕ) (ps : List ℕ) (p : ℕ) → all_below n ps ≡ true → nat_lt p n ≡ true → all_below n (ps ++ p ∷ []) ≡ true
-below_snoc n [] p h l = both_hold (nat_lt p n) true l refl
-below_snoc n (q ∷ qs) p h l = both_hold (nat_lt q n) _ (both_true (nat_lt q n) _ h) (below_snoc n qs p (other_true (nat_lt q n) _ h) l)
-
-pub below_last : (n : ℕ) (ps : List ℕ) (p : ℕ) → all_below n (ps ++ p ∷ []) ≡ true → (all_below n ps ≡ true) × (p < n)
-below_last n [] p h = (refl, is_less p n (both_true (nat_lt p n) _ h))
-below_last n (q ∷ qs) p h = let r = below_last n qs p (other_true (nat_lt q n) _ h) in (both_hold (nat_lt q n) _ (both_true (nat_lt q n) _ h) r.0, r.1)
-
-pub rises_front : (low : ℕ) (ps : List ℕ) (p : ℕ) → rises_from low (ps ++ p ∷ []) ≡ true → rises_from low ps ≡ true
-rises_front low [] p h = refl
-rises_front low (q ∷ qs) p h = both_hold (nat_lt low (q + 1)) _ (both_true (nat_lt low (q + 1)) _ h) (rises_front (q + 1) qs p (other_true (nat_lt low (q + 1)) _ h))
 
 -- in a rising list the last place is none of the others
 pub last_apart : {T M E : Type 0} (meaning : T → M) (log : T → List (ℕ × E)) (low : ℕ) (held : List (ℕ × T)) (p : ℕ) → rises_from low (places_of held ++ p ∷ []) ≡ true → (z : Mark M E) → Has (marks_of meaning log held) z → z.place ≢ p

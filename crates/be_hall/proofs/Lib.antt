@@ -1,3 +1,5 @@
+mod Rising
+mod HandLists
 mod Growth
 mod Marked
 mod Stopping

@@ -3,7 +3,8 @@ use Rattle.atomic_table.specs.Table.{rest}
 use Rattle.be_hall.specs.Hands.{places_of, rises_from, all_below}
 use Rattle.be_hall.specs.Views.{mark, gathered}
 use Rattle.be_hall.specs.Passes.{emptied, marks_of}
-use Rattle.be_hall.proofs.InHand.{emptied_snoc, places_snoc, places_many, marks_snoc, rising_short, room_left, below_snoc, less_than}
+use Rattle.be_hall.proofs.InHand.{emptied_snoc, places_snoc, places_many, marks_snoc, room_left}
+use Rattle.be_hall.proofs.Rising.{rising_short, below_snoc, less_than}
 use Rattle.be_hall.proofs.hall.Hall.try_one.Goals as goal
 
 pub exchange-requires : goal.exchange-requires
@@ -12,7 +13,7 @@ exchange-requires g c = let m = c.mark.ensures.marked c.if-not-mark.false in (c.
 pub push-requires : goal.push-requires
 push-requires g c =
     let it = c.args.pass.now in
-    room_left _ _ _ _ _ _ _ (places_many it.held.parts) (rising_short 0 (places_of it.held.parts) c.args.place c.requires.above) c.requires.place c.args.self.now.sized.0 (λ i. (c.requires.hall.0 i).slots) it.room
+    record { room = room_left _ _ _ _ _ _ _ (places_many it.held.parts) (rising_short 0 (places_of it.held.parts) c.args.place c.requires.above) c.requires.place c.args.self.now.sized.0 (λ i. (c.requires.hall.0 i).slots) it.room; above = c.requires.above }
 
 abbrev some_or : {A : Type 0} → A → List (ℕ × Option A) → A
 some_or d [] = d

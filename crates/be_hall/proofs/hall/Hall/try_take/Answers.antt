@@ -1,6 +1,6 @@
 use Rattle.std.proofs.Common.{rules, ◌++◌, ◌∷◌, [], ◌≡◌, true, sym, subst, slice_index_or}
 use Rattle.be_hall.specs.Hands.{rises_from}
-use Rattle.be_hall.proofs.InHand.{rises_take}
+use Rattle.be_hall.proofs.Rising.{rises_take}
 use Rattle.be_hall.proofs.hall.Hall.try_take.Goals as goal
 
 pub try_one-requires-clause-above : goal.try_one-requires-clause-above
