@@ -9,3 +9,7 @@ mod KeepPasses
 mod KeepStop
 mod KeepOpen
 mod InHand
+mod Ordered
+mod Full
+mod Closing
+mod Unlogging

@@ -9,3 +9,5 @@ pub mod Stop
 pub mod Rule
 pub mod Steps
 pub mod Passes
+pub mod Closing
+pub mod Faults

@@ -1,6 +1,8 @@
 //! Parts shared by threads, and one history over all of them.
 #![tactic(auto)]
 
+mod close;
+mod fault;
 mod hall;
 mod held;
 mod open;
@@ -10,6 +12,8 @@ mod places;
 mod stop;
 mod view;
 
+pub use close::Closed;
+pub use fault::CloseFault;
 pub use hall::Hall;
 pub use held::Held;
 pub use parts::{Parts, Verdict};
