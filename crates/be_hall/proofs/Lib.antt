@@ -13,3 +13,4 @@ mod Ordered
 mod Full
 mod Closing
 mod Unlogging
+pub mod Holding

@@ -11,9 +11,11 @@ use crate::parts::Parts;
 use crate::pass::{Pass, Place};
 use crate::view::{Marks, Unmarks};
 use std::sync::Wait;
+use thiserror::Error;
 
 /// Another pass had this place at a step of the call.
-#[derive(Clone, Copy, Debug, PartialEq, Eq)]
+#[derive(Clone, Copy, Debug, PartialEq, Eq, Error)]
+#[error("another pass has place {place}")]
 pub struct Busy {
     pub place: u32,
 }
