@@ -1,10 +1,11 @@
 -- Parts in hand beside the list of all parts, for those who write rules: what changes where one part in hand does.
-use Rattle.std.proofs.Common.{◌≡◌, ℕ, ◌+◌, ◌<◌, ◌≢◌, nat_lt, true, List, [], ◌∷◌, ◌++◌, length, set, Some, if◌then◌else◌, ◌==◌, sym, refl, ap, ◌∙◌, subst, arith}
+use Rattle.std.proofs.Common.{◌≡◌, ℕ, ◌+◌, ◌<◌, ◌≢◌, nat_lt, true, List, [], ◌∷◌, ◌++◌, length, set, Some, if◌then◌else◌, ◌==◌, sym, refl, ap, ◌∙◌, subst, arith, ◌⊎◌, inl, inr, ⊎_elim, None, Option}
 use mathlib.Core.Option.{some}
 use lib.ListN.{get_elem?}
 use Rattle.atomic_table.proofs.Lists.{set_here, set_else}
 use Rattle.be_hall.specs.Hands.{places_of, part_at, with_part, meant, rises_from}
-use Rattle.be_hall.specs.Machine.{Fits}
+use Rattle.be_hall.specs.Machine.{Fits, IsHeld, HeldFit}
+use Rattle.be_hall.specs.Answers.{HasSpare}
 use Rattle.be_hall.specs.Logs.{appended}
 use Rattle.be_hall.proofs.Rising.{is_less, both_true, other_true}
 use Rattle.be_hall.proofs.HandLists.{by_place_test}
@@ -69,3 +70,52 @@ module _ {T E : Type 0} (log : T → List (ℕ × E)) where
   logs_with low (z ∷ zs) p x y k r e s = by_place_test (λ b. (if b then Some z.1 else part_at zs p) ≡ Some x → meant log (if b then (z.0, y) ∷ zs else z ∷ with_part zs p y) ≡ (z.0, if b then log z.1 ++ k ∷ [] else log z.1) ∷ appended p k (meant log zs)) z.0 p
       (λ is h. let same : z.1 ≡ x = cc in (λ i. (z.0, (s ∙ ap (λ (w : T). log w ++ k ∷ []) (sym same)) i) ∷ sym (appended_past (z.0 + 1) p k zs (later low (places_of zs) z.0 r) (omega arith)) i))
       (λ other h. ap (λ (t : List (ℕ × List (ℕ × E))). (z.0, log z.1) ∷ t) (logs_with (z.0 + 1) zs p x y k (later low (places_of zs) z.0 r) h s)) e
+
+module _ {T A : Type 0} (f : T → A) where
+  pub held_part : (held : List (ℕ × T)) (p : ℕ) → IsHeld (meant f held) p → (y : T) × (part_at held p ≡ Some y)
+  held_part [] p h = absurd h
+  held_part (x ∷ xs) p h = by_place_test (λ b. (y : T) × ((if b then Some x.1 else part_at xs p) ≡ Some y)) x.0 p (λ is. (x.1, refl)) (λ other. ⊎_elim (λ t. absurd (other t)) (λ t. held_part xs p t) h)
+
+  pub part_held : (held : List (ℕ × T)) (p : ℕ) (y : T) → part_at held p ≡ Some y → IsHeld (meant f held) p
+  part_held [] p y e = absurd (cc)
+  part_held (x ∷ xs) p y e = by_place_test (λ b. (if b then Some x.1 else part_at xs p) ≡ Some y → (x.0 ≡ p) ⊎ IsHeld (meant f xs) p) x.0 p (λ is h. inl is) (λ other h. inr (part_held xs p y h)) e
+
+  pub not_held : (held : List (ℕ × T)) (p : ℕ) → part_at held p ≡ None → IsHeld (meant f held) p → ⊥
+  not_held held p e h = let t = held_part held p h in let no : Some t.0 ≡ None = sym t.1 ∙ e in absurd (cc)
+
+module _ {T M : Type 0} (meaning : T → M) (fits : ℕ → M → Type 0) where
+  pub fit_of : (n : ℕ) (held : List (ℕ × T)) (p : ℕ) (y : T) → part_at held p ≡ Some y → HeldFit fits n (meant meaning held) → fits n (meaning y)
+  fit_of n [] p y e h = absurd (cc)
+  fit_of n (x ∷ xs) p y e h = by_place_test (λ b. (if b then Some x.1 else part_at xs p) ≡ Some y → fits n (meaning y)) x.0 p
+      (λ is k. let same : x.1 ≡ y = cc in subst (λ (z : T). fits n (meaning z)) same h.0) (λ other k. fit_of n xs p y k h.1) e
+
+  pub fit_with : (n : ℕ) (held : List (ℕ × T)) (p : ℕ) (y : T) → fits n (meaning y) → HeldFit fits n (meant meaning held) → HeldFit fits n (meant meaning (with_part held p y))
+  fit_with n [] p y f h = tt
+  fit_with n (x ∷ xs) p y f h = by_place_test (λ b. HeldFit fits n (meant meaning (if b then (x.0, y) ∷ xs else x ∷ with_part xs p y))) x.0 p (λ is. (f, h.1)) (λ other. (h.0, fit_with n xs p y f h.1))
+
+  pub fit_after : (n k : ℕ) (held : List (ℕ × T)) → ((m : M) → fits n m → fits k m) → HeldFit fits n (meant meaning held) → HeldFit fits k (meant meaning held)
+  fit_after n k [] more h = tt
+  fit_after n k (x ∷ xs) more h = (more (meaning x.1) h.0, fit_after n k xs more h.1)
+
+module _ {T : Type 0} (spare : T → ℕ) where
+  spare_past : (low p : ℕ) (held : List (ℕ × T)) → rises_from low (places_of held) ≡ true → p < low → HasSpare p (meant spare held) → ⊥
+  spare_past low p [] r l h = h
+  spare_past low p (x ∷ xs) r l h = let first = is_less low (x.0 + 1) (both_true _ _ r) in ⊎_elim (λ t. past low p (places_of xs) x.0 r l t.0) (λ t. spare_past (x.0 + 1) p xs (later low (places_of xs) x.0 r) (omega arith) t) h
+
+  pub spare_of : (low : ℕ) (held : List (ℕ × T)) (p : ℕ) (y : T) → rises_from low (places_of held) ≡ true → part_at held p ≡ Some y → HasSpare p (meant spare held) → 0 < spare y
+  spare_of low [] p y r e h = absurd h
+  spare_of low (x ∷ xs) p y r e h = by_place_test (λ b. (if b then Some x.1 else part_at xs p) ≡ Some y → 0 < spare y) x.0 p
+      (λ is k. let same : x.1 ≡ y = cc in ⊎_elim (λ t. subst (λ (z : T). 0 < spare z) same t.1) (λ t. absurd (spare_past (x.0 + 1) p xs (later low (places_of xs) x.0 r) (omega arith) t)) h)
+      (λ other k. ⊎_elim (λ t. absurd (other t.0)) (λ t. spare_of (x.0 + 1) xs p y (later low (places_of xs) x.0 r) k t) h) e
+
+  pub has_spare : (held : List (ℕ × T)) (p : ℕ) (y : T) → part_at held p ≡ Some y → 0 < spare y → HasSpare p (meant spare held)
+  has_spare [] p y e s = absurd (cc)
+  has_spare (x ∷ xs) p y e s = by_place_test (λ b. (if b then Some x.1 else part_at xs p) ≡ Some y → ((x.0 ≡ p) × (0 < spare x.1)) ⊎ HasSpare p (meant spare xs)) x.0 p
+      (λ is k. let same : y ≡ x.1 = cc in inl (is, subst (λ (z : T). 0 < spare z) same s)) (λ other k. inr (has_spare xs p y k s)) e
+
+-- the part that was put at a place is there
+pub with_here : {T : Type 0} (held : List (ℕ × T)) (p : ℕ) (x y : T) → part_at held p ≡ Some x → part_at (with_part held p y) p ≡ Some y
+with_here [] p x y e = absurd (cc)
+with_here {T} (z ∷ zs) p x y e = by_place_test (λ b. (if b then Some z.1 else part_at zs p) ≡ Some x → part_at (if b then (z.0, y) ∷ zs else z ∷ with_part zs p y) p ≡ Some y) z.0 p
+    (λ is h. by_place_test (λ b. (if b then Some y else part_at zs p) ≡ Some y) z.0 p (λ e2. refl) (λ d. absurd (d is)))
+    (λ other h. by_place_test (λ b. (if b then Some z.1 else part_at (with_part zs p y) p) ≡ Some y) z.0 p (λ e2. absurd (other e2)) (λ d. with_here zs p x y h)) e
