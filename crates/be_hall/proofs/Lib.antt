@@ -1,0 +1,16 @@
+mod Rising
+mod HandLists
+mod Growth
+mod Marked
+mod Stopping
+mod KeepPlaces
+mod KeepCommit
+mod KeepPasses
+mod KeepStop
+mod KeepOpen
+mod InHand
+mod Ordered
+mod Full
+mod Closing
+mod Unlogging
+pub mod Holding

@@ -1,0 +1,13 @@
+pub mod Numbers
+pub mod Hands
+pub mod Machine
+pub mod Answers
+pub mod Views
+pub mod Logs
+pub mod History
+pub mod Stop
+pub mod Rule
+pub mod Steps
+pub mod Passes
+pub mod Closing
+pub mod Faults

@@ -1,0 +1,83 @@
+//! How a hall is opened.
+ghost use Rattle.std.specs.Prelude.{◌≡◌, ◌+◌, ◌^◌, ◌<◌, ◌≤◌, [], map, length, All, Some, IfOk, replicate, vec_len, vec_capacity};
+ghost use Rattle.be_hall.specs.Numbers.{total};
+ghost use Rattle.be_hall.specs.Machine.{AllFit};
+ghost use Rattle.be_hall.specs.Views.{blank};
+ghost use Rattle.be_hall.specs.Passes.{IsOf, about_of};
+
+use crate::hall::Hall;
+use crate::held::Held;
+use crate::parts::Parts;
+use crate::pass::Pass;
+use crate::view::Key;
+use atomic_table::{Refused, Table};
+use be_geom::NoMemory;
+use std::alloc::Global;
+use std::snapshot::Snapshot;
+
+impl<P: Parts + Drop> Hall<P> {
+    /// A hall with these parts, by place, and its first pass. `limit` bounds how many entries there can be.
+    pub fn open(
+        alloc: Global,
+        rules: P,
+        parts: Vec<P::Part>,
+        limit: u64,
+    ) -> Result<(Hall<P>, Pass<P>), NoMemory>
+        requires limit { limit ≤ 2 ^ 62 }
+        requires sound { (P.machine rules).sound (map P.meaning parts.items) }
+        requires budgets { total (P.machine rules).budget (map P.meaning parts.items) ≤ limit }
+        requires fits { AllFit (P.machine rules).fits 0 (map P.meaning parts.items) }
+        requires logs { All (λ x. P.log x ≡ []) parts.items }
+        ensures hall { IfOk result (λ r. IsOf P.meaning r.0.table.shared.table_id r.0.table.shared.key r.1.seat) }
+        ensures about { IfOk result (λ r. (r.0.rules ≡ rules) × (r.0.table.shared.key.opening.value.items ≡ parts.items) × (r.0.table.shared.key.limit ≡ limit) × (r.0.places ≡ (P.machine rules).places)) }
+        ensures pass { IfOk result (λ r. (r.1.seat.me.0 ≡ blank (about_of P.meaning r.0.table.shared.key)) × (r.1.held.parts ≡ [])) }
+    {
+        let key = Key {
+            rules: Snapshot::of(&rules),
+            opening: Snapshot::of(&parts),
+            limit,
+        };
+        let places = rules.places();
+        let held = Held::with_room(alloc, places as usize)?;
+        let words = zeros(alloc, places as usize + 2)?;
+        let slots = wrapped(alloc, parts)?;
+        match Table::new(alloc, words.as_slice(), slots, &key) {
+            Ok((table, seat)) => {
+                let hall = Hall {
+                    table,
+                    places,
+                    rules,
+                    alloc,
+                };
+                let pass = Pass {
+                    seat,
+                    held,
+                    made: 0,
+                };
+                Ok((hall, pass))
+            }
+            Err(Refused { slots: _ }) => Err(NoMemory),
+        }
+    }
+}
+
+fn wrapped<T: Drop>(alloc: Global, parts: Vec<T>) -> Result<Vec<Option<T>>, NoMemory>
+    ensures { IfOk result (λ v. v.items ≡ map Some parts.items) }
+{
+    let Ok(mut slots) = Vec::with_capacity(alloc, parts.len()) else {
+        return Err(NoMemory);
+    };
+    for part in parts {
+        slots.push_reserved(Some(part));
+    }
+    Ok(slots)
+}
+
+fn zeros(alloc: Global, count: usize) -> Result<Vec<u64>, NoMemory>
+    ensures { IfOk result (λ v. v.items ≡ replicate count 0) }
+{
+    let Ok(words) = vec![in alloc; 0u64; count] else {
+        return Err(NoMemory);
+    };
+    Ok(words)
+}

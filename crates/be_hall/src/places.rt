@@ -1,0 +1,165 @@
+//! How parts are taken and given back.
+ghost use Rattle.std.specs.Prelude.{◌≡◌, ◌≢◌, ℕ, ◌+◌, ◌<◌, ◌++◌, List, [], ◌∷◌, length, true, false, None, Some, All, IfOk, IfErr, IfSome, Contains};
+ghost use Rattle.atomic_table.specs.Table.{rest};
+ghost use Rattle.be_hall.specs.declared.view.Mark.{Mark};
+ghost use Rattle.be_hall.specs.Hands.{places_of, rises_from};
+ghost use Rattle.be_hall.specs.Views.{Has, mark, marking, missing, letting_go};
+ghost use Rattle.be_hall.specs.Passes.{IsOf, IsAlike, Gives, about_of};
+
+use crate::hall::Hall;
+use crate::parts::Parts;
+use crate::pass::{Pass, Place};
+use crate::view::{Marks, Unmarks};
+use std::sync::Wait;
+use thiserror::Error;
+
+/// Another pass had this place at a step of the call.
+#[derive(Clone, Copy, Debug, PartialEq, Eq, Error)]
+#[error("another pass has place {place}")]
+pub struct Busy {
+    pub place: u32,
+}
+
+impl<P: Parts + Drop> Hall<P> {
+    // Tries to mark a place. Where it does, the part is in the seat's slot.
+    fn mark(&self, seat: &mut Place<P>, place: u32) -> bool
+        requires { (seat.old.table_id ≡ self.now.table.shared.table_id) × (place < self.now.places) }
+        ensures seat { (seat.new.table_id ≡ seat.old.table_id) × (seat.new.id ≡ seat.old.id) }
+        ensures marked { result ≡ true → (x : P.Part) × (seat.new.me.1 ≡ (place, Some x) ∷ seat.old.me.1) × (seat.new.me.0 ≡ marking seat.old.me.0 (mark place (P.meaning x) (P.log x))) }
+        ensures missed { result ≡ false → (seat.new.me.1 ≡ seat.old.me.1) × (seat.new.me.0 ≡ missing seat.old.me.0 place) }
+    {
+        self.table
+            .shared
+            .compare_exchange::<Marks<P>>(seat, place as usize + 2, 0, 1)
+            == 0
+    }
+
+    // Takes the part at a place, where no other pass has it.
+    fn try_one(&self, pass: &mut Pass<P>, place: u32) -> bool
+        requires hall { IsOf P.meaning self.now.table.shared.table_id self.now.table.shared.key pass.old.seat }
+        requires place { place < self.now.places }
+        requires above { rises_from 0 (places_of pass.old.held.parts ++ place ∷ []) ≡ true }
+        ensures hall { IsOf P.meaning self.now.table.shared.table_id self.now.table.shared.key pass.new.seat }
+        ensures known { IsAlike pass.old.seat.me.0 pass.new.seat.me.0 }
+        ensures taken { result ≡ true → (places_of pass.new.held.parts ≡ places_of pass.old.held.parts ++ place ∷ []) × (pass.new.seat.me.0.missed ≡ pass.old.seat.me.0.missed) }
+        ensures missed { result ≡ false → (pass.new.held ≡ pass.old.held) × (pass.new.seat.me.0.missed ≡ pass.old.seat.me.0.missed ++ place ∷ []) }
+    {
+        if !self.mark(&mut pass.seat, place) {
+            return false;
+        }
+        let part = self
+            .table
+            .shared
+            .exchange(&mut pass.seat, place as usize, None)
+            .unwrap();
+        pass.held.push(place, part);
+        true
+    }
+
+    // Takes the part at a place, and waits until it can.
+    fn take_one<R: Wait>(&self, rt: &R, pass: &mut Pass<P>, place: u32)
+        requires hall { IsOf P.meaning self.now.table.shared.table_id self.now.table.shared.key pass.old.seat }
+        requires place { place < self.now.places }
+        requires above { rises_from 0 (places_of pass.old.held.parts ++ place ∷ []) ≡ true }
+        ensures hall { IsOf P.meaning self.now.table.shared.table_id self.now.table.shared.key pass.new.seat }
+        ensures known { IsAlike pass.old.seat.me.0 pass.new.seat.me.0 }
+        ensures taken { places_of pass.new.held.parts ≡ places_of pass.old.held.parts ++ place ∷ [] }
+    {
+        for _ in rt.forever() {
+            if self.try_one(pass, place) {
+                return;
+            }
+            self.table.shared.park(rt, place as usize + 2, 1);
+        }
+        unreachable!()
+    }
+
+    /// Takes the parts at these places, and waits until it can.
+    pub fn take<R: Wait>(&self, rt: &R, pass: &mut Pass<P>, places: &[u32])
+        requires hall { IsOf P.meaning self.now.table.shared.table_id self.now.table.shared.key pass.old.seat }
+        requires empty { pass.old.held.parts ≡ [] }
+        requires rising { rises_from 0 places.now ≡ true }
+        requires there { All (λ p. p < self.now.places) places.now }
+        ensures hall { IsOf P.meaning self.now.table.shared.table_id self.now.table.shared.key pass.new.seat }
+        ensures known { IsAlike pass.old.seat.me.0 pass.new.seat.me.0 }
+        ensures held { places_of pass.new.held.parts ≡ places.now }
+        ensures gives { Gives P.machine P.meaning (about_of P.meaning self.now.table.shared.key) pass.new.seat.me.0 pass.new.held.parts }
+    {
+        for i in 0..places.len() {
+            self.take_one(rt, pass, places[i]);
+        }
+        self.see(pass);
+    }
+
+    /// Takes the parts at these places, or none of them where another pass has one.
+    pub fn try_take(&self, pass: &mut Pass<P>, places: &[u32]) -> Result<(), Busy>
+        requires hall { IsOf P.meaning self.now.table.shared.table_id self.now.table.shared.key pass.old.seat }
+        requires empty { pass.old.held.parts ≡ [] }
+        requires rising { rises_from 0 places.now ≡ true }
+        requires there { All (λ p. p < self.now.places) places.now }
+        ensures hall { IsOf P.meaning self.now.table.shared.table_id self.now.table.shared.key pass.new.seat }
+        ensures known { IsAlike pass.old.seat.me.0 pass.new.seat.me.0 }
+        ensures held { IfOk result (λ _. (places_of pass.new.held.parts ≡ places.now) × (pass.new.seat.me.0.missed ≡ pass.old.seat.me.0.missed)) }
+        ensures gives { IfOk result (λ _. Gives P.machine P.meaning (about_of P.meaning self.now.table.shared.key) pass.new.seat.me.0 pass.new.held.parts) }
+        ensures busy { IfErr result (λ b. (pass.new.held.parts ≡ []) × (pass.new.seat.me.0.missed ≡ pass.old.seat.me.0.missed ++ b.place ∷ []) × Contains places.now b.place) }
+    {
+        for i in 0..places.len() {
+            if !self.try_one(pass, places[i]) {
+                self.give(pass);
+                return Err(Busy { place: places[i] });
+            }
+        }
+        self.see(pass);
+        Ok(())
+    }
+
+    // Learns anew that one history gives the parts in hand.
+    fn see(&self, pass: &mut Pass<P>)
+        requires { IsOf P.meaning self.now.table.shared.table_id self.now.table.shared.key pass.old.seat }
+        ensures hall { IsOf P.meaning self.now.table.shared.table_id self.now.table.shared.key pass.new.seat }
+        ensures same { (pass.new.seat.me.0 ≡ pass.old.seat.me.0) × (pass.new.held ≡ pass.old.held) }
+        ensures gives { Gives P.machine P.meaning (about_of P.meaning self.now.table.shared.key) pass.new.seat.me.0 pass.new.held.parts }
+    {
+        self.look(&mut pass.seat);
+    }
+
+    /// Gives all parts in hand back.
+    pub fn give(&self, pass: &mut Pass<P>)
+        requires { IsOf P.meaning self.now.table.shared.table_id self.now.table.shared.key pass.old.seat }
+        ensures hall { IsOf P.meaning self.now.table.shared.table_id self.now.table.shared.key pass.new.seat }
+        ensures known { IsAlike pass.old.seat.me.0 pass.new.seat.me.0 }
+        ensures missed { pass.new.seat.me.0.missed ≡ pass.old.seat.me.0.missed }
+        ensures none { pass.new.held.parts ≡ [] }
+    {
+        while !pass.held.is_empty() {
+            self.give_last(pass);
+        }
+    }
+
+    // Gives back the part that was taken last.
+    fn give_last(&self, pass: &mut Pass<P>)
+        requires hall { IsOf P.meaning self.now.table.shared.table_id self.now.table.shared.key pass.old.seat }
+        requires some { pass.old.held.parts ≢ [] }
+        ensures hall { IsOf P.meaning self.now.table.shared.table_id self.now.table.shared.key pass.new.seat }
+        ensures known { IsAlike pass.old.seat.me.0 pass.new.seat.me.0 }
+        ensures missed { pass.new.seat.me.0.missed ≡ pass.old.seat.me.0.missed }
+        ensures fewer { length pass.new.held.parts + 1 ≡ length pass.old.held.parts }
+    {
+        let (place, part) = pass.held.pop().unwrap();
+        self.let_go(&mut pass.seat, place, part);
+    }
+
+    // Gives back the place that was marked last: its part goes into the slot before its lock word is 0.
+    fn let_go(&self, seat: &mut Place<P>, place: u32, part: P::Part)
+        requires same { (seat.old.table_id ≡ self.now.table.shared.table_id) × (place < self.now.places) }
+        requires out { seat.old.me.1 ≡ (place, None) ∷ rest seat.old.me.1 }
+        requires marked { (init : List (Mark P.Meaning P.Entry)) × (seat.old.me.0.marks ≡ init ++ mark place (P.meaning part) (P.log part) ∷ []) × ((z : Mark P.Meaning P.Entry) → Has init z → z.place ≢ place) }
+        ensures seat { (seat.new.table_id ≡ seat.old.table_id) × (seat.new.id ≡ seat.old.id) }
+        ensures let_go { (seat.new.me.0 ≡ letting_go seat.old.me.0) × (seat.new.me.1 ≡ rest seat.old.me.1) }
+    {
+        let shared = &self.table.shared;
+        drop(shared.exchange(seat, place as usize, Some(part)));
+        shared.store::<Unmarks<P>>(seat, place as usize + 2, 0);
+        shared.wake_one(place as usize + 2);
+    }
+}

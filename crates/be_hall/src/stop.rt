@@ -1,0 +1,49 @@
+//! The stop word.
+ghost use Rattle.std.specs.Prelude.{◌≡◌, true, false};
+ghost use Rattle.be_hall.specs.Views.{raising, hearing, unheard};
+ghost use Rattle.be_hall.specs.Passes.{IsOf};
+
+use crate::hall::Hall;
+use crate::parts::Parts;
+use crate::pass::{Pass, Place};
+use crate::view::{Asks, Raises};
+
+impl<P: Parts + Drop> Hall<P> {
+    /// Tells all passes to stop.
+    pub fn raise_stop(&self, pass: &mut Pass<P>)
+        requires { IsOf P.meaning self.now.table.shared.table_id self.now.table.shared.key pass.old.seat }
+        ensures hall { IsOf P.meaning self.now.table.shared.table_id self.now.table.shared.key pass.new.seat }
+        ensures raised { pass.new.seat.me.0 ≡ raising pass.old.seat.me.0 }
+        ensures held { pass.new.held ≡ pass.old.held }
+    {
+        self.raise(&mut pass.seat);
+    }
+
+    fn raise(&self, seat: &mut Place<P>)
+        requires { seat.old.table_id ≡ self.now.table.shared.table_id }
+        ensures same { (seat.new.table_id ≡ seat.old.table_id) × (seat.new.id ≡ seat.old.id) × (seat.new.me.1 ≡ seat.old.me.1) }
+        ensures raised { seat.new.me.0 ≡ raising seat.old.me.0 }
+    {
+        self.table.shared.store::<Raises>(seat, 1, 1);
+    }
+
+    /// Whether a pass has raised stop.
+    pub fn stopped(&self, pass: &mut Pass<P>) -> bool
+        requires { IsOf P.meaning self.now.table.shared.table_id self.now.table.shared.key pass.old.seat }
+        ensures hall { IsOf P.meaning self.now.table.shared.table_id self.now.table.shared.key pass.new.seat }
+        ensures stopped { result ≡ true → pass.new.seat.me.0 ≡ hearing pass.old.seat.me.0 }
+        ensures quiet { result ≡ false → (pass.old.seat.me.0.knows ≡ false) × (pass.old.seat.me.0.raised ≡ false) × (pass.new.seat.me.0 ≡ unheard pass.old.seat.me.0) }
+        ensures held { pass.new.held ≡ pass.old.held }
+    {
+        self.ask(&mut pass.seat)
+    }
+
+    fn ask(&self, seat: &mut Place<P>) -> bool
+        requires { seat.old.table_id ≡ self.now.table.shared.table_id }
+        ensures same { (seat.new.table_id ≡ seat.old.table_id) × (seat.new.id ≡ seat.old.id) × (seat.new.me.1 ≡ seat.old.me.1) }
+        ensures stopped { result ≡ true → seat.new.me.0 ≡ hearing seat.old.me.0 }
+        ensures quiet { result ≡ false → (seat.old.me.0.knows ≡ false) × (seat.old.me.0.raised ≡ false) × (seat.new.me.0 ≡ unheard seat.old.me.0) }
+    {
+        self.table.shared.load::<Asks>(seat, 1) == 1
+    }
+}

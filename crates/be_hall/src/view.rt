@@ -1,0 +1,154 @@
+//! What a pass knows, the rule over all of them, and what each step tells.
+ghost use Rattle.std.specs.Prelude.{List, []};
+
+use crate::parts::Parts;
+use atomic_table::{Join, Play, Split, TableRule};
+use std::collections::LinkedList;
+use std::marker::{Brand, PhantomData};
+use std::snapshot::Snapshot;
+
+/// What a hall was opened with.
+pub struct About<P, M> {
+    pub rules: P,
+    pub opening: LinkedList<M>,
+    pub limit: u64,
+}
+
+/// The same, where a hall is made.
+#[derive(Drop)]
+pub struct Key<P, T> {
+    pub rules: Snapshot<P>,
+    pub opening: Snapshot<Vec<T>>,
+    pub limit: u64,
+}
+
+/// One entry, its number, and what the parts in hand meant before it.
+pub struct Commit<M, E> {
+    pub number: u64,
+    pub entry: E,
+    pub before: LinkedList<(u32, M)>,
+}
+
+/// A place that a pass has marked, with what its part means, and its log.
+pub struct Mark<M, E> {
+    pub place: u32,
+    pub meaning: M,
+    pub log: LinkedList<(u64, E)>,
+}
+
+/// What a pass knows. No value of it is made. The spent one is about nothing.
+pub struct View<P, M, E> {
+    pub about: LinkedList<About<P, M>>,
+    pub seen: u64,
+    pub own: LinkedList<Commit<M, E>>,
+    /// The lists of the passes that were joined into this one.
+    pub ended: LinkedList<LinkedList<Commit<M, E>>>,
+    pub marks: LinkedList<Mark<M, E>>,
+    pub missed: LinkedList<u32>,
+    pub raised: bool,
+    /// It knows that stop was raised.
+    pub knows: bool,
+    /// How many loads found that stop wasn't raised.
+    pub quiet: u64,
+}
+
+/// Which entry a commit makes. Each call picks it.
+pub trait Aim<E> {
+    ghost entries: { List E };
+}
+
+impl<E> Aim<E> for Brand {
+    ghost entries = { [] };
+}
+
+pub struct Law<P> {
+    parts: PhantomData<P>,
+}
+
+impl<P: Parts> TableRule<Option<P::Part>, View<P, P::Meaning, P::Entry>, Key<P, P::Part>>
+    for Law<P> {
+    ghost use Rattle.be_hall.specs.Rule.{Kept};
+    ghost use Rattle.be_hall.specs.Views.{blank};
+    ghost use Rattle.be_hall.specs.Passes.{about_of};
+
+    ghost holds = { λ k. Kept P.machine P.meaning P.log (about_of P.meaning k) };
+
+    ghost first = { λ k. blank (about_of P.meaning k) };
+}
+
+pub struct Marks<P> {
+    parts: PhantomData<P>,
+}
+
+impl<P: Parts> Play<Option<P::Part>, View<P, P::Meaning, P::Entry>> for Marks<P> {
+    ghost use Rattle.be_hall.specs.Steps.{tries};
+
+    ghost then = { tries P.meaning P.log };
+}
+
+pub struct Unmarks<P> {
+    parts: PhantomData<P>,
+}
+
+impl<P: Parts> Play<Option<P::Part>, View<P, P::Meaning, P::Entry>> for Unmarks<P> {
+    ghost use Rattle.be_hall.specs.Steps.{lets_go};
+
+    ghost then = { lets_go };
+}
+
+pub struct Commits<P, J> {
+    parts: PhantomData<(P, J)>,
+}
+
+impl<P: Parts, J: Aim<P::Entry>> Play<Option<P::Part>, View<P, P::Meaning, P::Entry>>
+    for Commits<P, J> {
+    ghost use Rattle.be_hall.specs.Steps.{commits};
+
+    ghost then = { commits P.machine J.entries };
+}
+
+pub struct Parting;
+
+impl<P, M, E> Split<View<P, M, E>> for Parting {
+    ghost use Rattle.be_hall.specs.Views.{parted};
+
+    ghost left = { λ v. v };
+
+    ghost right = { parted };
+}
+
+pub struct Joining;
+
+impl<P, M, E> Join<View<P, M, E>> for Joining {
+    ghost use Rattle.be_hall.specs.Views.{joined, spent};
+
+    ghost both = { joined };
+
+    ghost spent = { spent };
+}
+
+pub struct Looks<P> {
+    parts: PhantomData<P>,
+}
+
+impl<P: Parts> Play<Option<P::Part>, View<P, P::Meaning, P::Entry>> for Looks<P> {
+    ghost use Rattle.be_hall.specs.Steps.{looks};
+
+    ghost then = { looks P.machine };
+}
+
+pub struct Raises;
+
+impl<T, P, M, E> Play<Option<T>, View<P, M, E>> for Raises {
+    ghost use Rattle.be_hall.specs.Steps.{raises};
+
+    ghost then = { raises };
+}
+
+pub struct Asks;
+
+impl<T, P, M, E> Play<Option<T>, View<P, M, E>> for Asks {
+    ghost use Rattle.be_hall.specs.Steps.{asks};
+
+    ghost then = { asks };
+}
