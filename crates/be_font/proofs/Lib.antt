@@ -1,0 +1,3 @@
+pub mod TestLemmas
+pub mod RunLemmas
+pub mod RowLemmas
