@@ -5,4 +5,4 @@ pub mod ToldWords
 pub mod Told
 pub mod ToldLegal
 pub mod ToldScripts
-pub mod ServedTold
+pub mod Served

@@ -19,7 +19,7 @@ use Rattle.first_world.specs.declared.parts.Port.{Port}
 use Rattle.first_world.specs.declared.parts.Stage.{Stage}
 use Rattle.first_world.specs.declared.parts.Stage.TheVariants as stage
 use Rattle.first_world.specs.declared.queue.Numbered.{Numbered}
-use Rattle.first_world.specs.declared.queue.TheConstants.{LINK}
+use Rattle.first_world.specs.Limits.{link_size}
 use Rattle.first_world.specs.Traces.{traces_of}
 use Rattle.first_world.specs.Actors.{actor_of, activities}
 use Rattle.first_world.specs.State.{State, opening_state, free_looper}
@@ -77,7 +77,7 @@ flushed_possible : (d : Declared) (n : ℕ) (s : State) (w : ℕ) (l : Looper) (
 flushed_possible d n s w l a h read is =
     let inside : IsWindow d w = window_read d n s w l h read in
     let there : HasLink s w = link_there d n s w h inside in
-    let room : length there.link + length l.buffer ≤ LINK = is.room there.link there.read in
+    let room : length there.link + length l.buffer ≤ link_size = is.room there.link there.read in
     subst (IsActOf d) (sym is.act) (inside, omega (arith, room))
 
 drawn_possible : (d : Declared) (n : ℕ) (s : State) (w : ℕ) (l : Looper) (a : Act) → n < 2 ^ 64 → IsKnown d n s → slice_get s.loopers w ≡ Some l → IsDrawn w l a ⊎ IsFlushed s.links w l a → IsActOf d a

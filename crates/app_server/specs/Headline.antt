@@ -1,22 +1,58 @@
--- What the status of a call says of what was read and written, of bytes that are told.
-use Rattle.std.specs.Prelude.{◌≡◌, ℕ, ◌≤◌, ◌⊎◌, List, length, Option, Ok}
+-- What the answer of a call of the server says of what was read and written, where bytes are told.
+use Rattle.std.specs.Prelude.{◌≡◌, ℕ, ◌≤◌, ◌⊎◌, List, length, Option, Some, None, Ok}
+use Rattle.be_outside.specs.Faults.{FaultsRose}
 use Rattle.be_outside.specs.Telling.{with_front, with_end, IsDrained, TakesPrefix}
 use Rattle.first_script.specs.Script.{Declared}
 use Rattle.first_script.specs.Grammar.{script_of, IsFaultOf}
 use Rattle.first_script.specs.declared.reason.ScriptFault.{ScriptFault}
+use Rattle.first_script.specs.declared.reason.ScriptFault.TheVariants.{At}
 use Rattle.first_world.specs.declared.entry.Entry.{Entry}
 use Rattle.first_world.specs.Traces.{traces_of}
 use Rattle.first_world.specs.Orderly.{IsOrderly}
 use Rattle.first_world.specs.History.{IsFinished, IsScheduled, state_after}
-use Rattle.app_server.specs.declared.serve.TheConstants.{LIMIT}
+use Rattle.app_server.specs.declared.command.CommandWords.{CommandWords}
+use Rattle.app_server.specs.declared.command.CommandWords.TheVariants.{Serial}
+use Rattle.app_server.specs.declared.status.Status.{Status}
+use Rattle.app_server.specs.declared.status.Status.TheVariants.{Finished, Illegal, Usage, BadScript, ReadFault, WriteFault, NoMemory}
 use Rattle.app_server.specs.Report.{report_text}
 use Rattle.app_server.specs.Told.{IsToldBy}
 
--- the bytes that a source had left before a call and not after it, read to its end or to one byte more than a script
--- may have
+-- ---- what a call does to the source and the sink that it is given
+
+-- the object before the call and after it, the bytes that it tells then, and how often its calls have failed
+pub record Turn (Object : Type 0) : Type 0 where
+  pub old : Object
+  pub new : Object
+  pub before : Option (List ℕ)
+  pub after : Option (List ℕ)
+  pub faults_before : ℕ
+  pub faults_after : ℕ
+
+abbrev pub turn : {Object : Type 0} → (Object → Option (List ℕ)) → (Object → ℕ) → Object → Object → Turn Object
+turn told faults old new =
+    record { old = old; new = new; before = told old; after = told new; faults_before = faults old; faults_after = faults new }
+
+-- the call leaves the object as it was
+abbrev pub IsUntouched : {Object : Type 0} → Turn Object → Type 0
+IsUntouched t = t.new ≡ t.old
+
+-- a call on the object failed meanwhile
+abbrev pub HasFailed : {Object : Type 0} → Turn Object → Type 0
+HasFailed t = FaultsRose t.faults_before t.faults_after
+
+-- ---- what was read
+
+-- the bytes are those that a source had left before a call and not after it: all of them, or the first 1,048,577, one
+-- more than a script may have
 pub record WasRead (before after : Option (List ℕ)) (bytes : List ℕ) : Type 0 where
   pub front : before ≡ with_front bytes after
-  pub whole : IsDrained after ⊎ (LIMIT ≤ length bytes)
+  pub within : length bytes ≤ 1048577
+  pub whole : IsDrained after ⊎ (length bytes ≡ 1048577)
+
+-- the bytes are all that a source had left
+pub record WasDrained (before after : Option (List ℕ)) (bytes : List ℕ) : Type 0 where
+  pub front : before ≡ with_front bytes after
+  pub whole : IsDrained after
 
 -- the bytes that were read are no script, and this is the first fault in them
 pub record IsRefused (before after : Option (List ℕ)) (fault : ScriptFault) : Type 0 where
@@ -24,36 +60,63 @@ pub record IsRefused (before after : Option (List ℕ)) (fault : ScriptFault) : 
   pub read : WasRead before after bytes
   pub refused : IsFaultOf fault (script_of bytes)
 
--- The one history of a run of the script: it is a history of the window machine, in which every entry is legal
--- where it stands and which ends with Stop; each looper takes its port's letters in their order, and each command that
--- was drawn is executed once, in its window's order; and at each turn the first activity that could step did.
+-- ---- the run
+
+-- A history of a run of the script, whoever steps: every entry is legal where it stands, and it ends with Stop; each
+-- looper takes its port's letters in their order, and each command that was drawn is executed once, in its window's
+-- order.
 pub record IsRunOf (said : Declared) (history : List Entry) : Type 0 where
   pub finished : IsFinished said history
   pub orderly : IsOrderly said history
-  pub scheduled : IsScheduled said history
+
+-- which of these the command runs: `serial 0` the one in which at each turn the first activity that can step does
+abbrev pub IsChosen : CommandWords → Declared → List Entry → Type 0
+IsChosen Serial said history = IsScheduled said history
 
 -- the report of a history: its entries, the traces that its loopers note, and the screen of the state after it
 abbrev pub report_of : Declared → List Entry → List ℕ
 report_of said history = report_text said history (traces_of said history) (state_after said history).screen
 
--- the bytes that were read are a script, and a part of the report of its run was written, or all of it
-pub record IsCutShort (before after held_before held_after : Option (List ℕ)) : Type 0 where
-  pub bytes : List ℕ
-  pub said : Declared
-  pub history : List Entry
-  pub read : WasRead before after bytes
-  pub script : script_of bytes ≡ Ok said
-  pub run : IsRunOf said history
-  pub written : TakesPrefix held_before held_after (report_of said history)
+-- ---- what was written
 
--- A finished run: the source was read to its end, and its bytes are a script; what was written is the report of
--- one history, which is the script's run; and the history can be read back from the report.
-pub record IsServed (before after held_before held_after : Option (List ℕ)) : Type 0 where
+-- A finished run: the source was read to its end, and its bytes are a script; what was written is the report of one
+-- history, which is the command's run of the script; and the report tells that history and no other.
+pub record IsServed (command : CommandWords) (before after held_before held_after : Option (List ℕ)) : Type 0 where
   pub bytes : List ℕ
   pub said : Declared
   pub history : List Entry
-  pub read : WasRead before after bytes
+  pub read : WasDrained before after bytes
   pub script : script_of bytes ≡ Ok said
   pub run : IsRunOf said history
+  pub chosen : IsChosen command said history
   pub written : held_after ≡ with_end held_before (report_of said history)
   pub told : IsToldBy said (report_of said history) history
+  pub alone : (other : List Entry) → IsToldBy said (report_of said history) other → other ≡ history
+
+-- the same, but that a front part of the report was written, none of it, or all
+pub record IsCutShort (command : CommandWords) (before after held_before held_after : Option (List ℕ)) : Type 0 where
+  pub bytes : List ℕ
+  pub said : Declared
+  pub history : List Entry
+  pub read : WasDrained before after bytes
+  pub script : script_of bytes ≡ Ok said
+  pub run : IsRunOf said history
+  pub chosen : IsChosen command said history
+  pub written : TakesPrefix held_before held_after (report_of said history)
+
+-- ---- the answer
+
+-- what each answer to a command that runs a script says
+abbrev pub RunAnswers : {S K : Type 0} → CommandWords → Turn S → Turn K → Status → Type 0
+RunAnswers command source sink Finished = IsServed command source.before source.after sink.before sink.after
+RunAnswers command source sink (Illegal entry) = ⊥
+RunAnswers command source sink Usage = ⊥
+RunAnswers command source sink (BadScript line reason) = IsRefused source.before source.after (At line reason) × IsUntouched sink
+RunAnswers command source sink ReadFault = HasFailed source × IsUntouched sink
+RunAnswers command source sink WriteFault = HasFailed sink × IsCutShort command source.before source.after sink.before sink.after
+RunAnswers command source sink NoMemory = IsUntouched sink
+
+-- what the answer says, by the command that the words on the command line spell; other words than a command's touch nothing
+abbrev pub Answers : {S K : Type 0} → Option CommandWords → Turn S → Turn K → Status → Type 0
+Answers None source sink status = (status ≡ Usage) × IsUntouched source × IsUntouched sink
+Answers (Some command) source sink status = RunAnswers command source sink status

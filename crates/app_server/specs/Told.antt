@@ -14,13 +14,17 @@ IsCount n = n < 2 ^ 64
 abbrev pub IsWindow : Declared → ℕ → Type 0
 IsWindow d w = w < length d.windows
 
+-- a number of commands that one flush can have
+abbrev pub IsShare : ℕ → Type 0
+IsShare n = n < 2 ^ 32
+
 -- the act names a window that there is, and its number is one that can be counted to
 abbrev pub IsActOf : Declared → Act → Type 0
 IsActOf d (Take n) = IsCount n
 IsActOf d (Lock w) = IsWindow d w
 IsActOf d (Unlock w) = IsWindow d w
 IsActOf d (Draw w n) = IsWindow d w × IsCount n
-IsActOf d (Flush w n) = IsWindow d w × IsCount n
+IsActOf d (Flush w n) = IsWindow d w × IsShare n
 IsActOf d (Exec n outcome) = IsCount n
 IsActOf d (Notify n) = IsCount n
 IsActOf d (Begin opened) = Unit {0}

@@ -1,9 +1,7 @@
-ghost use Rattle.std.specs.Prelude.{◌≡◌, ◌≢◌, ◌↔◌, ℕ, None, map, string_bytes, IfOk};
+ghost use Rattle.std.specs.Prelude.{◌≡◌, map, string_bytes, IfOk};
 ghost use Rattle.be_outside.specs.Faults.{FaultsRose};
-ghost use Rattle.first_script.specs.declared.reason.Reason.{Reason};
-ghost use Rattle.first_script.specs.declared.reason.ScriptFault.TheVariants.{At};
 ghost use Rattle.app_server.specs.Commands.{command_of};
-ghost use Rattle.app_server.specs.Headline.{WasRead, IsRefused, IsCutShort, IsServed};
+ghost use Rattle.app_server.specs.Headline.{turn, WasRead, RunAnswers, Answers};
 
 use crate::command::{CommandWords, command};
 use crate::report::{ReportFault, report};
@@ -29,16 +27,8 @@ pub fn serve<R: Threads + Wait + Sync, S: Source, K: Sink, G: Gate + Sync>(
     sink: &mut K,
     _gate: &G,
 ) -> Status
-    ensures usage { (result ≡ Status.Usage) ↔ (command_of (map string_bytes words.now) ≡ None) }
-    ensures usage_leaves { result ≡ Status.Usage → (source.new ≡ source.old) × (sink.new ≡ sink.old) }
-    ensures read_fault { result ≡ Status.ReadFault → FaultsRose (S.faults source.old) (S.faults source.new) × (sink.new ≡ sink.old) }
-    ensures bad_script { (line : ℕ) (reason : Reason) → result ≡ Status.BadScript line reason
-        → IsRefused (S.left source.old) (S.left source.new) (At line reason) × (sink.new ≡ sink.old) }
-    ensures write_fault { result ≡ Status.WriteFault
-        → FaultsRose (K.faults sink.old) (K.faults sink.new) × IsCutShort (S.left source.old) (S.left source.new) (K.held sink.old) (K.held sink.new) }
-    ensures finished { result ≡ Status.Finished → IsServed (S.left source.old) (S.left source.new) (K.held sink.old) (K.held sink.new) }
-    ensures no_memory { result ≡ Status.NoMemory → sink.new ≡ sink.old }
-    ensures never_illegal { (entry : ℕ) → result ≢ Status.Illegal entry }
+    ensures { Answers (command_of (map string_bytes words.now))
+        (turn S.left S.faults source.old source.new) (turn K.held K.faults sink.old sink.new) result }
 {
     serve_alone(alloc, words, source, sink)
 }
@@ -50,16 +40,8 @@ pub fn serve_alone<S: Source, K: Sink>(
     source: &mut S,
     sink: &mut K,
 ) -> Status
-    ensures usage { (result ≡ Status.Usage) ↔ (command_of (map string_bytes words.now) ≡ None) }
-    ensures usage_leaves { result ≡ Status.Usage → (source.new ≡ source.old) × (sink.new ≡ sink.old) }
-    ensures read_fault { result ≡ Status.ReadFault → FaultsRose (S.faults source.old) (S.faults source.new) × (sink.new ≡ sink.old) }
-    ensures bad_script { (line : ℕ) (reason : Reason) → result ≡ Status.BadScript line reason
-        → IsRefused (S.left source.old) (S.left source.new) (At line reason) × (sink.new ≡ sink.old) }
-    ensures write_fault { result ≡ Status.WriteFault
-        → FaultsRose (K.faults sink.old) (K.faults sink.new) × IsCutShort (S.left source.old) (S.left source.new) (K.held sink.old) (K.held sink.new) }
-    ensures finished { result ≡ Status.Finished → IsServed (S.left source.old) (S.left source.new) (K.held sink.old) (K.held sink.new) }
-    ensures no_memory { result ≡ Status.NoMemory → sink.new ≡ sink.old }
-    ensures never_illegal { (entry : ℕ) → result ≢ Status.Illegal entry }
+    ensures { Answers (command_of (map string_bytes words.now))
+        (turn S.left S.faults source.old source.new) (turn K.held K.faults sink.old sink.new) result }
 {
     match command(words) {
         Some(CommandWords::Serial) => serial(alloc, source, sink),
@@ -68,15 +50,8 @@ pub fn serve_alone<S: Source, K: Sink>(
 }
 
 fn serial<S: Source, K: Sink>(alloc: Global, source: &mut S, sink: &mut K) -> Status
-    ensures not_usage { result ≢ Status.Usage }
-    ensures read_fault { result ≡ Status.ReadFault → FaultsRose (S.faults source.old) (S.faults source.new) × (sink.new ≡ sink.old) }
-    ensures bad_script { (line : ℕ) (reason : Reason) → result ≡ Status.BadScript line reason
-        → IsRefused (S.left source.old) (S.left source.new) (At line reason) × (sink.new ≡ sink.old) }
-    ensures write_fault { result ≡ Status.WriteFault
-        → FaultsRose (K.faults sink.old) (K.faults sink.new) × IsCutShort (S.left source.old) (S.left source.new) (K.held sink.old) (K.held sink.new) }
-    ensures finished { result ≡ Status.Finished → IsServed (S.left source.old) (S.left source.new) (K.held sink.old) (K.held sink.new) }
-    ensures no_memory { result ≡ Status.NoMemory → sink.new ≡ sink.old }
-    ensures never_illegal { (entry : ℕ) → result ≢ Status.Illegal entry }
+    ensures { RunAnswers CommandWords.Serial
+        (turn S.left S.faults source.old source.new) (turn K.held K.faults sink.old sink.new) result }
 {
     let bytes = match read_all(alloc, source) {
         Ok(bytes) => bytes,

@@ -1,195 +1,215 @@
--- Bytes that are cut short: what is read of them is what is read of the whole, or they are truncated.
-use Rattle.std.proofs.Common.{◌≡◌, ℕ, zero, suc, ◌+◌, ◌-◌, ◌*◌, Bool, ◌&&◌, List, [], ◌∷◌, ◌++◌, length, Ok, Err, refl, sym, ap, subst, ◌∙◌, ◌⊎◌, inl, inr, arith}
+-- What is read of a message where the bytes are cut short, where others follow, and where a byte is bad.
+use Rattle.std.proofs.Common.{◌≡◌, ℕ, zero, suc, ◌+◌, ◌-◌, ◌*◌, ◌<◌, Bool, true, false, ◌&&◌, List, [], ◌∷◌, ◌++◌, length, take, cond, Ok, Err, refl, sym, ap, subst, ◌∙◌, inl, inr, arith, append_assoc}
 use Rattle.std.specs.Prelude.{nat_le, nat_lt, ◌==◌, ◌≢◌}
 use Rattle.std.specs.Int.{w16, w32, from_le_bytes, cast_signed}
 use Rattle.std.specs.List.{list_any}
 use Rattle.std.proofs.lemmas.List.{append-nil, length-append}
+use Rattle.std.proofs.lemmas.Bool.Decides.{nat_tests}
+use Rattle.std.proofs.Math.Seq.{take-append_seam}
 use Rattle.be_message.specs.declared.kind.Kind.{Kind}
 use Rattle.be_message.specs.declared.kind.Kind.TheVariants as kind
 use Rattle.be_message.specs.Fields.{has_name, with_value}
 use Rattle.be_message.specs.Messages.{bool, int, text, point, rect, Message, packed}
 use Rattle.be_message.specs.Names.{is_text_byte}
+use Rattle.be_flat.specs.declared.fault.FlatError.{FlatError}
 use Rattle.be_flat.specs.declared.fault.FlatError.TheVariants.{Truncated, BadByte, Extra}
 use Rattle.be_flat.specs.Codes.{begin_code, kind_spelt}
 use Rattle.be_flat.specs.Grammar.{Spells}
-use Rattle.be_flat.specs.Reading.{Rest, Read, ◌>>=◌, byte_at, byte_that, bytes_that, u16_at, u32_at, coordinate_at, bool_at, int_at, text_length_at, text_at, point_at, rect_at, value_at, value_into, so_many, kind_at, goes_on_name, unless_taken, name_at, field_into, message_at, reading}
-use Rattle.be_flat.proofs.Taken.{bind_ok}
+use Rattle.be_flat.specs.Reading.{Rest, Read, ◌>>=◌, byte_at, byte_that, bytes_that, u16_at, u32_at, coordinate_at, bool_at, int_at, text_length_at, text_at, point_at, rect_at, value_at, value_into, so_many, kind_at, goes_on_name, unless_taken, name_at, field_into, message_at, whole, reading}
 use Rattle.be_flat.proofs.Again.{message_again}
-use Rattle.be_flat.proofs.Truths.{guard_ok, is_free, ok_is}
-
-abbrev rest_of : List ℕ → ℕ → Rest
-rest_of bytes at = record { bytes = bytes; at = at }
-
--- the front alone has the part too
-pub record HasPart {X : Type 0} (r : Rest → Read X) (front back : List ℕ) (at : ℕ) (x : X) (after : Rest) : Type 0 where
-  pub left : List ℕ
-  pub more : after.bytes ≡ left ++ back
-  pub same : r (rest_of front at) ≡ Ok (x, rest_of left after.at)
-  pub place : after.at + length left ≡ at + length front
-
--- whatever reads a part of the whole reads it of a front, or the front ends inside the part
-abbrev pub IsCut : {X : Type 0} → (Rest → Read X) → Type 0
-IsCut {X = X} r =
-    (front back : List ℕ) (at : ℕ) (x : X) (after : Rest) → r (rest_of (front ++ back) at) ≡ Ok (x, after)
-    → HasPart r front back at x after ⊎ (r (rest_of front at) ≡ Err (Truncated (at + length front)))
-
-cut_ok : {X : Type 0} (g : X) → IsCut (λ s. Ok (g, s))
-cut_ok {X = X} g front back at x after e =
-    let same = ok_is (g, rest_of (front ++ back) at) (x, after) e in
-    inl (subst (λ (y : X × Rest). HasPart (λ s. Ok (g, s)) front back at y.0 y.1) same (record { left = front; more = refl; same = refl; place = refl }))
-
-then_cut : {X Y : Type 0} (r : Rest → Read X) (f : X → Rest → Read Y) → ((x : X) → IsCut (f x)) → (front back : List ℕ) (at : ℕ) (y : Y) (after : Rest) (x : X) (s : Rest) (p : HasPart r front back at x s) → f x s ≡ Ok (y, after)
-    → HasPart (λ s. r s >>= λ x. f x.0 x.1) front back at y after ⊎ ((r (rest_of front at) >>= λ x. f x.0 x.1) ≡ Err (Truncated (at + length front)))
-then_cut r f cuts front back at y after x s p e =
-    let e' : f x (rest_of (p.left ++ back) s.at) ≡ Ok (y, after) = ap (λ (q : List ℕ). f x (rest_of q s.at)) (sym p.more) ∙ e in
-    elim (cuts x p.left back s.at y after e') [
-      | inl q ↦ inl (record { left = q.left; more = q.more; same = rw p.same q.same; place = omega (arith, q.place, p.place) })
-      | inr t ↦ inr (rw p.same (t ∙ ap (λ (n : ℕ). Err (Truncated n)) p.place))
-    ]
-
-cut_bind : {X Y : Type 0} (r : Rest → Read X) (f : X → Rest → Read Y) → IsCut r → ((x : X) → IsCut (f x)) → IsCut (λ s. r s >>= λ x. f x.0 x.1)
-cut_bind r f cut cuts front back at y after e =
-    let b = bind_ok (r (rest_of (front ++ back) at)) (λ x. f x.0 x.1) (y, after) e in
-    elim (cut front back at b.0.0 b.0.1 b.1) [
-      | inl p ↦ then_cut r f cuts front back at y after b.0.0 b.0.1 p b.2
-      | inr t ↦ inr (rw t refl)
-    ]
-
--- ---- bytes
-
-cut_byte : IsCut byte_at
-unfolding byte_at
-cut_byte [] back at x after e = inr (ap (λ (n : ℕ). Err (Truncated n)) (omega arith))
-cut_byte (b ∷ front) back at x after e =
-    let same = ok_is (b, rest_of (front ++ back) (at + 1)) (x, after) e in
-    inl (subst (λ (y : ℕ × Rest). HasPart byte_at (b ∷ front) back at y.0 y.1) same (record { left = front; more = refl; same = refl; place = omega arith }))
-
-cut_that : (passes : ℕ → Bool) → IsCut (byte_that passes)
-unfolding byte_that byte_at
-cut_that passes [] back at x after e = inr (ap (λ (n : ℕ). Err (Truncated n)) (omega arith))
-cut_that passes (b ∷ front) back at x after e =
-    let g = guard_ok (passes b) (BadByte at) (b, rest_of (front ++ back) (at + 1)) (x, after) e in
-    inl (subst (λ (y : ℕ × Rest). HasPart (byte_that passes) (b ∷ front) back at y.0 y.1) g.1 (record { left = front; more = refl; same = rw g.0 refl; place = omega arith }))
-
-cut_bytes : (passes : List ℕ → ℕ → Bool) (n : ℕ) (read : List ℕ) → IsCut (bytes_that passes n read)
-unfolding bytes_that
-cut_bytes passes zero read = cut_ok read
-cut_bytes passes (suc n) read = cut_bind (byte_that (passes read)) (λ b. bytes_that passes n (read ++ b ∷ [])) (cut_that (passes read)) (λ b. cut_bytes passes n (read ++ b ∷ []))
+use Rattle.be_flat.proofs.Taken.{bind_ok}
+use Rattle.be_flat.proofs.Readers.{rest_of, HasPart, IsCut, HasTaken, Takes, HasBad, IsReader, reader_ok, reader_where, reader_bind, reader_then, reader_byte, reader_that, that_passes, reader_bytes, bind_bad}
+use Rattle.be_flat.proofs.Truths.{guard_ok, is_free, ok_is, same_place}
+use Rattle.be_flat.proofs.TypeCodes.{MayHave, kind_may}
 
 -- ---- numbers and values
 
-cut_u16 : IsCut u16_at
+reader_u16 : IsReader u16_at
 unfolding u16_at
-cut_u16 =
-    cut_bind byte_at (λ a s. byte_at s >>= λ b. Ok (from_le_bytes w16 (a ∷ b.0 ∷ []), b.1)) cut_byte (λ a.
-    cut_bind byte_at (λ b s. Ok (from_le_bytes w16 (a ∷ b ∷ []), s)) cut_byte (λ b. cut_ok (from_le_bytes w16 (a ∷ b ∷ []))))
+reader_u16 =
+    reader_bind byte_at (λ a s. byte_at s >>= λ b. Ok (from_le_bytes w16 (a ∷ b.0 ∷ []), b.1)) reader_byte (λ a.
+    reader_bind byte_at (λ b s. Ok (from_le_bytes w16 (a ∷ b ∷ []), s)) reader_byte (λ b. reader_ok (from_le_bytes w16 (a ∷ b ∷ []))))
 
-cut_u32 : IsCut u32_at
+reader_u32 : IsReader u32_at
 unfolding u32_at
-cut_u32 =
-    cut_bind byte_at (λ a s. byte_at s >>= λ b. byte_at b.1 >>= λ c. byte_at c.1 >>= λ d. Ok (from_le_bytes w32 (a ∷ b.0 ∷ c.0 ∷ d.0 ∷ []), d.1)) cut_byte (λ a.
-    cut_bind byte_at (λ b s. byte_at s >>= λ c. byte_at c.1 >>= λ d. Ok (from_le_bytes w32 (a ∷ b ∷ c.0 ∷ d.0 ∷ []), d.1)) cut_byte (λ b.
-    cut_bind byte_at (λ c s. byte_at s >>= λ d. Ok (from_le_bytes w32 (a ∷ b ∷ c ∷ d.0 ∷ []), d.1)) cut_byte (λ c.
-    cut_bind byte_at (λ d s. Ok (from_le_bytes w32 (a ∷ b ∷ c ∷ d ∷ []), s)) cut_byte (λ d. cut_ok (from_le_bytes w32 (a ∷ b ∷ c ∷ d ∷ []))))))
+reader_u32 =
+    reader_bind byte_at (λ a s. byte_at s >>= λ b. byte_at b.1 >>= λ c. byte_at c.1 >>= λ d. Ok (from_le_bytes w32 (a ∷ b.0 ∷ c.0 ∷ d.0 ∷ []), d.1)) reader_byte (λ a.
+    reader_bind byte_at (λ b s. byte_at s >>= λ c. byte_at c.1 >>= λ d. Ok (from_le_bytes w32 (a ∷ b ∷ c.0 ∷ d.0 ∷ []), d.1)) reader_byte (λ b.
+    reader_bind byte_at (λ c s. byte_at s >>= λ d. Ok (from_le_bytes w32 (a ∷ b ∷ c ∷ d.0 ∷ []), d.1)) reader_byte (λ c.
+    reader_bind byte_at (λ d s. Ok (from_le_bytes w32 (a ∷ b ∷ c ∷ d ∷ []), s)) reader_byte (λ d. reader_ok (from_le_bytes w32 (a ∷ b ∷ c ∷ d ∷ []))))))
 
-cut_coordinate : IsCut coordinate_at
+reader_coordinate : IsReader coordinate_at
 unfolding coordinate_at
-cut_coordinate = cut_bind u16_at (λ n s. Ok (cast_signed w16 n, s)) cut_u16 (λ n. cut_ok (cast_signed w16 n))
+reader_coordinate = reader_bind u16_at (λ n s. Ok (cast_signed w16 n, s)) reader_u16 (λ n. reader_ok (cast_signed w16 n))
 
-cut_bool : IsCut bool_at
+reader_bool : IsReader bool_at
 unfolding bool_at
-cut_bool = cut_bind (byte_that (λ b. nat_le b 1)) (λ b s. Ok (bool (b == 1), s)) (cut_that (λ b. nat_le b 1)) (λ b. cut_ok (bool (b == 1)))
+reader_bool = reader_bind (byte_that (λ b. nat_le b 1)) (λ b s. Ok (bool (b == 1), s)) (reader_that (λ b. nat_le b 1)) (λ b. reader_ok (bool (b == 1)))
 
-cut_int : IsCut int_at
+reader_int : IsReader int_at
 unfolding int_at
-cut_int = cut_bind u32_at (λ n s. Ok (int (cast_signed w32 n), s)) cut_u32 (λ n. cut_ok (int (cast_signed w32 n)))
+reader_int = reader_bind u32_at (λ n s. Ok (int (cast_signed w32 n), s)) reader_u32 (λ n. reader_ok (int (cast_signed w32 n)))
 
-cut_length : IsCut text_length_at
+reader_length : IsReader text_length_at
 unfolding text_length_at
-cut_length =
-    cut_bind byte_at (λ low s. byte_that (λ high. nat_le (low + 256 * high) 1024) s >>= λ high. Ok (low + 256 * high.0, high.1)) cut_byte (λ low.
-    cut_bind (byte_that (λ high. nat_le (low + 256 * high) 1024)) (λ high s. Ok (low + 256 * high, s)) (cut_that (λ high. nat_le (low + 256 * high) 1024)) (λ high. cut_ok (low + 256 * high)))
+reader_length =
+    reader_bind byte_at (λ low s. byte_that (λ high. nat_le (low + 256 * high) 1024) s >>= λ high. Ok (low + 256 * high.0, high.1)) reader_byte (λ low.
+    reader_bind (byte_that (λ high. nat_le (low + 256 * high) 1024)) (λ high s. Ok (low + 256 * high, s)) (reader_that (λ high. nat_le (low + 256 * high) 1024)) (λ high. reader_ok (low + 256 * high)))
 
-cut_text : IsCut text_at
+reader_text : IsReader text_at
 unfolding text_at
-cut_text =
-    cut_bind text_length_at (λ n s. bytes_that (λ read b. is_text_byte b) n [] s >>= λ t. Ok (text t.0, t.1)) cut_length (λ n.
-    cut_bind (bytes_that (λ read b. is_text_byte b) n []) (λ t s. Ok (text t, s)) (cut_bytes (λ read b. is_text_byte b) n []) (λ t. cut_ok (text t)))
+reader_text =
+    reader_bind text_length_at (λ n s. bytes_that (λ read b. is_text_byte b) n [] s >>= λ t. Ok (text t.0, t.1)) reader_length (λ n.
+    reader_bind (bytes_that (λ read b. is_text_byte b) n []) (λ t s. Ok (text t, s)) (reader_bytes (λ read b. is_text_byte b) n []) (λ t. reader_ok (text t)))
 
-cut_point : IsCut point_at
+reader_point : IsReader point_at
 unfolding point_at
-cut_point =
-    cut_bind coordinate_at (λ x s. coordinate_at s >>= λ y. Ok (point (record { x = x; y = y.0 }), y.1)) cut_coordinate (λ x.
-    cut_bind coordinate_at (λ y s. Ok (point (record { x = x; y = y }), s)) cut_coordinate (λ y. cut_ok (point (record { x = x; y = y }))))
+reader_point =
+    reader_bind coordinate_at (λ x s. coordinate_at s >>= λ y. Ok (point (record { x = x; y = y.0 }), y.1)) reader_coordinate (λ x.
+    reader_bind coordinate_at (λ y s. Ok (point (record { x = x; y = y }), s)) reader_coordinate (λ y. reader_ok (point (record { x = x; y = y }))))
 
-cut_rect : IsCut rect_at
+reader_rect : IsReader rect_at
 unfolding rect_at
-cut_rect =
-    cut_bind coordinate_at (λ a s. coordinate_at s >>= λ b. coordinate_at b.1 >>= λ c. coordinate_at c.1 >>= λ d. Ok (rect (record { left = a; top = b.0; right = c.0; bottom = d.0 }), d.1)) cut_coordinate (λ a.
-    cut_bind coordinate_at (λ b s. coordinate_at s >>= λ c. coordinate_at c.1 >>= λ d. Ok (rect (record { left = a; top = b; right = c.0; bottom = d.0 }), d.1)) cut_coordinate (λ b.
-    cut_bind coordinate_at (λ c s. coordinate_at s >>= λ d. Ok (rect (record { left = a; top = b; right = c; bottom = d.0 }), d.1)) cut_coordinate (λ c.
-    cut_bind coordinate_at (λ d s. Ok (rect (record { left = a; top = b; right = c; bottom = d }), s)) cut_coordinate (λ d. cut_ok (rect (record { left = a; top = b; right = c; bottom = d }))))))
+reader_rect =
+    reader_bind coordinate_at (λ a s. coordinate_at s >>= λ b. coordinate_at b.1 >>= λ c. coordinate_at c.1 >>= λ d. Ok (rect (record { left = a; top = b.0; right = c.0; bottom = d.0 }), d.1)) reader_coordinate (λ a.
+    reader_bind coordinate_at (λ b s. coordinate_at s >>= λ c. coordinate_at c.1 >>= λ d. Ok (rect (record { left = a; top = b; right = c.0; bottom = d.0 }), d.1)) reader_coordinate (λ b.
+    reader_bind coordinate_at (λ c s. coordinate_at s >>= λ d. Ok (rect (record { left = a; top = b; right = c; bottom = d.0 }), d.1)) reader_coordinate (λ c.
+    reader_bind coordinate_at (λ d s. Ok (rect (record { left = a; top = b; right = c; bottom = d }), s)) reader_coordinate (λ d. reader_ok (rect (record { left = a; top = b; right = c; bottom = d }))))))
 
-cut_value : (inner : Rest → Read Message) → IsCut inner → (k : Kind) → IsCut (value_at inner k)
+-- a message where one may lie is read by what is given
+reader_value : (nested : Bool) (inner : Rest → Read Message) → (nested ≡ true → IsReader inner) → (k : Kind) → MayHave nested k → IsReader (value_at inner k)
 unfolding value_at
-cut_value inner cut kind.Bool = cut_bool
-cut_value inner cut kind.Int = cut_int
-cut_value inner cut kind.Text = cut_text
-cut_value inner cut kind.Point = cut_point
-cut_value inner cut kind.Rect = cut_rect
-cut_value inner cut kind.Message = cut_bind inner (λ m s. Ok (packed m, s)) cut (λ m. cut_ok (packed m))
+reader_value nested inner one kind.Bool may = reader_bool
+reader_value nested inner one kind.Int may = reader_int
+reader_value nested inner one kind.Text may = reader_text
+reader_value nested inner one kind.Point may = reader_point
+reader_value nested inner one kind.Rect may = reader_rect
+reader_value nested inner one kind.Message may = reader_bind inner (λ m s. Ok (packed m, s)) (one may) (λ m. reader_ok (packed m))
 
-cut_into : (inner : Rest → Read Message) → IsCut inner → (k : Kind) (name : List ℕ) (m : Message) → IsCut (value_into inner k name m)
+reader_into : (nested : Bool) (inner : Rest → Read Message) → (nested ≡ true → IsReader inner) → (k : Kind) → MayHave nested k → (name : List ℕ) (m : Message) → IsReader (value_into inner k name m)
 unfolding value_into
-cut_into inner cut k name m = cut_bind (value_at inner k) (λ d s. Ok (with_value m name d, s)) (cut_value inner cut k) (λ d. cut_ok (with_value m name d))
+reader_into nested inner one k may name m = reader_bind (value_at inner k) (λ d s. Ok (with_value m name d, s)) (reader_value nested inner one k may) (λ d. reader_ok (with_value m name d))
 
-cut_many : (part : Message → Rest → Read Message) → ((m : Message) → IsCut (part m)) → (n : ℕ) (m : Message) → IsCut (so_many part n m)
+reader_many : (part : Message → Rest → Read Message) → ((m : Message) → IsReader (part m)) → (n : ℕ) (m : Message) → IsReader (so_many part n m)
 unfolding so_many
-cut_many part cut zero m = cut_ok m
-cut_many part cut (suc n) m = cut_bind (part m) (λ x. so_many part n x) (cut m) (λ x. cut_many part cut n x)
+reader_many part one zero m = reader_ok m
+reader_many part one (suc n) m = reader_bind (part m) (λ x. so_many part n x) (one m) (λ x. reader_many part one n x)
 
--- ---- fields and messages
+-- ---- the name of a field
 
-cut_kind : (nested : Bool) → IsCut (kind_at nested)
-unfolding kind_at
-cut_kind nested =
-    cut_bind (bytes_that (λ read b. begin_code nested (read ++ b ∷ [])) 4 []) (λ letters s. Ok (kind_spelt letters, s)) (cut_bytes (λ read b. begin_code nested (read ++ b ∷ [])) 4 []) (λ letters. cut_ok (kind_spelt letters))
-
-cut_unless : (m : Message) (name : List ℕ) → IsCut (λ s. unless_taken m (name, s))
+unless_cut : (m : Message) (name : List ℕ) → IsCut (λ s. unless_taken m (name, s))
 unfolding unless_taken
-cut_unless m name front back at x after e =
+unless_cut m name front back at x after e =
     let g = is_free (list_any (has_name name) m.fields) (BadByte (at - 1)) (name, rest_of (front ++ back) at) (x, after) e in
     inl (subst (λ (y : List ℕ × Rest). HasPart (λ s. unless_taken m (name, s)) front back at y.0 y.1) g.1 (record { left = front; more = refl; same = rw g.0 refl; place = refl }))
 
-cut_name : (m : Message) → IsCut (name_at m)
+unless_takes : (m : Message) (name : List ℕ) → Takes (λ s. unless_taken m (name, s))
+unfolding unless_taken
+unless_takes m name bytes at x after e =
+    let g = is_free (list_any (has_name name) m.fields) (BadByte (at - 1)) (name, rest_of bytes at) (x, after) e in
+    subst (λ (y : List ℕ × Rest). HasTaken (λ s. unless_taken m (name, s)) bytes at y.0 y.1) g.1 (record { took = []; parts = refl; place = omega arith; again = λ more. rw g.0 refl })
+
+is_taken : (b : Bool) (d c : FlatError) (x : List ℕ × Rest) → cond b (Err d) (Ok x) ≡ Err c → (b ≡ true) × (d ≡ c)
+is_taken true d c x e = (refl, cc)
+is_taken false d c x e = absurd (cc e)
+
+-- the last of some bytes
+record HasLast (bytes : List ℕ) : Type 0 where
+  pub front : List ℕ
+  pub last : ℕ
+  pub parts : bytes ≡ front ++ last ∷ []
+
+last_of : (b : ℕ) (bytes : List ℕ) → HasLast (b ∷ bytes)
+last_of b [] = record { front = []; last = b; parts = refl }
+last_of b (c ∷ bytes) = let h = last_of c bytes in record { front = b ∷ h.front; last = h.last; parts = ap (λ (l : List ℕ). b ∷ l) h.parts }
+
+some_last : (bytes : List ℕ) → 0 < length bytes → HasLast bytes
+some_last [] some = absurd (omega arith)
+some_last (b ∷ bytes) some = last_of b bytes
+
+one_further : (passes : ℕ → Bool) (bytes : List ℕ) (at : ℕ) (x : ℕ × Rest) → byte_that passes (rest_of bytes at) ≡ Ok x → x.1.at ≡ at + 1
+unfolding byte_that byte_at
+one_further passes [] at x e = absurd (cc e)
+one_further passes (b ∷ bytes) at x e = ap (λ (y : ℕ × Rest). y.1.at) (sym (guard_ok (passes b) (BadByte at) (b, rest_of bytes (at + 1)) x e).1)
+
+-- so many bytes were taken
+taken_count : (passes : List ℕ → ℕ → Bool) (n : ℕ) (read : List ℕ) (s : Rest) (x : List ℕ × Rest) → bytes_that passes n read s ≡ Ok x → x.1.at ≡ s.at + n
+unfolding bytes_that
+taken_count passes zero read s x e = ap (λ (y : List ℕ × Rest). y.1.at) (sym (ok_is (read, s) x e)) ∙ omega arith
+taken_count passes (suc n) read s x e =
+    let b = bind_ok (byte_that (passes read) s) (λ y. bytes_that passes n (read ++ y.0 ∷ []) y.1) x e in
+    omega (arith, one_further (passes read) s.bytes s.at b.0 b.1, taken_count passes n (read ++ b.0.0 ∷ []) b.0.1 x b.2)
+
+-- the last byte of a name that the message has already is bad
+last_bad : (m : Message) (n : ℕ) → 0 < n → (bytes : List ℕ) (at place : ℕ) (name : List ℕ) (s : Rest) → bytes_that goes_on_name n [] (rest_of bytes at) ≡ Ok (name, s) → unless_taken m (name, s) ≡ Err (BadByte place)
+    → HasBad (λ s. bytes_that goes_on_name n [] s >>= λ x. unless_taken m (x.0, x.1)) bytes at place
+unfolding unless_taken
+last_bad m n some bytes at place name s e bad =
+    let one = reader_bytes goes_on_name n [] in
+    let t = one.takes bytes at name s e in
+    let count : s.at ≡ at + n = taken_count goes_on_name n [] (rest_of bytes at) (name, s) e in
+    let l = some_last t.took (omega (arith, count, t.place, some)) in
+    let long : length t.took ≡ length l.front + 1 = ap length l.parts ∙ length-append l.front (l.last ∷ []) in
+    let parts : bytes ≡ l.front ++ l.last ∷ s.bytes = t.parts ∙ ap (λ (q : List ℕ). q ++ s.bytes) l.parts ∙ append_assoc l.front (l.last ∷ []) s.bytes in
+    let g = is_taken (list_any (has_name name) m.fields) (BadByte (s.at - 1)) (BadByte place) (name, s) bad in
+    let here : s.at - 1 ≡ place = same_place (s.at - 1) place g.1 in
+    let whole_is : bytes_that goes_on_name n [] (rest_of (l.front ++ l.last ∷ s.bytes) at) ≡ Ok (name, s) = ap (λ (q : List ℕ). bytes_that goes_on_name n [] (rest_of q at)) (sym parts) ∙ e in
+    let again : (more : List ℕ) → bytes_that goes_on_name n [] (rest_of (l.front ++ l.last ∷ more) at) ≡ Ok (name, rest_of more s.at) =
+    λ more. ap (λ (q : List ℕ). bytes_that goes_on_name n [] (rest_of q at)) (sym (append_assoc l.front (l.last ∷ []) more) ∙ ap (λ (q : List ℕ). q ++ more) (sym l.parts)) ∙ t.again more in
+    let ends : bytes_that goes_on_name n [] (rest_of l.front at) ≡ Err (Truncated (at + length l.front)) =
+    elim (one.cut l.front (l.last ∷ s.bytes) at name s whole_is) [
+      | inl p ↦ absurd (omega (arith, p.place, t.place, long))
+      | inr short ↦ short
+    ] in
+    record {
+      front = l.front;
+      byte = l.last;
+      back = s.bytes;
+      parts = parts;
+      is = omega (arith, here, t.place, long);
+      cut = rw ends refl;
+      always = λ more. rw (again more, g.0) (ap (λ (q : ℕ). Err (BadByte q)) here);
+    }
+
+is_some : (n : ℕ) → (nat_lt 0 n && nat_le n 32) ≡ true → 0 < n
+is_some n h = grind (arith, nat_tests)
+
+reader_name : (m : Message) → IsReader (name_at m)
 unfolding name_at
-cut_name m =
+reader_name m =
     let passes : ℕ → Bool = λ n. nat_lt 0 n && nat_le n 32 in
-    cut_bind (byte_that passes) (λ n s. bytes_that goes_on_name n [] s >>= unless_taken m) (cut_that passes) (λ n.
-    cut_bind (bytes_that goes_on_name n []) (λ name s. unless_taken m (name, s)) (cut_bytes goes_on_name n []) (λ name. cut_unless m name))
+    reader_where (byte_that passes) (λ n s. bytes_that goes_on_name n [] s >>= unless_taken m) (λ n. passes n ≡ true) (reader_that passes) (that_passes passes) (λ n some.
+    reader_then (bytes_that goes_on_name n []) (λ name s. unless_taken m (name, s)) (reader_bytes goes_on_name n []) (unless_cut m) (unless_takes m) (last_bad m n (is_some n some)))
 
-cut_field : (inner : Rest → Read Message) → IsCut inner → (nested : Bool) (m : Message) → IsCut (field_into inner nested m)
+-- ---- fields and messages
+
+reader_kind : (nested : Bool) → IsReader (kind_at nested)
+unfolding kind_at
+reader_kind nested =
+    reader_bind (bytes_that (λ read b. begin_code nested (read ++ b ∷ [])) 4 []) (λ letters s. Ok (kind_spelt letters, s)) (reader_bytes (λ read b. begin_code nested (read ++ b ∷ [])) 4 []) (λ letters. reader_ok (kind_spelt letters))
+
+reader_field : (nested : Bool) (inner : Rest → Read Message) → (nested ≡ true → IsReader inner) → (m : Message) → IsReader (field_into inner nested m)
 unfolding field_into
-cut_field inner cut nested m =
-    cut_bind (kind_at nested) (λ k s. name_at m s >>= λ name. byte_that (λ n. nat_lt 0 n) name.1 >>= λ n. so_many (value_into inner k name.0) n.0 m n.1) (cut_kind nested) (λ k.
-    cut_bind (name_at m) (λ name s. byte_that (λ n. nat_lt 0 n) s >>= λ n. so_many (value_into inner k name) n.0 m n.1) (cut_name m) (λ name.
-    cut_bind (byte_that (λ n. nat_lt 0 n)) (λ n s. so_many (value_into inner k name) n m s) (cut_that (λ n. nat_lt 0 n)) (λ n.
-    cut_many (value_into inner k name) (cut_into inner cut k name) n m)))
+reader_field nested inner one m =
+    reader_where (kind_at nested) (λ k s. name_at m s >>= λ name. byte_that (λ n. nat_lt 0 n) name.1 >>= λ n. so_many (value_into inner k name.0) n.0 m n.1) (MayHave nested) (reader_kind nested) (kind_may nested) (λ k may.
+    reader_bind (name_at m) (λ name s. byte_that (λ n. nat_lt 0 n) s >>= λ n. so_many (value_into inner k name) n.0 m n.1) (reader_name m) (λ name.
+    reader_bind (byte_that (λ n. nat_lt 0 n)) (λ n s. so_many (value_into inner k name) n m s) (reader_that (λ n. nat_lt 0 n)) (λ n.
+    reader_many (value_into inner k name) (reader_into nested inner one k may name) n m)))
 
-no_message : IsCut (message_at 0)
+-- a message of which at least one may lie within it
+reader_message : (levels : ℕ) → nat_lt 0 levels ≡ true → IsReader (message_at levels)
 unfolding message_at
-no_message front back at x after e = absurd (cc e)
-
-pub cut_message : (levels : ℕ) → IsCut (message_at levels)
-unfolding message_at
-cut_message zero = no_message
-cut_message (suc levels) =
+reader_message zero some = absurd (cc some)
+reader_message (suc levels) some =
     let nested : Bool = nat_lt 0 levels in
-    cut_bind u32_at (λ what s. byte_at s >>= λ n. so_many (field_into (message_at levels) nested) n.0 (record { what = what; fields = [] }) n.1) cut_u32 (λ what.
-    cut_bind byte_at (λ n s. so_many (field_into (message_at levels) nested) n (record { what = what; fields = [] }) s) cut_byte (λ n.
-    cut_many (field_into (message_at levels) nested) (cut_field (message_at levels) (cut_message levels) nested) n (record { what = what; fields = [] })))
+    reader_bind u32_at (λ what s. byte_at s >>= λ n. so_many (field_into (message_at levels) nested) n.0 (record { what = what; fields = [] }) n.1) reader_u32 (λ what.
+    reader_bind byte_at (λ n s. so_many (field_into (message_at levels) nested) n (record { what = what; fields = [] }) s) reader_byte (λ n.
+    reader_many (field_into (message_at levels) nested) (reader_field nested (message_at levels) (reader_message levels)) n (record { what = what; fields = [] })))
 
--- ---- the two laws
+pub of_message : IsReader (message_at 16)
+of_message = reader_message 16 refl
+
+-- ---- spellings that are cut short or go on
 
 nothing_behind : (left back : List ℕ) → [] ≡ left ++ back → back ≡ []
 nothing_behind [] back e = sym e
@@ -200,7 +220,7 @@ unfolding reading
 front_truncated front back m spells some =
     let r = message_again m (front ++ back) [] spells in
     let read : message_at 16 (rest_of (front ++ back) 0) ≡ Ok (m, rest_of [] r.0) = ap (λ (q : List ℕ). message_at 16 (rest_of q 0)) (sym (append-nil (front ++ back))) ∙ r.1 in
-    elim (cut_message 16 front back 0 m (rest_of [] r.0) read) [
+    elim (of_message.cut front back 0 m (rest_of [] r.0) read) [
       | inl p ↦ absurd (some (nothing_behind p.left back p.more))
       | inr t ↦ rw t (ap (λ (n : ℕ). Err (Truncated n)) (omega arith))
     ]
@@ -215,9 +235,64 @@ behind_extra bytes (b ∷ more) m spells some =
     let r = message_again m bytes (b ∷ more) spells in
     let whole_is : (bytes ++ b ∷ more) ++ [] ≡ bytes ++ b ∷ more = append-nil (bytes ++ b ∷ more) in
     let read : message_at 16 (rest_of ((bytes ++ b ∷ more) ++ []) 0) ≡ Ok (m, rest_of (b ∷ more) r.0) = ap (λ (q : List ℕ). message_at 16 (rest_of q 0)) whole_is ∙ r.1 in
-    elim (cut_message 16 (bytes ++ b ∷ more) [] 0 m (rest_of (b ∷ more) r.0) read) [
+    elim (of_message.cut (bytes ++ b ∷ more) [] 0 m (rest_of (b ∷ more) r.0) read) [
       | inl p ↦
           let left_is : p.left ≡ b ∷ more = sym (append-nil p.left) ∙ sym p.more in
           extra_at b more bytes r.0 m (omega (arith, p.place, ap length left_is, length-append bytes (b ∷ more))) r.1
       | inr t ↦ absurd (cc (sym r.1 ∙ t))
     ]
+
+-- ---- bad bytes
+
+whole_is_not_bad : (bytes : List ℕ) (at place : ℕ) (m : Message) → whole bytes at m ≡ Err (BadByte place) → ⊥
+whole_is_not_bad [] at place m e = cc e
+whole_is_not_bad (b ∷ bytes) at place m e = cc e
+
+bad_in : (bytes : List ℕ) (place : ℕ) → reading bytes ≡ Err (BadByte place) → HasBad (message_at 16) bytes 0 place
+unfolding reading
+bad_in bytes place e =
+    elim (bind_bad (message_at 16 (rest_of bytes 0)) (λ x. whole x.1.bytes x.1.at x.0) (BadByte place) e) [
+      | inl bad ↦ of_message.fails bytes 0 place bad
+      | inr b ↦ absurd (whole_is_not_bad b.0.1.bytes b.0.1.at place b.0.0 b.2)
+    ]
+
+-- a bad byte is one of the bytes
+pub bad_there : (bytes : List ℕ) (place : ℕ) → reading bytes ≡ Err (BadByte place) → place < length bytes
+bad_there bytes place e =
+    let h = bad_in bytes place e in
+    omega (arith, h.is, ap length h.parts ∙ length-append h.front (h.byte ∷ h.back))
+
+to_place : (front back : List ℕ) (place : ℕ) → place ≡ 0 + length front → take place (front ++ back) ≡ front
+to_place front back place e = let same : place ≡ length front = omega arith in rw same (take-append_seam front back)
+
+-- bytes that are cut before it end too early
+pub bad_cut : (bytes : List ℕ) (place : ℕ) → reading bytes ≡ Err (BadByte place) → reading (take place bytes) ≡ Err (Truncated place)
+unfolding reading
+bad_cut bytes place e =
+    let h = bad_in bytes place e in
+    let front : take place bytes ≡ h.front = ap (take place) h.parts ∙ to_place h.front (h.byte ∷ h.back) place h.is in
+    rw (front, h.cut) (ap (λ (n : ℕ). Err (Truncated n)) (sym h.is))
+
+through_place : (front back : List ℕ) (byte place : ℕ) → place ≡ 0 + length front → take (place + 1) (front ++ byte ∷ back) ≡ front ++ byte ∷ []
+through_place front back byte place e =
+    let long : length (front ++ byte ∷ []) ≡ place + 1 = length-append front (byte ∷ []) ∙ omega arith in
+    ap (λ (l : List ℕ). take (place + 1) l) (sym (append_assoc front (byte ∷ []) back)) ∙ rw (sym long) (take-append_seam (front ++ byte ∷ []) back)
+
+-- whatever follows it, it is bad
+pub bad_always : (bytes more : List ℕ) (place : ℕ) → reading bytes ≡ Err (BadByte place) → reading (take (place + 1) bytes ++ more) ≡ Err (BadByte place)
+unfolding reading
+bad_always bytes more place e =
+    let h = bad_in bytes place e in
+    let front : take (place + 1) bytes ≡ h.front ++ h.byte ∷ [] = ap (take (place + 1)) h.parts ∙ through_place h.front h.back h.byte place h.is in
+    rw (front, append_assoc h.front (h.byte ∷ []) more, h.always more) refl
+
+again_whole : (bytes : List ℕ) (m : Message) → Spells bytes m → reading bytes ≡ Ok m
+unfolding reading
+again_whole bytes m spells =
+    let r = message_again m bytes [] spells in
+    let read : message_at 16 (rest_of bytes 0) ≡ Ok (m, rest_of [] r.0) = ap (λ (q : List ℕ). message_at 16 (rest_of q 0)) (sym (append-nil bytes)) ∙ r.1 in
+    rw read refl
+
+-- so it begins no spelling
+pub bad_begins_none : (bytes more : List ℕ) (place : ℕ) (m : Message) → reading bytes ≡ Err (BadByte place) → Spells (take (place + 1) bytes ++ more) m → ⊥
+bad_begins_none bytes more place m e spells = absurd (cc (sym (bad_always bytes more place e) ∙ again_whole (take (place + 1) bytes ++ more) m spells))

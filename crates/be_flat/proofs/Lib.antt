@@ -2,6 +2,7 @@ pub mod Truths
 pub mod Loops
 pub mod Parts
 pub mod Taken
+pub mod Readers
 pub mod Numbers
 pub mod TypeCodes
 pub mod FieldNames

@@ -1,5 +1,5 @@
 -- Writing parts one after the other: a part behind those before it.
-use Rattle.std.proofs.Common.{◌≡◌, ◌<◌, ◌≤◌, ◌^◌, ◌+◌, ℕ, suc, true, List, [], ◌∷◌, ◌++◌, length, map, drop, get_or, refl, sym, ap, ◌∙◌, subst, arith, append_assoc}
+use Rattle.std.proofs.Common.{◌≡◌, ◌<◌, ◌≤◌, ◌+◌, ℕ, suc, true, List, [], ◌∷◌, ◌++◌, length, map, drop, get_or, refl, sym, ap, ◌∙◌, subst, arith, append_assoc}
 use Rattle.std.specs.Int.{w32, to_le_bytes}
 use Rattle.std.proofs.lemmas.Bool.Decides.{nat_tests}
 use Rattle.std.proofs.lemmas.List.{append-nil}
@@ -138,14 +138,14 @@ row_of_three : (start a b c : List ℕ) → ((start ++ a) ++ b) ++ c ≡ start +
 row_of_three start a b c = simp append_assoc
 
 pub whole_message : (m : Message) (start headed counted done : List ℕ) (what count : ℕ) (fields : List Field) → IsMessage m
-    → what ≡ m.what → count ≡ length m.fields → fields ≡ m.fields → what < 2 ^ 32 → headed ≡ start ++ to_le_bytes w32 what → counted ≡ headed ++ count ∷ []
+    → what ≡ m.what → count ≡ length m.fields → fields ≡ m.fields → headed ≡ start ++ to_le_bytes w32 what → counted ≡ headed ++ count ∷ []
     → Appends (λ bytes. SpellsFields bytes (all_fields fields)) counted done → Appends (λ bytes. Spells bytes m) start done
-whole_message m start headed counted done what count fields h same_what same_count same_fields range n k w =
+whole_message m start headed counted done what count fields h same_what same_count same_fields n k w =
     let spelling : List ℕ = to_le_bytes w32 what ++ count ∷ w.bytes in
     let row : done ≡ start ++ spelling = w.behind ∙ ap (λ (l : List ℕ). l ++ w.bytes) (k ∙ ap (λ (l : List ℕ). l ++ count ∷ []) n) ∙ row_of_three start (to_le_bytes w32 what) (count ∷ []) w.bytes in
     let spelt : spelling ≡ to_le_bytes w32 m.what ++ field_count (all_fields m.fields) ∷ w.bytes = ap (λ (n : ℕ). to_le_bytes w32 n ++ count ∷ w.bytes) same_what ∙ ap (λ (n : ℕ). to_le_bytes w32 m.what ++ n ∷ w.bytes) (same_count ∙ sym (field_count-all m.fields)) in
     let P : List Field → Type 0 = λ fs. SpellsFields w.bytes (all_fields fs) in
-    record { bytes = spelling; spelt = record { depth = h.depth; parts = (omega arith, h.sound.0, w.bytes, spelt, subst P same_fields w.spelt) }; behind = row }
+    record { bytes = spelling; spelt = record { depth = h.depth; parts = (h.sound.0, h.sound.1, w.bytes, spelt, subst P same_fields w.spelt) }; behind = row }
 
 -- ---- two parts in a row
 

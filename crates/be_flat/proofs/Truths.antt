@@ -3,6 +3,7 @@ use Rattle.std.proofs.Common.{◌≡◌, ℕ, Bool, true, false, ◌&&◌, ◌||
 use Rattle.std.specs.Str.{bytes_eq}
 use Rattle.std.proofs.lemmas.Slice.Eq.{bytes_eq-Decides}
 use Rattle.be_flat.specs.declared.fault.FlatError.{FlatError}
+use Rattle.be_flat.specs.declared.fault.FlatError.TheVariants.{BadByte}
 
 pub bool_cases : (b : Bool) → (b ≡ true) ⊎ (b ≡ false)
 bool_cases true = inl refl
@@ -44,3 +45,11 @@ guard_ok false d x y e = absurd cc
 pub is_free : {A : Type 0} (b : Bool) (d : FlatError) (x y : A) → cond b (Err d) (Ok x) ≡ Ok y → (b ≡ false) × (x ≡ y)
 is_free true d x y h = absurd cc
 is_free false d x y h = (refl, ok_is x y h)
+
+-- a test that failed
+pub guard_bad : {A : Type 0} (b : Bool) (d c : FlatError) (x : A) → cond b (Ok x) (Err d) ≡ Err c → (b ≡ false) × (d ≡ c)
+guard_bad true d c x e = absurd (cc e)
+guard_bad false d c x e = (refl, cc)
+
+pub same_place : (at place : ℕ) → BadByte at ≡ BadByte place → at ≡ place
+same_place at place e = cc

@@ -1,5 +1,6 @@
 -- The letters of a type's code: what is read is spelt so, and what is spelt so is read again.
-use Rattle.std.proofs.Common.{◌≡◌, ℕ, ◌+◌, Bool, true, false, List, [], ◌∷◌, ◌++◌, length, take, Ok, refl, sym, ap, subst, ◌∙◌, inl, inr, arith}
+use Rattle.std.proofs.Common.{◌≡◌, ℕ, zero, suc, ◌+◌, Bool, true, false, List, [], ◌∷◌, ◌++◌, length, take, Ok, refl, sym, ap, subst, ◌∙◌, inl, inr, arith, append_assoc}
+use Rattle.std.proofs.lemmas.List.{append-nil}
 use Rattle.std.specs.Prelude.{nat_eq}
 use Rattle.std.specs.List.{list_any, starts_with}
 use Rattle.std.specs.Str.{bytes_eq}
@@ -9,7 +10,8 @@ use Rattle.be_message.specs.declared.kind.Kind.TheVariants as kind
 use Rattle.be_flat.specs.Codes.{code_of, plain_kinds, begin_code, kind_spelt}
 use Rattle.be_flat.specs.Reading.{Rest, byte_at, byte_that, bytes_that, kind_at}
 use Rattle.be_flat.proofs.Taken.{IsBytes, bind_ok, Takes, bytes_take, pass_all, Reads}
-use Rattle.be_flat.proofs.Truths.{and_first, and_second, either, ok_is}
+use Rattle.be_flat.proofs.Readers.{that_passes}
+use Rattle.be_flat.proofs.Truths.{and_first, and_second, and_true, either, ok_is}
 
 -- a field can have the type
 abbrev pub MayHave : Bool → Kind → Type 0
@@ -87,6 +89,38 @@ last_letter nested (a ∷ b ∷ c ∷ []) four h = absurd (omega (arith, four))
 last_letter nested (a ∷ b ∷ c ∷ d ∷ []) four h =
     and_first _ true (and_second (begin_code nested (a ∷ b ∷ c ∷ [])) _ (and_second (begin_code nested (a ∷ b ∷ [])) _ (and_second (begin_code nested (a ∷ [])) _ h)))
 last_letter nested (a ∷ b ∷ c ∷ d ∷ e ∷ more) four h = absurd (omega (arith, four))
+
+-- bytes that were read pass, and are as many as were wanted
+record ArePassing (p : List ℕ → ℕ → Bool) (n : ℕ) (read got : List ℕ) : Type 0 where
+  text : List ℕ
+  got_is : got ≡ read ++ text
+  count : length text ≡ n
+  pass : pass_all p read text ≡ true
+
+passing : (p : List ℕ → ℕ → Bool) (n : ℕ) (read : List ℕ) (s : Rest) (x : List ℕ × Rest) → bytes_that p n read s ≡ Ok x → ArePassing p n read x.0
+unfolding bytes_that
+passing p zero read s x e =
+    subst (λ (y : List ℕ × Rest). ArePassing p 0 read y.0) (ok_is (read, s) x e) (record { text = []; got_is = sym (append-nil read); count = refl; pass = refl })
+passing p (suc n) read s x e =
+    let a = bind_ok (byte_that (p read) s) (λ y. bytes_that p n (read ++ y.0 ∷ []) y.1) x e in
+    let more = passing p n (read ++ a.0.0 ∷ []) a.0.1 x a.2 in
+    record {
+      text = a.0.0 ∷ more.text;
+      got_is = more.got_is ∙ append_assoc read (a.0.0 ∷ []) more.text;
+      count = ap suc more.count;
+      pass = and_true _ _ (that_passes (p read) s a.0 a.1) more.pass;
+    }
+
+-- a field can have the type that was read
+pub kind_may : (nested : Bool) (s : Rest) (x : Kind × Rest) → kind_at nested s ≡ Ok x → MayHave nested x.0
+unfolding kind_at
+kind_may nested s x e =
+    let p : List ℕ → ℕ → Bool = λ read b. begin_code nested (read ++ b ∷ []) in
+    let l = bind_ok (bytes_that p 4 [] s) (λ letters. Ok (kind_spelt letters.0, letters.1)) x e in
+    let t = passing p 4 [] s l.0 l.1 in
+    let letters : IsCode nested t.text = whole_code nested t.text t.count (last_letter nested t.text t.count t.pass) in
+    let code : IsCode nested l.0.0 = subst (λ (q : List ℕ). IsCode nested q) (sym t.got_is) letters in
+    subst (λ (y : Kind × Rest). MayHave nested y.0) (ok_is (kind_spelt l.0.0, l.0.1) x l.2) code.may
 
 pub code_takes : (nested : Bool) (s : Rest) (x : Kind × Rest) → IsBytes s.bytes → kind_at nested s ≡ Ok x → Takes s.bytes (code_of x.0) x.1.bytes × MayHave nested x.0
 unfolding kind_at

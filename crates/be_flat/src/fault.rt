@@ -7,7 +7,7 @@ use thiserror::Error;
 /// Why bytes are no flattened message. Places are counted from 0.
 #[derive(Clone, Copy, Debug, PartialEq, Eq, Error)]
 pub enum FlatError {
-    /// The bytes end inside a part; `at` is their number.
+    /// There are too few bytes: a part isn't whole.
     #[error("the bytes end inside a part, after {at}")]
     Truncated {
         /// How many bytes there are.

@@ -16,6 +16,7 @@ mod writing;
 pub use bytes::Bytes;
 pub use fault::FlatError;
 pub use laws::{
+    a_bad_byte_begins_no_spelling, bytes_before_a_bad_one_are_truncated,
     each_message_has_one_spelling, every_front_is_truncated, no_spelling_begins_another,
     what_follows_is_extra,
 };

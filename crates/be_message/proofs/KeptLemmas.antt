@@ -77,10 +77,10 @@ fields_added fs name d named sound free few s =
 
 pub added_is_message : (m : Message) (name : List ℕ) (d : Datum) → IsMessage m → is_name name ≡ true → is_allowed d ≡ true → IsSound d → refused_by (length m.fields) (field_named name m.fields) d ≡ None → IsMessage (with_value m name d)
 added_is_message m name d is named allowed sound free =
-    let fields = fields_added m.fields name d named sound free (omega (arith, count_is m.fields, is.sound.0)) is.sound.1 in
+    let fields = fields_added m.fields name d named sound free (omega (arith, count_is m.fields, is.sound.1)) is.sound.2 in
     record {
-      sound = (omega (arith, count_is (with_value_in m.fields name d), fields.0), fields.1);
-      depth = omega (arith, is.depth, depth_added m.fields name d (are_apart m.fields is.sound.1), shallow d allowed);
+      sound = (is.sound.0, omega (arith, count_is (with_value_in m.fields name d), fields.0), fields.1);
+      depth = omega (arith, is.depth, depth_added m.fields name d (are_apart m.fields is.sound.2), shallow d allowed);
     }
 
 -- ---- another value
@@ -99,7 +99,7 @@ pub replaced_is_message : (m : Message) (name : List ℕ) (i : ℕ) (d : Datum) 
 replaced_is_message m name i d is sound free =
     let fs = changed_at name (with_other i d) m.fields in
     record {
-      sound = (omega (arith, count_is m.fields, is.sound.0, count_is fs, length-map m.fields (λ f. cond (has_name name f) (with_other i d f) f)), sound_changed name (with_other i d) (λ f. refl) m.fields (λ f same one. one_other i f d (rw same at free) sound one) is.sound.1);
+      sound = (is.sound.0, omega (arith, count_is m.fields, is.sound.1, count_is fs, length-map m.fields (λ f. cond (has_name name f) (with_other i d f) f)), sound_changed name (with_other i d) (λ f. refl) m.fields (λ f same one. one_other i f d (rw same at free) sound one) is.sound.2);
       depth = omega (arith, is.depth, depth_replaced m.fields name i d, shallow d (is_well _ d free));
     }
 
@@ -113,7 +113,7 @@ pub removed_is_message : (m : Message) (name : List ℕ) → IsMessage m → IsM
 removed_is_message m name is =
     let fs = filter (λ f. not (has_name name f)) m.fields in
     record {
-      sound = (omega (arith, count_is m.fields, is.sound.0, count_is fs, filtered_is_no_longer (λ f. not (has_name name f)) m.fields), sound_filtered (λ f. not (has_name name f)) m.fields is.sound.1);
+      sound = (is.sound.0, omega (arith, count_is m.fields, is.sound.1, count_is fs, filtered_is_no_longer (λ f. not (has_name name f)) m.fields), sound_filtered (λ f. not (has_name name f)) m.fields is.sound.2);
       depth = omega (arith, is.depth, depth_filtered (λ f. not (has_name name f)) m.fields);
     }
 

@@ -1,5 +1,6 @@
 -- What is true of every message, and of each message within it.
-use Rattle.std.specs.Prelude.{◌≡◌, ◌≤◌, ◌<◌, ℕ, suc, Bool, true, not, ◌&&◌, List}
+use Rattle.std.specs.Prelude.{◌≡◌, ◌≤◌, ◌<◌, ◌^◌, ℕ, suc, ℤ, Bool, true, not, ◌&&◌, List, FitsSigned}
+use Rattle.std.specs.Int.{w16, w32}
 use Rattle.std.specs.Str.{bytes_eq}
 use Rattle.be_message.specs.declared.kind.Kind.{Kind}
 use Rattle.be_message.specs.declared.kind.Kind.TheVariants as kind
@@ -29,15 +30,20 @@ abbrev pub value_count : Values → ℕ
 value_count no_values = 0
 value_count (value d vs) = suc (value_count vs)
 
+-- two coordinates, of 16 bits each
+abbrev pub AreCoordinates : ℤ → ℤ → Type 0
+AreCoordinates x y = FitsSigned w16 x × FitsSigned w16 y
+
 abbrev mutual
-  -- a text is within its limits, and a message has at most 255 fields
+  -- a number has 32 bits, a coordinate 16; a text is within its limits; a message's what has 32 bits, and it has at
+  -- most 255 fields
   pub IsSound : Datum → Type 0
   IsSound (bool b) = Unit {0}
-  IsSound (int z) = Unit {0}
+  IsSound (int z) = FitsSigned w32 z
   IsSound (text t) = is_text t ≡ true
-  IsSound (point p) = Unit {0}
-  IsSound (rect r) = Unit {0}
-  IsSound (message what fs) = (field_count fs ≤ most_fields) × AreSoundFields fs
+  IsSound (point p) = AreCoordinates p.x p.y
+  IsSound (rect r) = AreCoordinates r.left r.top × AreCoordinates r.right r.bottom
+  IsSound (message what fs) = (what < 2 ^ 32) × (field_count fs ≤ most_fields) × AreSoundFields fs
 
   -- each field has a name that no later one has, and 1 to 255 values
   pub AreSoundFields : Fields → Type 0

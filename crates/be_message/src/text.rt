@@ -4,7 +4,8 @@ use be_geom::NoMemory;
 use std::alloc::Global;
 use std::marker::Model;
 
-/// A text of bytes, as the name of a window: it owns its bytes and is seen as the list of them.
+/// Bytes that stand for a text, as a window's name or a value of a message. It owns them, is seen as the
+/// list of them, and holds any: which bytes a name or a message's text may have is said there.
 #[derive(Debug, Drop)]
 pub struct Text {
     bytes: Vec<u8>,

@@ -2,7 +2,7 @@ ghost use Rattle.std.specs.Prelude.{◌≡◌, ◌≤◌, IsTrue, IfOk};
 ghost use Rattle.be_message.specs.Depths.{datum_depth};
 ghost use Rattle.be_message.specs.Fields.{is_allowed};
 ghost use Rattle.be_message.specs.Limits.{most_depth};
-ghost use Rattle.be_message.specs.Sound.{kind_of, IsSound};
+ghost use Rattle.be_message.specs.Sound.{kind_of, AreCoordinates, IsSound};
 ghost use Rattle.be_message.specs.Views.{seen_value};
 
 use crate::kind::Kind;
@@ -22,7 +22,7 @@ pub enum Value {
     Bool(bool),
     /// A whole number.
     Int(i32),
-    /// A text. A message takes it where it has at most 1,024 bytes, each 32 to 126.
+    /// A text. A message takes those of at most 1,024 bytes, none of them below 32 or above 126.
     Text(Text),
     /// A pixel.
     Point(Point),
@@ -66,7 +66,20 @@ impl Value {
         match self {
             Value::Text(text) => is_text(text.as_slice()),
             Value::Message(message) => message.depth() < MOST_DEPTH,
-            Value::Bool(_) | Value::Int(_) | Value::Point(_) | Value::Rect(_) => true,
+            Value::Point(point) => {
+                are_coordinates(point.x, point.y);
+                true
+            }
+            Value::Rect(rect) => {
+                are_coordinates(rect.left, rect.top);
+                are_coordinates(rect.right, rect.bottom);
+                true
+            }
+            Value::Int(number) => {
+                let _number = *number;
+                true
+            }
+            Value::Bool(_) => true,
         }
     }
 
@@ -85,3 +98,8 @@ impl Value {
         })
     }
 }
+
+/// Coordinates are never out of their range. It does nothing: what counts is that it is proved.
+fn are_coordinates(x: i16, y: i16)
+    ensures { AreCoordinates x y }
+{}

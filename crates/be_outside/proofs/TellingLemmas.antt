@@ -1,24 +1,9 @@
 -- How told bytes add up over several reads and puts, for callers that are generic in their source or sink.
-use Rattle.std.proofs.Common.{◌≡◌, ℕ, ◌+◌, ◌<◌, List, [], ◌++◌, Option, Some, None, length, get_or, take, drop, IfSome, refl, sym, ap, subst, ◌∙◌, append_assoc, append-nil}
+use Rattle.std.proofs.Common.{◌≡◌, ℕ, ◌+◌, ◌<◌, List, ◌++◌, Option, Some, None, length, get_or, take, drop, refl, sym, ap, ◌∙◌, append_assoc}
 use Rattle.std.specs.Prelude.{flat_map}
 use Rattle.std.proofs.lemmas.List.{take-append-drop, drop_more}
 use Rattle.std.proofs.lemmas.List.Concat.{flat_map-append}
-use Rattle.be_outside.specs.Telling.{with_front, with_end, IsDrained, TakesPrefix}
-
--- The source gave these bytes and came to its end: what is true of them is true of all that it told.
-pub IfSome-drained : (P : List ℕ → Type 0) (bytes : List ℕ) (old new : Option (List ℕ)) → old ≡ with_front bytes new → IsDrained new → P bytes → IfSome old P
-IfSome-drained P bytes old None given end holds = subst (λ o. IfSome o P) (sym given) tt
-IfSome-drained P bytes old (Some rest) given end holds =
-    subst (λ o. IfSome o P) (sym given) (subst P (sym (ap (λ l. bytes ++ l) end ∙ append-nil bytes)) holds)
-
--- The source gave these bytes: what is true of them with any others behind is true of all that it told.
-pub IfSome-given : (P : List ℕ → Type 0) (bytes : List ℕ) (old new : Option (List ℕ)) → old ≡ with_front bytes new → ((rest : List ℕ) → P (bytes ++ rest)) → IfSome old P
-IfSome-given P bytes old None given holds = subst (λ o. IfSome o P) (sym given) tt
-IfSome-given P bytes old (Some rest) given holds = subst (λ o. IfSome o P) (sym given) (holds rest)
-
-pub with_end-nil : (told : Option (List ℕ)) → with_end told [] ≡ told
-with_end-nil None = refl
-with_end-nil (Some front) = ap Some (append-nil front)
+use Rattle.be_outside.specs.Telling.{with_end, TakesPrefix}
 
 pub with_end-with_end : (told : Option (List ℕ)) (xs ys : List ℕ) → with_end (with_end told xs) ys ≡ with_end told (xs ++ ys)
 with_end-with_end None xs ys = refl
@@ -33,10 +18,6 @@ TakesPrefix-within {old} xs zs all before part whole =
       parts = whole ∙ ap (λ l. xs ++ (l ++ zs)) part.parts ∙ ap (λ l. xs ++ l) (append_assoc part.taken part.rest zs) ∙ sym (append_assoc xs part.taken (part.rest ++ zs));
       put = part.put ∙ ap (λ o. with_end o part.taken) before ∙ with_end-with_end old xs part.taken;
     }
-
--- the same at the front of a text
-pub TakesPrefix-front : {old new : Option (List ℕ)} {ys : List ℕ} (zs all : List ℕ) → TakesPrefix old new ys → all ≡ ys ++ zs → TakesPrefix old new all
-TakesPrefix-front {old} zs all part whole = TakesPrefix-within [] zs all (sym (with_end-nil old)) part whole
 
 -- the texts of a list one behind another, cut before and behind the one at i
 pub flat_map_around : {X : Type 0} (f : X → List ℕ) (xs : List X) (i : ℕ) (d : X) → i < length xs → flat_map f xs ≡ flat_map f (take i xs) ++ (f (get_or xs i d) ++ flat_map f (drop (i + 1) xs))

@@ -2,6 +2,7 @@
 use Rattle.std.proofs.Common.{◌≡◌, ℕ, ◌+◌, List, [], ◌∷◌, min, refl, ap, ◌∙◌, arith}
 use Rattle.std.specs.Prelude.{sum_by}
 use Rattle.std.proofs.lemmas.List.Sums.{sum_by-cons}
+use Rattle.be_geom.specs.declared.change.Change.TheVariants.{Show, Hide, MoveTo, MoveBy, ResizeTo, Activate, Behind, Focus, Close}
 use Rattle.first_script.specs.declared.command.Command.TheVariants.{Fill, Change, EndUpdate}
 use Rattle.first_script.specs.declared.program.Instruction.{Instruction}
 use Rattle.first_script.specs.declared.program.Instruction.TheVariants.{Lock, Unlock, Draw}
@@ -16,7 +17,15 @@ one_more : (updates most : ℕ) (step : Instruction) (steps : List Instruction)
 one_more updates most (Lock w) steps rest = omega arith
 one_more updates most Unlock steps rest = omega arith
 one_more updates most (Draw (Fill v r p)) steps rest = omega arith
-one_more updates most (Draw (Change c)) steps rest = omega arith
+one_more updates most (Draw (Change Show)) steps rest = omega arith
+one_more updates most (Draw (Change Hide)) steps rest = omega arith
+one_more updates most (Draw (Change (MoveTo p))) steps rest = omega arith
+one_more updates most (Draw (Change (MoveBy x y))) steps rest = omega arith
+one_more updates most (Draw (Change (ResizeTo w h))) steps rest = omega arith
+one_more updates most (Draw (Change Activate)) steps rest = omega arith
+one_more updates most (Draw (Change (Behind w))) steps rest = omega arith
+one_more updates most (Draw (Change (Focus v))) steps rest = omega arith
+one_more updates most (Draw (Change Close)) steps rest = omega arith
 one_more updates most (Draw EndUpdate) steps rest = omega arith
 
 -- where the cost of updates is capped, the costs of steps are the same up to the cap

@@ -1,5 +1,7 @@
 -- What each script that is read keeps.
 use Rattle.std.specs.Prelude.{◌≡◌, ℕ, pos, ◌≤◌, ◌≤ℤ◌, ◌-ℤ◌, Bool, true, false, ◌==◌, nat_lt, if◌then◌else◌, List, [], ◌∷◌, length, All, Option, Some, None}
+use Rattle.be_geom.specs.declared.change.Change as changes
+use Rattle.be_geom.specs.declared.change.Change.TheVariants.{Show, Hide, MoveTo, MoveBy, ResizeTo, Activate, Behind, Focus, Close}
 use Rattle.be_geom.specs.declared.rect.Rect.{Rect}
 use Rattle.first_script.specs.declared.command.Command.{Command}
 use Rattle.first_script.specs.declared.command.Command.TheVariants.{Fill, Change, EndUpdate}
@@ -16,10 +18,22 @@ pub record IsFrame (r : Rect) : Type 0 where
   pub width : (r.right -ℤ r.left) ≤ℤ pos 32767
   pub height : (r.bottom -ℤ r.top) ≤ℤ pos 32767
 
--- a command of a script draws in the root view or changes the window
+-- a change that a script has a word for: `show`
+abbrev pub has_word : changes.Change → Bool
+has_word Show = true
+has_word Hide = false
+has_word (MoveTo corner) = false
+has_word (MoveBy right down) = false
+has_word (ResizeTo width height) = false
+has_word Activate = false
+has_word (Behind window) = false
+has_word (Focus view) = false
+has_word Close = false
+
+-- a command of a script draws in the root view, or changes the window by a word that there is
 abbrev pub is_ordered : Command → Bool
 is_ordered (Fill view rect pattern) = view == 0
-is_ordered (Change change) = true
+is_ordered (Change change) = has_word change
 is_ordered EndUpdate = false
 
 -- the lock behind a step, where this lock stands before it: none may stand at a lock, which names one of so many windows,

@@ -1,5 +1,7 @@
 -- What a script may cost: a bound on the entries of its histories.
 use Rattle.std.specs.Prelude.{ℕ, ◌+◌, List, sum_by}
+use Rattle.be_geom.specs.declared.change.Change as changes
+use Rattle.be_geom.specs.declared.change.Change.TheVariants.{Show, Hide, MoveTo, MoveBy, ResizeTo, Activate, Behind, Focus, Close}
 use Rattle.first_script.specs.declared.command.Command.{Command}
 use Rattle.first_script.specs.declared.command.Command.TheVariants.{Fill, Change, EndUpdate}
 use Rattle.first_script.specs.declared.program.Instruction.{Instruction}
@@ -12,10 +14,22 @@ use Rattle.first_script.specs.Script.{Declared}
 abbrev pub update_cost : List WindowLine → ℕ
 update_cost windows = sum_by (λ _. 8) windows
 
--- of a command, where updates cost this much
+-- of a change, where updates cost this much; a change of the focus brings none
+abbrev pub change_cost : ℕ → changes.Change → ℕ
+change_cost updates Show = 3 + updates
+change_cost updates Hide = 3 + updates
+change_cost updates (MoveTo corner) = 3 + updates
+change_cost updates (MoveBy right down) = 3 + updates
+change_cost updates (ResizeTo width height) = 3 + updates
+change_cost updates Activate = 3 + updates
+change_cost updates (Behind window) = 3 + updates
+change_cost updates (Focus view) = 3
+change_cost updates Close = 3 + updates
+
+-- of a command
 abbrev pub command_cost : ℕ → Command → ℕ
 command_cost updates (Fill view rect pattern) = 3
-command_cost updates (Change change) = 3 + updates
+command_cost updates (Change change) = change_cost updates change
 command_cost updates EndUpdate = 3
 
 abbrev pub step_cost : ℕ → Instruction → ℕ

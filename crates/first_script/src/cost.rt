@@ -1,10 +1,11 @@
 ghost use Rattle.std.specs.Prelude.{◌≡◌, ◌-◌, ◌^◌, min, sum_by};
 ghost use Rattle.first_script.specs.Script.{declared_by};
-ghost use Rattle.first_script.specs.Work.{work_of, update_cost, step_cost};
+ghost use Rattle.first_script.specs.Work.{work_of, update_cost, step_cost, change_cost};
 
 use crate::command::Command;
 use crate::program::{Instruction, Program};
 use crate::script::{Script, WindowLine};
+use be_geom::Change;
 
 /// A bound on the entries of every history of the script, or the last u64 where it is greater.
 #[tactic(auto, unfolding(crate::specs::Work::work_of))]
@@ -45,7 +46,23 @@ fn step_cost(updates: u64, step: Instruction) -> u64
     match step {
         Instruction::Lock(_) => 1,
         Instruction::Unlock => 2,
-        Instruction::Draw(Command::Change(_)) => updates.saturating_add(3),
+        Instruction::Draw(Command::Change(change)) => change_cost(updates, change),
         Instruction::Draw(Command::Fill(..) | Command::EndUpdate) => 3,
+    }
+}
+
+fn change_cost(updates: u64, change: Change) -> u64
+    ensures { result ≡ min (change_cost updates change) (2 ^ 64 - 1) }
+{
+    match change {
+        Change::Focus(_) => 3,
+        Change::Show
+        | Change::Hide
+        | Change::MoveTo(_)
+        | Change::MoveBy(..)
+        | Change::ResizeTo(..)
+        | Change::Activate
+        | Change::Behind(_)
+        | Change::Close => updates.saturating_add(3),
     }
 }

@@ -86,7 +86,7 @@ impl Edges<'_> {
 #[tactic(auto, unfolding(crate::specs::Words::is_number, crate::specs::Words::number_of))]
 fn small_number(word: &[u8]) -> Option<i32>
     requires { IsTrue (is_number word.now) }
-    ensures { SomeIff result (unsigned_abs (number_of word.now) ≤ LARGEST) (number_of word.now) }
+    ensures { SomeIff result (unsigned_abs (number_of word.now) ≤ 1000000) (number_of word.now) }
 {
     match word {
         [b'-', digits @ ..] => Some(-(natural(digits)? as i32)),

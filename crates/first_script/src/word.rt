@@ -134,7 +134,7 @@ pub(crate) const LARGEST: u32 = 1_000_000;
 // The number that digits write, where it is small enough to be in any range.
 pub(crate) fn natural(digits: &[u8]) -> Option<u32>
     requires { IsTrue (is_natural digits.now) }
-    ensures { SomeIff result (digits_value 10 digits.now ≤ LARGEST) (digits_value 10 digits.now) }
+    ensures { SomeIff result (digits_value 10 digits.now ≤ 1000000) (digits_value 10 digits.now) }
 {
     let mut number = 0;
     for digit in digits {

@@ -14,26 +14,26 @@ use Rattle.first_world.specs.declared.parts.Owner.{Owner}
 use Rattle.first_world.specs.declared.parts.Owner.TheVariants as owner
 use Rattle.first_world.specs.declared.parts.Port.{Port}
 use Rattle.first_world.specs.declared.queue.Numbered.{Numbered}
-use Rattle.first_world.specs.declared.queue.TheConstants.{BUFFER, LINK}
+use Rattle.first_world.specs.Limits.{buffer_size, link_size}
 use Rattle.first_world.specs.State.{State}
 use Rattle.first_world.specs.Legal.{is_free, program_of, instruction_at, next_instruction, flush_act, draw_act, last_act, lock_act, act_in_lock, instruction_act, take_act, looper_act_by}
 
 -- the window's buffer goes to its link, which has room for it
 pub record IsFlushed (links : List (List Numbered)) (w : ℕ) (l : Looper) (a : Act) : Type 0 where
   pub act : a ≡ acts.Flush w (length l.buffer)
-  pub room : (link : List Numbered) → slice_get links w ≡ Some link → length link + length l.buffer ≤ LINK
+  pub room : (link : List Numbered) → slice_get links w ≡ Some link → length link + length l.buffer ≤ link_size
 
 -- the window's buffer has room for a command
 pub record IsDrawn (w : ℕ) (l : Looper) (a : Act) : Type 0 where
   pub act : a ≡ acts.Draw w (l.made + 1)
-  pub room : length l.buffer < BUFFER
+  pub room : length l.buffer < buffer_size
 
 -- the window's buffer is empty
 pub record IsLast (l : Looper) (last a : Act) : Type 0 where
   pub act : a ≡ last
   pub empty : length l.buffer ≡ 0
 
-fits : (m n : ℕ) → nat_le m LINK ≡ true → m ≡ n → n ≤ LINK
+fits : (m n : ℕ) → nat_le m link_size ≡ true → m ≡ n → n ≤ link_size
 fits m n e is = grind (arith, nat_tests)
 
 flush_tells : (links : List (List Numbered)) (w : ℕ) (l : Looper) (a : Act) → flush_act links w l ≡ Some a → IsFlushed links w l a
@@ -44,13 +44,13 @@ flush_tells links w l a e = option_and_then_some _ _ a e (λ link read inner. re
       fits (length l.buffer + length link) (length other + length l.buffer) (cond_some _ _ _ inner).0 (omega (arith, ap length same));
 })
 
-below : (n : ℕ) → nat_lt n BUFFER ≡ true → n < BUFFER
+below : (n : ℕ) → nat_lt n buffer_size ≡ true → n < buffer_size
 below n e = grind (arith, nat_tests)
 
 none_left : (n : ℕ) → (n == 0) ≡ true → n ≡ 0
 none_left n e = grind (arith, nat_tests)
 
-draw_cases : (links : List (List Numbered)) (w : ℕ) (l : Looper) (a : Act) (b : Bool) → nat_lt (length l.buffer) BUFFER ≡ b → (if b then Some (acts.Draw w (l.made + 1)) else flush_act links w l) ≡ Some a → IsDrawn w l a ⊎ IsFlushed links w l a
+draw_cases : (links : List (List Numbered)) (w : ℕ) (l : Looper) (a : Act) (b : Bool) → nat_lt (length l.buffer) buffer_size ≡ b → (if b then Some (acts.Draw w (l.made + 1)) else flush_act links w l) ≡ Some a → IsDrawn w l a ⊎ IsFlushed links w l a
 draw_cases links w l a true t e = inl (record { act = cc; room = below _ t })
 draw_cases links w l a false t e = inr (flush_tells links w l a e)
 

@@ -149,10 +149,6 @@ put_back n new was old f size same changed =
 
 -- ---- marks
 
-pub length-marks : (k : ℕ) (f : ℕ → Cell → Bool) (cs : List Cell) → length (marks_from k f cs) ≡ length cs
-length-marks k f [] = refl
-length-marks k f (c ∷ cs) = ap suc (length-marks (k + 1) f cs)
-
 -- a mark at a place, where it doesn't depend on the cell
 marks-at : (k : ℕ) (f : ℕ → Bool) (cs : List Cell) (i : ℕ) → i < length cs → f (k + i) ≡ true → list_any (λ b. b) (marks_from k (λ n c. f n) cs) ≡ true
 marks-at k f [] i h e = absurd (omega arith)

@@ -1,7 +1,8 @@
 -- Which windows have a dirty pixel after drawing and after the begin of an update.
-use Rattle.std.proofs.Common.{◌≡◌, ℕ, ◌+◌, Bool, true, false, List, [], ◌∷◌, Option, Some, None, refl, ap, ◌∙◌}
+use Rattle.std.proofs.Common.{◌≡◌, ℕ, ◌+◌, Bool, true, false, List, [], ◌∷◌, Option, Some, None, refl, sym, ap, ◌∙◌, arith}
 use Rattle.std.specs.Prelude.{ℤ, pos, ◌/◌, ◌%◌, ◌&&◌, ◌||◌, if◌then◌else◌}
 use Rattle.std.specs.List.{list_any}
+use Rattle.std.proofs.lemmas.Bool.Decides.{nat_tests}
 use Rattle.be_geom.specs.declared.rect.Rect.{Rect}
 use Rattle.be_color.specs.declared.colors.Color.{Color}
 use Rattle.first_world.specs.declared.cell.Cell.{Cell}
@@ -9,9 +10,9 @@ use Rattle.first_world.specs.declared.parts.Pane.{Pane}
 use Rattle.first_world.specs.Windows.{Windows, owner_at}
 use Rattle.first_world.specs.Screen.{each_from, marks_from, each_cell, each_mark}
 use Rattle.first_world.specs.Drawing.{DrawState, painted_cell}
-use Rattle.first_world.specs.Exposure.{is_owner}
+use Rattle.first_world.specs.Exposure.{is_owner, changed_cell}
 use Rattle.first_world.specs.Legal.{dirty_marks}
-use Rattle.first_world.specs.Step.{filled_cells, cleaned_cells}
+use Rattle.first_world.specs.Step.{filled_cells, cleaned_cells, changed_cells}
 
 -- whether the window has a dirty pixel
 abbrev pub dirty : Windows → ℕ → List Cell → Bool
@@ -76,3 +77,17 @@ mark_stays false by c e = e
 pub cleaned_fewer : (windows : Windows) (w v : ℕ) (cells : List Cell) → dirty windows v (cleaned_cells windows w cells) ≡ true → dirty windows v cells ≡ true
 unfolding each_cell each_mark
 cleaned_fewer windows w v cells e = marks_fewer 0 _ _ cells (λ i c. mark_stays _ _ c) e
+
+self_owned : (u : ℕ) → is_owner u (Some u) ≡ true
+self_owned u = grind (arith, nat_tests)
+
+same_or_desktop : (v : ℕ) (owner : Option ℕ) (color : Color) (c : Cell) → ((changed_cell owner owner color c).dirty && is_owner v owner) ≡ true → (c.dirty && is_owner v owner) ≡ true
+same_or_desktop v None color c e = cc
+same_or_desktop v (Some u) color c e =
+    let stays : changed_cell (Some u) (Some u) color c ≡ c = rw (self_owned u) refl in
+    ap (λ (x : Cell). x.dirty && is_owner v (Some u)) (sym stays) ∙ e
+
+-- where the windows stay no window is dirty that wasn't
+pub unchanged_fewer : (windows : Windows) (v : ℕ) (colors : List (List Color)) (cells : List Cell) → dirty windows v (changed_cells windows windows colors cells) ≡ true → dirty windows v cells ≡ true
+unfolding each_cell each_mark
+unchanged_fewer windows v colors cells e = marks_fewer 0 _ _ cells (λ i c. same_or_desktop v _ _ c) e

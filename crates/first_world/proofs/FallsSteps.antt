@@ -1,6 +1,8 @@
 -- What each effect of an entry does to the potential.
 use Rattle.std.proofs.Common.{◌≡◌, ℕ, ◌+◌, ◌*◌, ◌<◌, ◌≤◌, Bool, true, false, length, Option, Some, refl, sym, ◌∙◌, arith}
 use Rattle.std.specs.Prelude.{ℤ, slice_get, ◌==◌, if◌then◌else◌}
+use Rattle.be_geom.specs.declared.change.Change as changes
+use Rattle.be_geom.specs.declared.change.Change.TheVariants.{Show, Hide, MoveTo, MoveBy, ResizeTo, Activate, Behind, Focus, Close}
 use Rattle.first_script.specs.Script.{Declared}
 use Rattle.first_script.specs.declared.command.Command.{Command}
 use Rattle.first_script.specs.declared.command.Command.TheVariants.{Fill, Change, EndUpdate}
@@ -15,8 +17,8 @@ use Rattle.first_world.specs.Drawing.{DrawState, fill_source}
 use Rattle.first_world.specs.State.{State}
 use Rattle.first_world.specs.Legal.{has_dirty}
 use Rattle.first_world.specs.Step.{at, with_looper, owned_by, staged, advanced, drawn, flushed, taken, begun, notified, executed, without_front, with_session, session_of, noticed, cleaned_cells, filled, changed, closed_session, top_state}
-use Rattle.first_world.proofs.Potential.{potential, exposure}
-use Rattle.first_world.proofs.DirtyKept.{filled_dirty, cleaned_none, cleaned_fewer}
+use Rattle.first_world.proofs.Potential.{potential, change_exposure, exposure}
+use Rattle.first_world.proofs.DirtyKept.{filled_dirty, unchanged_fewer, cleaned_none, cleaned_fewer}
 use Rattle.first_world.proofs.LegalTells.{IsAt, IsFlush, IsTake, IsExec, Owes}
 use Rattle.first_world.proofs.FallsParts.{app_pays, looper_drops, looper_draws, looper_takes, looper_goes_on, looper_closes, looper_ends, flush_pays, front_pays, port_pays, port_gains, panes_bound, pane_closes, notice_pays, clean_pane, less_dirt}
 
@@ -104,6 +106,22 @@ changed_adds : (d : Declared) (s : State) (w : ℕ) (after : Windows) → length
 unfolding potential
 changed_adds d s w after panes = omega (arith, panes, panes_bound after (changed s w after).screen s.panes)
 
+-- windows that stay as they are have no pixel exposed
+unchanged_keeps : (d : Declared) (s : State) (w : ℕ) → potential d (changed s w s.windows) ≤ potential d s
+unfolding potential
+unchanged_keeps d s w = omega (arith, less_dirt s.windows s.screen (changed s w s.windows).screen s.panes (λ v. unchanged_fewer s.windows v s.colors s.screen))
+
+changed_by : (d : Declared) (s : State) (w : ℕ) (c : changes.Change) → length s.panes ≡ length d.windows → potential d (changed s w (windows_after s.windows w c)) ≤ potential d s + change_exposure (length d.windows) c
+changed_by d s w Show panes = changed_adds d s w (windows_after s.windows w Show) panes
+changed_by d s w Hide panes = changed_adds d s w (windows_after s.windows w Hide) panes
+changed_by d s w (MoveTo corner) panes = changed_adds d s w (windows_after s.windows w (MoveTo corner)) panes
+changed_by d s w (MoveBy right down) panes = changed_adds d s w (windows_after s.windows w (MoveBy right down)) panes
+changed_by d s w (ResizeTo width height) panes = changed_adds d s w (windows_after s.windows w (ResizeTo width height)) panes
+changed_by d s w Activate panes = changed_adds d s w (windows_after s.windows w Activate) panes
+changed_by d s w (Behind window) panes = changed_adds d s w (windows_after s.windows w (Behind window)) panes
+changed_by d s w (Focus view) panes = omega (arith, unchanged_keeps d s w)
+changed_by d s w Close panes = changed_adds d s w (windows_after s.windows w Close) panes
+
 closed_keeps : (d : Declared) (s : State) (w : ℕ) → potential d (closed_session s w) ≤ potential d s
 unfolding potential
 closed_keeps d s w = omega (arith, pane_closes s.windows s.screen s.panes w)
@@ -113,7 +131,7 @@ executed_adds : (d : Declared) (s : State) (w : ℕ) (c : Command) → length s.
 executed_adds d s w (Fill v rect pattern) panes =
     let n = length d.windows in
     by_test (λ t. potential d t ≤ potential d s + 0) (v == 0) (filled s w (λ state. fill_source state rect pattern)) s (λ _. omega (arith, filled_keeps d s w (λ state. fill_source state rect pattern))) (λ _. omega arith)
-executed_adds d s w (Change c) panes = changed_adds d s w (windows_after s.windows w c) panes
+executed_adds d s w (Change c) panes = changed_by d s w c panes
 executed_adds d s w EndUpdate panes = omega (arith, closed_keeps d s w)
 
 front_leaves : (d : Declared) (s : State) (w : ℕ) (a : Act) (is : IsExec s w a) → potential d (without_front s w) + (1 + exposure (length d.windows) is.command.command) ≡ potential d s

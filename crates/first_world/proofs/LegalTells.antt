@@ -15,7 +15,7 @@ use Rattle.first_world.specs.declared.parts.Pane.{Pane}
 use Rattle.first_world.specs.declared.parts.Port.{Port}
 use Rattle.first_world.specs.declared.parts.Stage.TheVariants as stage
 use Rattle.first_world.specs.declared.queue.Numbered.{Numbered}
-use Rattle.first_world.specs.declared.queue.TheConstants.{BUFFER}
+use Rattle.first_world.specs.Limits.{buffer_size}
 use Rattle.first_world.specs.State.{State}
 use Rattle.first_world.specs.Legal.{program_of, instruction_at, next_instruction, flush_act, draw_act, last_act, lock_act, act_in_lock, instruction_act, begin_act, looper_act_by, notice_act, has_dirty, owes, is_owed, notify_act, exec_act, exec_front, front_of, twin_act, can_stop, all_ended, all_idle, none_owed}
 use Rattle.first_world.proofs.Lists.{head_split}
@@ -37,13 +37,13 @@ flush_act_tells links w l a some e = option_and_then_some _ _ a e (λ link read 
   some = some;
 })
 
-is_full : (n : ℕ) → nat_lt n BUFFER ≡ false → 0 < n
+is_full : (n : ℕ) → nat_lt n buffer_size ≡ false → 0 < n
 is_full n e = grind (arith, nat_tests)
 
 is_used : (n : ℕ) → (n == 0) ≡ false → 0 < n
 is_used n e = grind (arith, nat_tests)
 
-draw_cases : (links : List (List Numbered)) (w : ℕ) (l : Looper) (a : Act) (b : Bool) → nat_lt (length l.buffer) BUFFER ≡ b → (if b then Some (acts.Draw w (l.made + 1)) else flush_act links w l) ≡ Some a → (a ≡ acts.Draw w (l.made + 1)) ⊎ IsFlush links w l a
+draw_cases : (links : List (List Numbered)) (w : ℕ) (l : Looper) (a : Act) (b : Bool) → nat_lt (length l.buffer) buffer_size ≡ b → (if b then Some (acts.Draw w (l.made + 1)) else flush_act links w l) ≡ Some a → (a ≡ acts.Draw w (l.made + 1)) ⊎ IsFlush links w l a
 draw_cases links w l a true t e = inl (cc)
 draw_cases links w l a false t e = inr (flush_act_tells links w l a (is_full _ t) e)
 

@@ -20,12 +20,12 @@ pub mod FallsParts
 pub mod OpeningPotential
 pub mod HistoryBound
 pub mod Places
+pub mod WellFormed
 pub mod Settled
 pub mod ActsTell
 pub mod SettledSteps
 pub mod SettledKept
 pub mod NotStuck
-pub mod LocksRead
 pub mod ScriptsRun
 pub mod Tallied
 pub mod OrderlySteps

@@ -21,13 +21,13 @@ use Rattle.first_world.specs.declared.parts.Port.{Port}
 use Rattle.first_world.specs.declared.parts.Stage.{Stage}
 use Rattle.first_world.specs.declared.parts.Stage.TheVariants as stage
 use Rattle.first_world.specs.declared.queue.Numbered.{Numbered}
-use Rattle.first_world.specs.declared.queue.TheConstants.{BUFFER, LINK}
+use Rattle.first_world.specs.Limits.{buffer_size, link_size}
 use Rattle.first_world.specs.Actors.{actor_of, window_actor}
 use Rattle.first_world.specs.Exposure.{is_owner}
 use Rattle.first_world.specs.State.{State}
 use Rattle.first_world.specs.Legal.{is_app, program_of, instruction_at, next_instruction, instruction_act, act_in_lock, app_act, locked_by, flush_act, last_act, draw_act, lock_act, begin_act, take_act, notify_act, looper_act, looper_act_by, notice_act, exec_front, front_of, is_owed, is_idle_looper, none_owed, all_ended, all_idle, actor_act, legal_act}
 use Rattle.first_world.specs.History.{IsLegal, NoneIsLegal, IsLegalHistory, IsFinished, state_after}
-use Rattle.first_world.specs.WellFormed.{keeps_locks, IsWellFormed}
+use Rattle.first_world.proofs.WellFormed.{keeps_locks, IsWellFormed}
 use Rattle.first_world.specs.World.{HasParts}
 use Rattle.first_world.proofs.Lists.{slice_get-inside}
 use Rattle.first_world.proofs.PastActors.{none_past}
@@ -100,11 +100,11 @@ twin_quiet d s w parts none inside =
 
 -- ---- loopers: each is free and idle, and its port is empty
 
-room_in : (m n : ℕ) → m ≤ BUFFER → n ≡ 0 → nat_le (m + n) LINK ≡ true
+room_in : (m n : ℕ) → m ≤ buffer_size → n ≡ 0 → nat_le (m + n) link_size ≡ true
 room_in m n h e = grind (arith, nat_tests)
 
 -- a buffer can go to an empty link
-flush_some : (links : List (List Numbered)) (w : ℕ) (l : Looper) (link : List Numbered) → length l.buffer ≤ BUFFER → slice_get links w ≡ Some link → length link ≡ 0 → flush_act links w l ≡ Some (acts.Flush w (length l.buffer))
+flush_some : (links : List (List Numbered)) (w : ℕ) (l : Looper) (link : List Numbered) → length l.buffer ≤ buffer_size → slice_get links w ≡ Some link → length link ≡ 0 → flush_act links w l ≡ Some (acts.Flush w (length l.buffer))
 flush_some links w l link within read empty = rw (read, room_in (length l.buffer) (length link) within empty) refl
 
 some_if : (b : Bool) (x y : Act) (o : Option Act) → (if b then Some x else o) ≡ None → o ≡ Some y → ⊥
@@ -112,7 +112,7 @@ some_if true x y o e some = cc
 some_if false x y o e some = cc
 
 draw_some : (links : List (List Numbered)) (w : ℕ) (l : Looper) → flush_act links w l ≡ Some (acts.Flush w (length l.buffer)) → draw_act links w l ≡ None → ⊥
-draw_some links w l flush e = some_if (nat_lt (length l.buffer) BUFFER) (acts.Draw w (l.made + 1)) _ (flush_act links w l) e flush
+draw_some links w l flush e = some_if (nat_lt (length l.buffer) buffer_size) (acts.Draw w (l.made + 1)) _ (flush_act links w l) e flush
 
 last_some : (links : List (List Numbered)) (w : ℕ) (l : Looper) (last : Act) → flush_act links w l ≡ Some (acts.Flush w (length l.buffer)) → last_act links w l last ≡ None → ⊥
 last_some links w l last flush e = some_if (length l.buffer == 0) last _ (flush_act links w l) e flush
@@ -124,7 +124,7 @@ begin_some s w l [] read empty e =
 begin_some s w l (c ∷ cs) read empty e = omega arith
 
 -- a looper that handles a notice can go on
-notice_some : (s : State) (w : ℕ) (l : Looper) (g : Stage) (quiet : IsQuiet s w) → length l.buffer ≤ BUFFER → notice_act s w l g ≡ None → ⊥
+notice_some : (s : State) (w : ℕ) (l : Looper) (g : Stage) (quiet : IsQuiet s w) → length l.buffer ≤ buffer_size → notice_act s w l g ≡ None → ⊥
 notice_some s w l stage.Begin quiet within e = begin_some s w l quiet.link quiet.read quiet.empty e
 notice_some s w l stage.EndUpdate quiet within e = draw_some s.links w l (flush_some s.links w l quiet.link within quiet.read quiet.empty) e
 notice_some s w l stage.End quiet within e = last_some s.links w l (acts.End Nothing) (flush_some s.links w l quiet.link within quiet.read quiet.empty) e

@@ -3,6 +3,7 @@ use Rattle.std.proofs.Common.{◌≡◌, ℕ, zero, suc, ◌+◌, ◌*◌, ◌�
 use Rattle.std.specs.Prelude.{slice_get, ◌&&◌}
 use Rattle.std.specs.List.{list_any}
 use Rattle.std.proofs.lemmas.List.Sums.{sum_by-cons, sum_by-le-sum_by}
+use Rattle.be_geom.specs.declared.change.Change.TheVariants.{Show, Hide, MoveTo, MoveBy, ResizeTo, Activate, Behind, Focus, Close}
 use Rattle.first_script.specs.Script.{Declared}
 use Rattle.first_script.specs.Work.{update_cost, command_cost, step_cost, app_cost, work_of}
 use Rattle.first_script.specs.declared.command.Command.{Command}
@@ -28,7 +29,15 @@ update_is (w ∷ ws) = omega (arith, sum_by-cons (λ (_ : WindowLine). 8) w ws, 
 
 command_within : (windows : List WindowLine) (c : Command) → cost (length windows) (Draw c) ≤ command_cost (update_cost windows) c
 command_within windows (Fill view rect pattern) = omega arith
-command_within windows (Change change) = omega (arith, update_is windows)
+command_within windows (Change Show) = omega (arith, update_is windows)
+command_within windows (Change Hide) = omega (arith, update_is windows)
+command_within windows (Change (MoveTo corner)) = omega (arith, update_is windows)
+command_within windows (Change (MoveBy right down)) = omega (arith, update_is windows)
+command_within windows (Change (ResizeTo width height)) = omega (arith, update_is windows)
+command_within windows (Change Activate) = omega (arith, update_is windows)
+command_within windows (Change (Behind window)) = omega (arith, update_is windows)
+command_within windows (Change (Focus view)) = omega arith
+command_within windows (Change Close) = omega (arith, update_is windows)
 command_within windows EndUpdate = omega arith
 
 step_within : (windows : List WindowLine) (i : Instruction) → cost (length windows) i ≤ step_cost (update_cost windows) i

@@ -4,8 +4,8 @@ use Rattle.std.specs.Prelude.{slice_get}
 use Rattle.std.specs.Option.{option_map}
 use Rattle.std.specs.List.{list_any}
 use Rattle.std.proofs.lemmas.Bool.{cases_lt, eq-eqb, cond-true, cond-false}
-use Rattle.std.proofs.lemmas.Option.{slice_get_within, slice_get_past, slice_get-get_or}
-use Rattle.std.proofs.lemmas.List.{get_or_past, set-get_or, length-map, length-replicate}
+use Rattle.std.proofs.lemmas.Option.{slice_get_within, slice_get-get_or}
+use Rattle.std.proofs.lemmas.List.{get_or_past, set-get_or, length-replicate}
 use Rattle.be_geom.specs.declared.rect.Rect.{Rect}
 use Rattle.be_geom.specs.Rects.{rect_has}
 use Rattle.be_geom.specs.declared.change.Change.{Change}
@@ -28,7 +28,7 @@ use Rattle.first_world.specs.Screen.{each_from, each_cell, each_mark}
 use Rattle.first_world.specs.State.{white}
 use Rattle.first_world.specs.Step.{filled_cells, changed_cells, cleaned_cells, session_has, session_at, session_of, pane_has, owner_color, view_color, top_state}
 use Rattle.first_world.specs.Windows.{Windows, owner_at, is_zero, windows_after}
-use Rattle.first_world.specs.World.{windows_from, frames_of, view_colors, HasPixels, some_dirty}
+use Rattle.first_world.specs.World.{windows_from, view_colors, HasPixels, some_dirty}
 use Rattle.first_world.proofs.Cells.{any-set, length-each, slice_get-whole, same_whole, kept_whole, any_whole, marks_whole, map_whole, any-map}
 use Rattle.first_world.proofs.Owners.{owner_is, owned_is, unowned, no_such_owner, hidden_owns, frame_read, is_zero_not}
 
@@ -127,10 +127,6 @@ other_change s w Show not_show = absurd (not_show refl)
 other_change s w other not_show = refl
 
 -- ---- show
-
--- the windows after a change of a hide count
-pub shown_windows : (d : Declared) (hides after : List ℕ) (w : ℕ) → after ≡ set hides w (get_or hides w 0 - 1) → windows_from d after ≡ windows_after (windows_from d hides) w Show
-shown_windows d hides after w e = ap (windows_from d) e
 
 -- a hide count of 0 stays
 pub count_stays : (hides after : List ℕ) (w : ℕ) → get_or hides w 0 ≡ 0 → after ≡ set hides w (get_or hides w 0 - 1) → after ≡ hides
@@ -239,9 +235,6 @@ session_is d hides cells w line marks sound e is =
     let same : marks ≡ dirty_marks (windows_from d hides) w cells = is ∙ sym (dirty_is d hides cells w sound (slice_get_within d.windows w line e)) in
     ap (λ m. Some (record { left = line.frame.left; top = line.frame.top; marks = m })) same ∙ ap (λ f. session_at (windows_from d hides) w f cells) (sym (frame_read d w line e))
 
-pub no_session : (d : Declared) (hides : List ℕ) (cells : List Cell) (w : ℕ) → length d.windows ≤ w → None ≡ session_of (windows_from d hides) w cells
-no_session d hides cells w past = ap (λ f. session_at (windows_from d hides) w f cells) (sym (slice_get_past (frames_of d) w (omega (arith, length-map d.windows (λ line. line.frame)))))
-
 desktop_clean : (c : Cell) → c ≡ desktop_cell → c ≡ clean_cell c
 desktop_clean c e = e ∙ sym (ap clean_cell e)
 
@@ -284,7 +277,3 @@ pixels_opening d hides few same wide high = record {
   size = (wide, high);
   desktop = λ k c e nobody. all_desktop (d.width * d.height) k c e;
 }
-
-pub opening_clean : (n : ℕ) → some_dirty (replicate n desktop_cell) ≡ false
-opening_clean zero = refl
-opening_clean (suc n) = opening_clean n

@@ -2,6 +2,8 @@
 use Rattle.std.proofs.Common.{ℕ, ◌+◌, ◌*◌, Bool, List, drop, length, sum_by}
 use Rattle.std.specs.List.{list_any}
 use Rattle.std.specs.Prelude.{◌-◌, slice_get, if◌then◌else◌, not, ◌&&◌}
+use Rattle.be_geom.specs.declared.change.Change as changes
+use Rattle.be_geom.specs.declared.change.Change.TheVariants.{Show, Hide, MoveTo, MoveBy, ResizeTo, Activate, Behind, Focus, Close}
 use Rattle.first_script.specs.Script.{Declared}
 use Rattle.first_script.specs.declared.command.Command.{Command}
 use Rattle.first_script.specs.declared.command.Command.TheVariants.{Fill, Change, EndUpdate}
@@ -26,10 +28,23 @@ use Rattle.first_world.proofs.Weights.{weight}
 abbrev pub update : ℕ
 update = 8
 
--- what a command takes beside its drawing, its flush and its execution: a change may dirty every window
+-- what a change takes beside its drawing, its flush and its execution: it may dirty every window, but for one of the
+-- focus, which dirties none
+abbrev pub change_exposure : ℕ → changes.Change → ℕ
+change_exposure windows Show = update * windows
+change_exposure windows Hide = update * windows
+change_exposure windows (MoveTo corner) = update * windows
+change_exposure windows (MoveBy right down) = update * windows
+change_exposure windows (ResizeTo width height) = update * windows
+change_exposure windows Activate = update * windows
+change_exposure windows (Behind window) = update * windows
+change_exposure windows (Focus view) = 0
+change_exposure windows Close = update * windows
+
+-- the same of a command
 abbrev pub exposure : ℕ → Command → ℕ
 exposure windows (Fill v rect pattern) = 0
-exposure windows (Change c) = update * windows
+exposure windows (Change c) = change_exposure windows c
 exposure windows EndUpdate = 0
 
 abbrev pub cost : ℕ → Instruction → ℕ

@@ -6,7 +6,7 @@ use Rattle.first_script.specs.declared.program.Instruction.{Instruction}
 use Rattle.first_script.specs.declared.program.Instruction.TheVariants.{Lock, Unlock, Draw}
 use Rattle.first_script.specs.WithinLimits.{IsWithinLimits, lock_behind_all, is_ordered}
 use Rattle.first_world.specs.World.{IsRunnable}
-use Rattle.first_world.specs.WellFormed.{keeps_locks, IsWellFormed}
+use Rattle.first_world.proofs.WellFormed.{keeps_locks, IsWellFormed}
 
 -- the screen is no larger than allowed, and there is at most one window and one application
 pub runs : (d : Declared) → IsWithinLimits d → IsRunnable d

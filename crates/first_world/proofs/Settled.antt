@@ -5,17 +5,17 @@ use Rattle.first_script.specs.Script.{Declared}
 use Rattle.first_world.specs.declared.parts.App as app
 use Rattle.first_world.specs.declared.parts.Looper.{Looper}
 use Rattle.first_world.specs.declared.parts.Owner.TheVariants as owner
-use Rattle.first_world.specs.declared.queue.TheConstants.{BUFFER, LINK}
+use Rattle.first_world.specs.Limits.{buffer_size, link_size}
 use Rattle.first_world.specs.Exposure.{is_owner}
 use Rattle.first_world.specs.State.{State}
 use Rattle.first_world.specs.Legal.{is_app, program_of}
-use Rattle.first_world.specs.WellFormed.{keeps_locks}
+use Rattle.first_world.proofs.WellFormed.{keeps_locks}
 use Rattle.first_world.specs.World.{HasParts}
 use Rattle.first_world.proofs.Places.{Each, HasPlace}
 
 -- the looper's buffer isn't over its size, a free one is empty, and an application that owns it is there
 pub record IsCalm (apps : ℕ) (l : Looper) : Type 0 where
-  pub within : length l.buffer ≤ BUFFER
+  pub within : length l.buffer ≤ buffer_size
   pub idle : l.owner ≡ owner.Free → length l.buffer ≡ 0
   pub known : (m : ℕ) → l.owner ≡ owner.App m → m < apps
 
@@ -34,7 +34,7 @@ pub record HasOrder (d : Declared) (s : State) : Type 0 where
   pub loopers : Each (λ w l. IsCalm (length d.apps) l) s.loopers
   pub apps : Each (Follows d s.loopers) s.apps
   pub ports : Each (λ w p. p.taken ≤ p.arrived) s.ports
-  pub links : Each (λ w link. length link ≤ LINK) s.links
+  pub links : Each (λ w link. length link ≤ link_size) s.links
 
 pub record IsSettled (d : Declared) (s : State) : Type 0 where
   pub parts : HasParts d s

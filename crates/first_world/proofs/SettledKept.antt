@@ -19,14 +19,14 @@ use Rattle.first_world.specs.declared.parts.Owner.{Owner}
 use Rattle.first_world.specs.declared.parts.Owner.TheVariants as owner
 use Rattle.first_world.specs.declared.parts.Stage.{Stage}
 use Rattle.first_world.specs.declared.parts.Stage.TheVariants as stage
-use Rattle.first_world.specs.declared.queue.TheConstants.{LINK}
+use Rattle.first_world.specs.Limits.{link_size}
 use Rattle.first_world.specs.Actors.{actor_of}
 use Rattle.first_world.specs.Exposure.{is_owner}
 use Rattle.first_world.specs.State.{State, opening_state, free_looper}
 use Rattle.first_world.specs.Legal.{is_app, program_of, next_instruction, instruction_act, app_act, locked_by, last_act, draw_act, looper_act, looper_act_by, notice_act, actor_act, begin_act, front_of}
 use Rattle.first_world.specs.Step.{step, step_of, app_step, looper_step, twin_step, drawn_by_app}
 use Rattle.first_world.specs.History.{IsLegal, AreLegalFrom, IsLegalHistory, state_from, state_after}
-use Rattle.first_world.specs.WellFormed.{IsWellFormed, keeps_locks}
+use Rattle.first_world.proofs.WellFormed.{IsWellFormed, keeps_locks}
 use Rattle.first_world.specs.World.{HasParts}
 use Rattle.first_world.proofs.Lists.{All_get}
 use Rattle.first_world.proofs.Opening.{parts_opening, repeated_at}
@@ -172,7 +172,7 @@ settled_opening d well = record {
       keeps = program_keeps d m (slice_get d.apps m) refl well;
     });
     ports = each_repeated (λ w p. p.taken ≤ p.arrived) _ _ (λ w. omega arith);
-    links = each_repeated (λ w link. length link ≤ LINK) _ _ (λ w. omega arith);
+    links = each_repeated (λ w link. length link ≤ link_size) _ _ (λ w. omega arith);
   };
 }
 

@@ -16,12 +16,12 @@ use Rattle.first_world.specs.declared.parts.Port.{Port}
 use Rattle.first_world.specs.declared.parts.Stage.{Stage}
 use Rattle.first_world.specs.declared.parts.Stage.TheVariants as stage
 use Rattle.first_world.specs.declared.queue.Numbered.{Numbered}
-use Rattle.first_world.specs.declared.queue.TheConstants.{BUFFER, LINK}
+use Rattle.first_world.specs.Limits.{buffer_size, link_size}
 use Rattle.first_world.specs.Exposure.{is_owner}
 use Rattle.first_world.specs.State.{State}
 use Rattle.first_world.specs.Legal.{is_app, program_of, has_dirty}
 use Rattle.first_world.specs.Step.{at, with_looper, owned_by, staged, emptied, with_command, advanced_app, advanced, drawn, flushed, taken, taken_from, posted_to, begun, notified, executed, executed_front, without_front}
-use Rattle.first_world.specs.WellFormed.{keeps_locks}
+use Rattle.first_world.proofs.WellFormed.{keeps_locks}
 use Rattle.first_world.proofs.Lists.{length_at}
 use Rattle.first_world.proofs.Places.{Each, each_at, other_place, same_place, drop_read}
 use Rattle.first_world.proofs.Settled.{IsCalm, HasLock, Follows, HasOrder}
@@ -150,7 +150,7 @@ unlocked_order d s m w l read own empty at_lock is h =
       links = h.links;
     }
 
-draws_calm : (apps : ℕ) (l x : Looper) (c : Command) → l ≡ x → (l.owner ≡ owner.Free → ⊥) → length l.buffer < BUFFER → IsCalm apps x → IsCalm apps (with_command c x)
+draws_calm : (apps : ℕ) (l x : Looper) (c : Command) → l ≡ x → (l.owner ≡ owner.Free → ⊥) → length l.buffer < buffer_size → IsCalm apps x → IsCalm apps (with_command c x)
 draws_calm apps l x c same busy room calm = record {
   within = rw length-append (omega (arith, ap (λ (y : Looper). length y.buffer) same, room));
   idle = λ e. absurd (busy (ap (λ (y : Looper). y.owner) same ∙ e));
@@ -158,10 +158,10 @@ draws_calm apps l x c same busy room calm = record {
 }
 
 -- a command goes into a buffer that has room for it
-pub drawn_order : (d : Declared) (s : State) (w : ℕ) (l : Looper) (c : Command) → slice_get s.loopers w ≡ Some l → (l.owner ≡ owner.Free → ⊥) → length l.buffer < BUFFER → HasOrder d s → HasOrder d (drawn s w c)
+pub drawn_order : (d : Declared) (s : State) (w : ℕ) (l : Looper) (c : Command) → slice_get s.loopers w ≡ Some l → (l.owner ≡ owner.Free → ⊥) → length l.buffer < buffer_size → HasOrder d s → HasOrder d (drawn s w c)
 drawn_order d s w l c read busy room h = looper_order d s w (with_command c) (λ m x there. refl) (λ x there calm. draws_calm _ l x c (same_Some _ _ (sym read ∙ there)) busy room calm) h
 
-pub app_drawn_order : (d : Declared) (s : State) (m w : ℕ) (l : Looper) (c : Command) → slice_get s.loopers w ≡ Some l → (l.owner ≡ owner.Free → ⊥) → length l.buffer < BUFFER → Stands d s m (Draw c) → HasOrder d s → HasOrder d (advanced (drawn s w c) m)
+pub app_drawn_order : (d : Declared) (s : State) (m w : ℕ) (l : Looper) (c : Command) → slice_get s.loopers w ≡ Some l → (l.owner ≡ owner.Free → ⊥) → length l.buffer < buffer_size → Stands d s m (Draw c) → HasOrder d s → HasOrder d (advanced (drawn s w c) m)
 app_drawn_order d s m w l c read busy room is h =
     let k : HasOrder d (drawn s w c) = drawn_order d s w l c read busy room h in
     record {
@@ -177,14 +177,14 @@ app_drawn_order d s m w l c read busy room is h =
 -- ---- any looper
 
 -- a buffer goes to a link that has room for it
-pub flushed_order : (d : Declared) (s : State) (w : ℕ) (l : Looper) → slice_get s.loopers w ≡ Some l → ((link : List Numbered) → slice_get s.links w ≡ Some link → length link + length l.buffer ≤ LINK) → HasOrder d s → HasOrder d (flushed s w)
+pub flushed_order : (d : Declared) (s : State) (w : ℕ) (l : Looper) → slice_get s.loopers w ≡ Some l → ((link : List Numbered) → slice_get s.links w ≡ Some link → length link + length l.buffer ≤ link_size) → HasOrder d s → HasOrder d (flushed s w)
 flushed_order d s w l read room h =
     let k : HasOrder d (with_looper s w emptied) = looper_order d s w emptied (λ m x there. refl) (λ x there calm. record { within = omega arith; idle = λ e. refl; known = calm.known }) h in
     record {
       loopers = k.loopers;
       apps = k.apps;
       ports = h.ports;
-      links = each_at (λ j link. length link ≤ LINK) (λ j link. length link ≤ LINK) s.links w _ (λ j link other fits. fits) (λ link there fits. rw (read, length-append) (room link there)) h.links;
+      links = each_at (λ j link. length link ≤ link_size) (λ j link. length link ≤ link_size) s.links w _ (λ j link other fits. fits) (λ link there fits. rw (read, length-append) (room link there)) h.links;
     }
 
 -- ---- loopers
@@ -246,7 +246,7 @@ without_front_order d s w h = record {
   loopers = h.loopers;
   apps = h.apps;
   ports = h.ports;
-  links = each_at (λ j link. length link ≤ LINK) (λ j link. length link ≤ LINK) s.links w _ (λ j link other fits. fits) (λ link there fits. omega (arith, length-drop 1 link)) h.links;
+  links = each_at (λ j link. length link ≤ link_size) (λ j link. length link ≤ link_size) s.links w _ (λ j link other fits. fits) (λ link there fits. omega (arith, length-drop 1 link)) h.links;
 }
 
 pub front_order : (d : Declared) (s : State) (w : ℕ) (front : Option Numbered) → HasOrder d s → HasOrder d (executed_front s w front)

@@ -1,5 +1,5 @@
--- Which activity a number stands for: the applications, then for each window its looper and its twin, then input,
--- then the closing activity.
+-- Which activity a number stands for. The applications come first; behind them the windows, each with two activities,
+-- the looper and the twin; input and the closing activity are the last.
 use Rattle.std.specs.Prelude.{ℕ, ◌+◌, ◌-◌, ◌*◌, ◌/◌, ◌%◌, ◌==◌, nat_lt, Option, Some, None, if◌then◌else◌}
 use Rattle.first_world.specs.declared.actor.Actor.{Actor}
 use Rattle.first_world.specs.declared.actor.Actor.TheVariants.{App, Looper, Twin, Input, Closing}

@@ -25,7 +25,7 @@ use Rattle.first_world.specs.declared.parts.Port.{Port}
 use Rattle.first_world.specs.declared.parts.Stage.{Stage}
 use Rattle.first_world.specs.declared.parts.Stage.TheVariants as stage
 use Rattle.first_world.specs.declared.queue.Numbered.{Numbered}
-use Rattle.first_world.specs.declared.queue.TheConstants.{BUFFER, LINK}
+use Rattle.first_world.specs.Limits.{buffer_size, link_size}
 use Rattle.first_world.specs.Windows.{Windows, owner_at}
 use Rattle.first_world.specs.Screen.{each_mark}
 use Rattle.first_world.specs.Exposure.{is_owner}
@@ -77,11 +77,11 @@ is_owed s w = owes (slice_get s.panes w) (has_dirty s w)
 -- all commands of the buffer go to the link, where it has room for them
 abbrev pub flush_act : List (List Numbered) → ℕ → Looper → Option Act
 flush_act links w l = option_and_then (λ link.
-    if nat_le (length l.buffer + length link) LINK then Some (act.Flush w (length l.buffer)) else None) (slice_get links w)
+    if nat_le (length l.buffer + length link) link_size then Some (act.Flush w (length l.buffer)) else None) (slice_get links w)
 
 -- a command goes into the buffer, after a flush where it is full
 abbrev pub draw_act : List (List Numbered) → ℕ → Looper → Option Act
-draw_act links w l = if nat_lt (length l.buffer) BUFFER then Some (act.Draw w (l.made + 1)) else flush_act links w l
+draw_act links w l = if nat_lt (length l.buffer) buffer_size then Some (act.Draw w (l.made + 1)) else flush_act links w l
 
 -- what ends the use of a looper comes after a flush, where its buffer isn't empty
 abbrev pub last_act : List (List Numbered) → ℕ → Looper → Act → Option Act

@@ -1,3 +1,4 @@
+pub mod Limits
 pub mod Screen
 pub mod Windows
 pub mod Drawing
@@ -10,6 +11,5 @@ pub mod History
 pub mod World
 pub mod Area
 pub mod Fits
-pub mod WellFormed
 pub mod Orderly
 pub mod Traces

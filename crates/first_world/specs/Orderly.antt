@@ -1,4 +1,4 @@
--- Orderly histories. This looks at the entries alone, without any state: for each window it counts them one by one.
+-- Orderly histories. No state is looked at, only entries: for each window they are counted one by one.
 use Rattle.std.specs.Prelude.{◌≡◌, ℕ, ◌+◌, ◌<◌, ◌≤◌, ◌==◌, Bool, true, false, List, [], ◌∷◌, ◌++◌, length, Option, Some, if◌then◌else◌}
 use Rattle.first_script.specs.Script.{Declared}
 use Rattle.first_world.specs.declared.actor.Actor.{Actor}

@@ -18,7 +18,7 @@ frames_of d = map (λ line. line.frame) d.windows
 abbrev pub view_colors : Declared → List (List Color)
 view_colors d = map (λ _. white ∷ []) d.windows
 
--- the script's windows, each hidden so often
+-- the script's windows, each hidden as often as the list says
 abbrev pub windows_from : Declared → List ℕ → Windows
 windows_from d hides = record {
   width = d.width;

@@ -1,8 +1,8 @@
 /// One step of the machine: who made it, and what it was.
 #[derive(Clone, Copy, Debug, PartialEq, Eq)]
 pub struct Entry {
-    /// The number of the activity: the applications, then for each window its looper and its twin,
-    /// then input, then the closing activity.
+    /// The number of the activity. Applications have the lowest numbers; each window has two behind
+    /// them, for the looper and the twin; input and the closing activity have the last two.
     pub actor: u32,
     pub act: Act,
 }

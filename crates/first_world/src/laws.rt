@@ -1,18 +1,18 @@
 ghost use Rattle.std.specs.Prelude.{◌≡◌, ◌≤◌, ◌↔◌, List, length, false};
 ghost use Rattle.first_script.specs.Script.{Declared};
+ghost use Rattle.first_script.specs.WithinLimits.{IsWithinLimits};
 ghost use Rattle.first_script.specs.Work.{work_of};
 ghost use Rattle.first_world.specs.declared.entry.Entry.{Entry};
 ghost use Rattle.first_world.specs.History.{IsLegal, IsLegalHistory, IsFinished, NoneIsLegal, state_after};
 ghost use Rattle.first_world.specs.Orderly.{IsOrderly, EndsInStop};
-ghost use Rattle.first_world.specs.WellFormed.{IsWellFormed};
 
-/// No legal history of a script whose programs keep the rules of locks is stuck.
+/// No legal history of a script within its limits is stuck.
 ///
 /// While it has not stopped some activity has a legal entry, so that one which nobody can carry on is
 /// finished.
 pub fn no_history_is_stuck()
-    ensures goes_on { (d : Declared) (h : List Entry) → IsWellFormed d → IsLegalHistory d h → (state_after d h).stopped ≡ false → (e : Entry) × IsLegal d (state_after d h) e }
-    ensures finished { (d : Declared) (h : List Entry) → IsWellFormed d → IsLegalHistory d h → NoneIsLegal d (state_after d h) → IsFinished d h }
+    ensures goes_on { (d : Declared) (h : List Entry) → IsWithinLimits d → IsLegalHistory d h → (state_after d h).stopped ≡ false → (e : Entry) × IsLegal d (state_after d h) e }
+    ensures finished { (d : Declared) (h : List Entry) → IsWithinLimits d → IsLegalHistory d h → NoneIsLegal d (state_after d h) → IsFinished d h }
 {}
 
 /// Every legal history is orderly, which its entries alone show.

@@ -180,7 +180,7 @@ pub fn begin(
     ensures cleaned { OnOk result (cells.new.items ≡ cleaned_cells (windows_from (declared_by script.now) hides.now.items) window cells.old.items) }
     ensures clean { OnOk result (window < length script.now.windows.items → some_dirty cells.new.items ≡ false) }
     ensures pixels { OnOk result (HasPixels (declared_by script.now) hides.now.items cells.new.items) }
-    ensures err { OnErr result (cells.new.items ≡ cells.old.items) }
+    ensures err { OnErr result (cells.new ≡ cells.old) }
 {
     let Some(line) = script.windows.get(usize::from(window)) else {
         return Ok(None);

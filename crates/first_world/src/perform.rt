@@ -15,7 +15,7 @@ use first_script::{Command, Instruction, Script};
 use std::alloc::Global;
 
 impl World {
-    /// Carries out an entry that is legal. An error leaves the world where nobody should go on from it.
+    /// Carries out an entry that is legal. An error leaves the world as it was.
     ///
     /// An entry touches the parts of its window and its application. Beside them, an executed command visits
     /// the pixels on the screen that it may change, and an update that opens a session all of the screen's,
@@ -26,7 +26,7 @@ impl World {
         requires legal { IsLegal (declared_by script.now) (state_of (declared_by script.now) self.old) entry }
         ensures stepped { OnOk result (state_of (declared_by script.now) self.new ≡ step (declared_by script.now) (state_of (declared_by script.now) self.old) entry) }
         ensures sound { OnOk result (IsSound (declared_by script.now) self.new) }
-        ensures err { OnErr result (state_of (declared_by script.now) self.new ≡ state_of (declared_by script.now) self.old) }
+        ensures err { OnErr result (self.new ≡ self.old) }
     {
         match Actor::numbered(entry.actor, script.apps.len(), script.windows.len()) {
             Some(Actor::App(app)) => self.perform_app(script, app, entry.act),
@@ -80,7 +80,7 @@ impl World {
         requires legal { looper_act (state_of (declared_by script.now) self.old) window ≡ Some act }
         ensures stepped { OnOk result (state_of (declared_by script.now) self.new ≡ looper_step (state_of (declared_by script.now) self.old) window act) }
         ensures pixels { OnOk result (KeepsPixels (declared_by script.now) self.new) }
-        ensures err { OnErr result (state_of (declared_by script.now) self.new ≡ state_of (declared_by script.now) self.old) }
+        ensures err { OnErr result (self.new ≡ self.old) }
     {
         match act {
             Act::Take(_) => {
@@ -113,7 +113,7 @@ impl World {
         requires opened { opened ≡ has_dirty (state_of (declared_by script.now) self.old) window }
         ensures stepped { OnOk result (state_of (declared_by script.now) self.new ≡ begun (state_of (declared_by script.now) self.old) window) }
         ensures pixels { OnOk result (KeepsPixels (declared_by script.now) self.new) }
-        ensures err { OnErr result (state_of (declared_by script.now) self.new ≡ state_of (declared_by script.now) self.old) }
+        ensures err { OnErr result (self.new ≡ self.old) }
     {
         if opened {
             let session = paint::begin(alloc, &mut self.cells, script, &self.hides, window)?;

@@ -1,5 +1,6 @@
 ghost use Rattle.std.specs.Prelude.{◌≡◌, List, [], ◌∷◌, ◌++◌, ◌+◌, ◌≤◌, ◌<◌, ◌==◌, length, drop, slice_get, IfOk};
 ghost use Rattle.circular_buffer.specs.Buffer.{buffer};
+ghost use Rattle.first_world.specs.Limits.{buffer_size, link_size};
 
 use be_geom::NoMemory;
 use circular_buffer::HeapCircularBuffer;
@@ -31,13 +32,13 @@ pub struct Buffer {
 impl Model for Buffer {
     ghost use Rattle.std.specs.Prelude.{◌≡◌, List};
     ghost use Rattle.first_world.specs.declared.queue.Numbered.{Numbered};
-    ghost use Rattle.first_world.specs.declared.queue.TheConstants.{BUFFER};
+    ghost use Rattle.first_world.specs.Limits.{buffer_size};
 
     ghost Value = { List Numbered };
 
     ghost view = { λ b. b.ring.items };
 
-    ghost invariant = { λ b. b.ring.capacity ≡ BUFFER };
+    ghost invariant = { λ b. b.ring.capacity ≡ buffer_size };
 }
 
 impl Buffer {
@@ -53,7 +54,7 @@ impl Buffer {
     /// How many commands wait.
     pub fn len(&self) -> usize
         ensures count { result ≡ length self.now }
-        ensures within { result ≤ BUFFER }
+        ensures within { result ≤ buffer_size }
     {
         self.ring.len()
     }
@@ -67,7 +68,7 @@ impl Buffer {
 
     /// Adds a command as the newest. It takes no memory.
     pub fn push(&mut self, command: Numbered)
-        requires { length self.old < BUFFER }
+        requires { length self.old < buffer_size }
         ensures { self.new ≡ self.old ++ command ∷ [] }
     {
         let _ = self.ring.try_push_back(command);
@@ -85,13 +86,13 @@ pub struct Link {
 impl Model for Link {
     ghost use Rattle.std.specs.Prelude.{◌≡◌, List};
     ghost use Rattle.first_world.specs.declared.queue.Numbered.{Numbered};
-    ghost use Rattle.first_world.specs.declared.queue.TheConstants.{LINK};
+    ghost use Rattle.first_world.specs.Limits.{link_size};
 
     ghost Value = { List Numbered };
 
     ghost view = { λ b. b.ring.items };
 
-    ghost invariant = { λ b. b.ring.capacity ≡ LINK };
+    ghost invariant = { λ b. b.ring.capacity ≡ link_size };
 }
 
 impl Link {
@@ -107,7 +108,7 @@ impl Link {
     /// How many commands wait.
     pub fn len(&self) -> usize
         ensures count { result ≡ length self.now }
-        ensures within { result ≤ LINK }
+        ensures within { result ≤ link_size }
     {
         self.ring.len()
     }
@@ -136,7 +137,7 @@ impl Link {
 
     /// Moves all commands of the buffer to the link's end, one by one. It takes no memory.
     pub fn append(&mut self, buffer: &mut Buffer)
-        requires { length self.old + length buffer.old ≤ LINK }
+        requires { length self.old + length buffer.old ≤ link_size }
         ensures link { self.new ≡ self.old ++ buffer.old }
         ensures buffer { buffer.new ≡ [] }
     {

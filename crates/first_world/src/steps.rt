@@ -4,7 +4,7 @@ ghost use Rattle.first_world.specs.Legal.{front_of};
 ghost use Rattle.first_world.specs.Fits.{FitsAt, LinkFits};
 
 use crate::parts::{App, Looper, Owner, Pane, Port, Session, Stage};
-use crate::queue::{BUFFER, LINK, Link, Numbered};
+use crate::queue::{Link, Numbered};
 use first_script::Command;
 
 /// Gives a looper another owner.

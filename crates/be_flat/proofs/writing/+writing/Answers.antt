@@ -1,4 +1,4 @@
-use Rattle.std.proofs.Common.{◌≡◌, ◌<◌, ◌^◌, ap, subst, length, List, arith}
+use Rattle.std.proofs.Common.{◌≡◌, ap, subst, length, List, arith}
 use Rattle.std.proofs.lemmas.List.{length-map}
 use Rattle.std.proofs.lemmas.Result.{on_ok_weaker}
 use Rattle.be_message.specs.Depths.{values_depth}
@@ -16,13 +16,12 @@ use Rattle.be_flat.proofs.writing.+writing.Goals as goal
 pub append_message-overflow_cast-field_count : goal.append_message-overflow_cast-field_count
 append_message-overflow_cast-field_count t c =
     let m = c.args.message.now in
-    omega (arith, c.what.ensures.limits.sound.0, field_count-all m.fields, c.field_count.ensures)
+    omega (arith, c.what.ensures.limits.sound.1, field_count-all m.fields, c.field_count.ensures)
 
 pub append_message-returns : goal.append_message-returns
 append_message-returns t c =
-    let range : c.what.result < 2 ^ 32 = omega arith in
     on_ok_weaker c.append_fields.result
-    (whole_message c.args.message.now c.args.out.now.items _ _ _ _ _ _ c.what.ensures.limits c.what.ensures.what c.field_count.ensures c.fields.ensures range c.in_ok-append_what.ensures c.in_ok-push.ensures.items)
+    (whole_message c.args.message.now c.args.out.now.items _ _ _ _ _ _ c.what.ensures.limits c.what.ensures.what c.field_count.ensures c.fields.ensures c.in_ok-append_what.ensures c.in_ok-push.ensures.items)
     c.append_fields.ensures
 
 -- ---- the fields of a message

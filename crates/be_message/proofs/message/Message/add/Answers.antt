@@ -11,7 +11,7 @@ use Rattle.be_message.proofs.message.Message.add.Goals as goal
 
 pub invariant_of-self-2 : goal.invariant_of-self-2
 invariant_of-self-2 c =
-    let deep = depth_added (seen_fields c.self.inside.fields.items) c.args.name.now (seen_value c.args.value) (are_apart _ c.self.invariant.1.sound.1) in
+    let deep = depth_added (seen_fields c.self.inside.fields.items) c.args.name.now (seen_value c.args.value) (are_apart _ c.self.invariant.1.sound.2) in
     let was = c.self.invariant.0 in
     let named : is_name c.args.name.now ≡ true = rw (← c.as_bytes.ensures.value) (sym c.is_name.ensures ∙ c.if-not-is_name.false) in
     let allowed : is_allowed (seen_value c.args.value) ≡ true = sym c.is_allowed.ensures.allowed ∙ c.if-not-is_allowed.false in

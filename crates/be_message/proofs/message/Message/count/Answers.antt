@@ -7,7 +7,7 @@ use Rattle.be_message.proofs.message.Message.count.Goals as goal
 
 pub returns-in-Some : goal.returns-in-Some
 returns-in-Some c =
-    let there = is_found c.args.name.now c.self.inside.fields.items c.deref.result.now c.in-Some.place c.index.result.now c.self.invariant.1.sound.1 c.deref.ensures.value c.in-Some.ensures c.index.ensures in
+    let there = is_found c.args.name.now c.self.inside.fields.items c.deref.result.now c.in-Some.place c.index.result.now c.self.invariant.1.sound.2 c.deref.ensures.value c.in-Some.ensures c.index.ensures in
     let named : field_named c.args.name.now (seen_fields c.self.inside.fields.items) ≡ Some (seen_field c.index.result.now) = found_field _ _ _ _ there in
     rw (← c.self.view_is, named) (sym (length-map c.values.result.now seen_value) ∙ ap length c.values.ensures)
 
