@@ -1,5 +1,6 @@
 -- Which drafts of messages can be written in a script (limits are this project's own).
-use Rattle.std.specs.Prelude.{ℕ, ◌==◌, Bool, true, false, not, ◌&&◌, ◌||◌, nat_le, List, [], ◌∷◌, length}
+use Rattle.std.specs.Prelude.{ℕ, ◌/◌, ◌%◌, ◌==◌, Bool, true, false, not, ◌&&◌, ◌||◌, nat_le, List, [], ◌∷◌, length}
+use Rattle.std.specs.Char.{is_ascii_digit, is_ascii_lowercase}
 use Rattle.std.specs.List.{list_all}
 use Rattle.std.specs.Str.{bytes_eq}
 use Rattle.be_message.specs.Fields.{is_allowed}
@@ -14,11 +15,19 @@ use Rattle.be_actor.specs.Drafts.{DraftWords, Word, value, current, copied}
 abbrev pub is_reserved : ℕ → Bool
 is_reserved what = what == update_notice || what == no_reply_word || what == not_understood_word
 
--- a value of a type that a line can spell: any but a message; that a text of a line has no space isn't asked here
+-- a letter, a digit or the low line
+abbrev pub is_what_byte : ℕ → Bool
+is_what_byte b = is_ascii_lowercase b || (nat_le 65 b && nat_le b 90) || is_ascii_digit b || b == 95
+
+-- a word that a script can spell: four of these, the first the highest byte
+abbrev pub is_what : ℕ → Bool
+is_what n = is_what_byte (n / 16777216) && is_what_byte (n / 65536 % 256) && is_what_byte (n / 256 % 256) && is_what_byte (n % 256)
+
+-- a value that a line can spell: any but a message, and a text without spaces
 abbrev pub is_spelt : Datum → Bool
 is_spelt (bool b) = true
 is_spelt (int z) = true
-is_spelt (text t) = is_allowed (text t)
+is_spelt (text t) = is_allowed (text t) && list_all (λ b. nat_le 33 b) t
 is_spelt (point p) = true
 is_spelt (rect r) = true
 is_spelt (message what fs) = false
@@ -50,7 +59,8 @@ all_go_together (w ∷ ws) = list_all (go_together w) ws && all_go_together ws
 -- a draft of at most 255 words, whose message has none of the reserved words
 unfoldable pub is_draft : Bool → DraftWords → Bool
 is_draft has_message draft =
-    not (is_reserved draft.what)
+    is_what draft.what
+    && not (is_reserved draft.what)
     && nat_le (length draft.words) 255
     && list_all (is_word has_message) draft.words
     && all_go_together draft.words

@@ -1,8 +1,8 @@
 -- What every script keeps that is read (limits are this project's own). The ranges of coordinates, numbers and colours
--- are those of a script's types, and what only its text has isn't asked here: the letters of a what, the lengths of lines.
+-- are those of a script's types, and what only its text has isn't asked here: the lengths of lines.
 use Rattle.std.specs.Prelude.{◌≡◌, ℕ, ◌+◌, ◌*◌, ◌≤◌, ◌==◌, pos, ℤ, Bool, true, false, not, ◌&&◌, ◌-ℤ◌, nat_le, nat_lt, List, [], ◌∷◌, ◌++◌, map, filter, length, Option, Some, None, slice_get}
 use Rattle.std.specs.List.{list_all, range_with_len}
-use Rattle.be_actor.specs.Limits.{is_reserved}
+use Rattle.be_actor.specs.Limits.{is_reserved, is_what}
 use Rattle.be_bitmap.specs.Pictures.{Picture}
 use Rattle.be_geom.specs.declared.point.Point.{Point}
 use Rattle.be_geom.specs.declared.rect.Rect.{Rect}
@@ -108,11 +108,17 @@ same_list None None = true
 same_list (Some a) None = false
 same_list None (Some b) = false
 
+-- the one word of a filter, or every word
+abbrev pub is_filter_word : Option ℕ → Bool
+is_filter_word (Some what) = is_what what
+is_filter_word None = true
+
 -- at most 32 filters are in its list
 abbrev pub is_filter_line : Declared → FilterLine → Bool
 is_filter_line d line =
     is_window d line.window
     && is_list d line.window line.list
+    && is_filter_word line.what
     && is_rule d line.window line.rule
     && is_at_most 32 (filter (λ other. other.window == line.window && same_list other.list line.list) d.filters)
 
@@ -123,6 +129,7 @@ abbrev pub is_body_line : Declared → BodyLine → Bool
 is_body_line d line =
     is_window d line.window
     && is_handler_of d line.window line.target
+    && is_what line.what
     && not (is_reserved line.what)
     && is_body_program d line.window line.program
     && is_at_most 1 (filter (λ other. same_target other.target line.target && other.what == line.what) (body_lines d line.window))
