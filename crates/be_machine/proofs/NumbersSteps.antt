@@ -23,10 +23,11 @@ use Rattle.be_reply.specs.Cells as reply
 use Rattle.be_script.specs.declared.InputLine.{InputLine}
 use Rattle.be_script.specs.declared.InputLine.TheVariants as line
 use Rattle.be_script.specs.Script.{Declared}
-use Rattle.be_twin.specs.Executed.{without_session}
-use Rattle.be_update.specs.Sessions.{is_any, passed, with_notice}
+use Rattle.be_span.specs.declared.Cell.{Cell}
+use Rattle.be_twin.specs.Executed.{pane_after, without_session}
+use Rattle.be_update.specs.Sessions.{is_any, passed, session_of, with_session, with_notice}
 use Rattle.be_machine.specs.Activities.{Runner, app, looper, activity_of, sender_of}
-use Rattle.be_machine.specs.Commands.{drawn, flushed, flushed_into, with_effect, done_at_view, without_front as without_command, executed, executed_command}
+use Rattle.be_machine.specs.Commands.{drawn, flushed, flushed_into, with_effect, done_at_view, sight_at, without_front as without_command, executed, executed_command}
 use Rattle.be_machine.specs.declared.Entry.{Entry}
 use Rattle.be_machine.specs.Input.{with_event, with_delivery, activated, used, ports_with, input_letter, with_under}
 use Rattle.be_machine.specs.Looper.{freed, with_cell, sent_duty, with_waiting, sent, claimed, with_duty, told, replied_by, forwarded_hand, told_at_end, ended_hand}
@@ -153,25 +154,16 @@ grows_granted s who (wish.Draw command) = up s _ (omega arith) (omega arith) (om
 
 -- ---- twins
 
-grows_at_view : (pictures : List Picture) (s : State) (w v : ℕ) (deed : Deed) (pane : Pane) → Grows 0 0 0 s (done_at_view pictures s w v deed pane)
-grows_at_view pictures s w v deed pane = record {
-  arrived = ports_stay s.ports;
-  made = buffers_stay s.buffers;
-  used = omega arith;
-  panes = length_at s.panes w _;
-  ports = refl;
-  rooted = λ h. h;
-}
+same_shown : (s : State) (w : ℕ) (f : Pane → Pane) (screen : List Cell) → Grows 0 0 0 s (record s { panes = at s.panes w f; screen = screen })
+same_shown s w f screen =
+    let h : Grows 0 0 0 s s = stays s in
+    record { arrived = h.arrived; made = h.made; used = h.used; panes = length_at s.panes w f; ports = h.ports; rooted = h.rooted }
 
 same_panes : (s : State) (w : ℕ) (f : Pane → Pane) → Grows 0 0 0 s (record s { panes = at s.panes w f })
-same_panes s w f = record {
-  arrived = ports_stay s.ports;
-  made = buffers_stay s.buffers;
-  used = omega arith;
-  panes = length_at s.panes w f;
-  ports = refl;
-  rooted = λ h. h;
-}
+same_panes s w f = same_shown s w f s.screen
+
+grows_at_view : (pictures : List Picture) (s : State) (w v : ℕ) (deed : Deed) (pane : Pane) → Grows 0 0 0 s (done_at_view pictures s w v deed pane)
+grows_at_view pictures s w v deed pane = same_shown s w (pane_after pictures deed v (sight_at s w v pane)) (done_at_view pictures s w v deed pane).screen
 
 grows_effect : (pictures : List Picture) (s : State) (w : ℕ) (e : Effect) → Grows 0 0 0 s (with_effect pictures s w e)
 grows_effect pictures s w (at_view v deed) = grows_maybe (done_at_view pictures s w v deed) (slice_get s.panes w) s (grows_at_view pictures s w v deed)
@@ -201,14 +193,9 @@ grows_taken : (d : Declared) (s : State) (w : ℕ) → Grows 0 0 0 s (taken d s 
 grows_taken d s w = grows_maybe (with_letter_in_hand d s w) (option_and_then front (slice_get s.ports w)) s (grows_letter d s w)
 
 grows_opened : (s : State) (w : ℕ) (corner : Point) → Grows 0 0 0 s (opened s w corner)
-grows_opened s w corner = record {
-  arrived = ports_stay s.ports;
-  made = buffers_stay s.buffers;
-  used = omega arith;
-  panes = length_at s.panes w _;
-  ports = refl;
-  rooted = λ h. h;
-}
+grows_opened s w corner =
+    let t : State = record s { panes = at s.panes w (with_session (session_of corner (dirty_of s w))); screen = (opened s w corner).screen } in
+    and_then s t _ (same_shown s w (with_session (session_of corner (dirty_of s w))) t.screen) (same_loopers t _)
 
 grows_passed : (s : State) (w : ℕ) → Grows 0 0 0 s (passed_by s w)
 grows_passed s w =
@@ -271,14 +258,9 @@ grows_event s (line.After m) = record {
 -- ---- all
 
 grows_stopped : (s : State) → Grows 0 0 0 s (record s { stopped = true })
-grows_stopped s = record {
-  arrived = ports_stay s.ports;
-  made = buffers_stay s.buffers;
-  used = omega arith;
-  panes = refl;
-  ports = refl;
-  rooted = λ h. h;
-}
+grows_stopped s =
+    let h : Grows 0 0 0 s s = stays s in
+    record { arrived = h.arrived; made = h.made; used = h.used; panes = h.panes; ports = h.ports; rooted = h.rooted }
 
 pub grows_met : (d : Declared) (s : State) (want : Want) → Grows 2 1 1 s (met d s want)
 unfolding met

@@ -68,8 +68,8 @@ pub left_second : (cost : Instruction → ℕ) (program : List Instruction) (pla
 unfolding left
 left_second cost program place i read =
     let now : here_of cost place.part (slice_get program place.step) ≡ here cost place.part i = ap (here_of cost place.part) read in
-    let then_ : here_of cost 1 (slice_get program place.step) ≡ here cost 1 i = ap (here_of cost 1) read in
-    omega (arith, now, then_)
+    let later : here_of cost 1 (slice_get program place.step) ≡ here cost 1 i = ap (here_of cost 1) read in
+    omega (arith, now, later)
 
 -- ---- applications
 
