@@ -63,7 +63,6 @@ pub mod WorkListing
 pub mod WorkBodies
 pub mod WorkMarks
 pub mod WorkEffects
-pub mod WorkPrograms
 pub mod WorkMoves
 pub mod WorkGranted
 pub mod WorkInstructions

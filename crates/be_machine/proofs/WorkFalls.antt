@@ -28,7 +28,7 @@ use Rattle.be_machine.proofs.WorkActors.{app_instruction}
 use Rattle.be_machine.proofs.WorkInput.{uses_falls}
 use Rattle.be_machine.proofs.WorkInstructions.{Falls}
 use Rattle.be_machine.proofs.WorkLoopers.{body_instruction, draw_instruction}
-use Rattle.be_machine.proofs.WorkPrograms.{routed_steps, listed_steps}
+use Rattle.be_machine.proofs.Programs.{body_steps, update_steps}
 use Rattle.be_machine.proofs.WorkShares.{going, potential}
 use Rattle.be_machine.proofs.WorkStages.{end_falls, draw_end_falls, begins_falls, takes_falls}
 use Rattle.be_machine.proofs.WorkTwins.{twin_falls}
@@ -58,12 +58,12 @@ app_falls d s m want e = app_by d s m (slice_get s.apps m) want refl e
 
 body_at : (d : Declared) (s : State) (w : ℕ) (hand : Hand Message) (place : Place) (o : Option Instruction) → IsWithinLimits d → slice_get s.loopers w ≡ Some (handling hand (in_body place)) → slice_get (letter_program d w hand) place.step ≡ o → Falls d s (asks_or (looper w) (option_map (wish_at place.part (Some hand.letter.body) (buffered s (looper w))) o) (end_want s w))
 body_at d s w hand place (Some i) limits read at_i =
-    body_instruction d s w hand place i read at_i (all_get (is_body_step d w) (letter_program d w hand) place.step i (routed_steps d w hand.letter.body.what hand.route limits) at_i)
+    body_instruction d s w hand place i read at_i (all_get (is_body_step d w) (letter_program d w hand) place.step i (body_steps d w hand.letter.body.what hand.route limits) at_i)
 body_at d s w hand place None limits read at_i = end_falls d s w hand (in_body place) read (omega arith)
 
 update_at : (d : Declared) (s : State) (w : ℕ) (hand : Hand Message) (views : List ℕ) (place : Place) (o : Option Instruction) → IsWithinLimits d → slice_get s.loopers w ≡ Some (handling hand (in_update views place)) → slice_get (update_program d w views) place.step ≡ o → Falls d s (asks_or (looper w) (option_map (wish_at place.part (Some hand.letter.body) (buffered s (looper w))) o) (draw_end_want s w))
 update_at d s w hand views place (Some i) limits read at_i =
-    draw_instruction d s w hand views place i read at_i (all_get (is_draw_step d w) (update_program d w views) place.step i (listed_steps d w views limits) at_i)
+    draw_instruction d s w hand views place i read at_i (all_get (is_draw_step d w) (update_program d w views) place.step i (update_steps d w views limits) at_i)
 update_at d s w hand views place None limits read at_i = draw_end_falls d s w hand (in_update views place) read (omega arith)
 
 stage_falls : (d : Declared) (s : State) (w : ℕ) (hand : Hand Message) (stage : Stage) → IsWithinLimits d → HasShape d s → slice_get s.loopers w ≡ Some (handling hand stage) → Falls d s (stage_want d s w hand stage)

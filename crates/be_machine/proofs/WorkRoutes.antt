@@ -1,11 +1,10 @@
 -- A message to a view that isn't there runs no more than one to its window.
 use Rattle.std.proofs.Common.{◌≡◌, ℕ, zero, suc, ◌+◌, ◌≤◌, ◌⊎◌, inl, inr, Bool, true, false, cond, List, [], ◌∷◌, map, length, Option, Some, None, refl, ap, subst, ◌∙◌, arith}
-use Rattle.std.specs.Prelude.{slice_get, option_and_then, filter, ◌==◌, ◌&&◌, nat_lt, not, if◌then◌else◌}
+use Rattle.std.specs.Prelude.{slice_get, option_and_then, filter, ◌==◌, ◌&&◌, nat_lt, if◌then◌else◌}
 use Rattle.std.specs.List.{list_all, list_any}
 use Rattle.std.proofs.lemmas.Bool.Decides.{nat_tests}
 use Rattle.std.proofs.lemmas.List.{length-map}
 use Rattle.std.proofs.lemmas.Option.{slice_get_past}
-use Rattle.be_actor.specs.Limits.{is_reserved}
 use Rattle.be_handler.specs.declared.Route as route
 use Rattle.be_handler.specs.declared.Rule.{Rule}
 use Rattle.be_handler.specs.declared.Rule.TheVariants.{Skip, Pass, Redirect}
@@ -15,10 +14,10 @@ use Rattle.be_message.specs.declared.target.Target.TheVariants as target
 use Rattle.be_script.specs.declared.BodyLine.{BodyLine}
 use Rattle.be_script.specs.declared.FilterLine.{FilterLine}
 use Rattle.be_script.specs.declared.ViewLine.{ViewLine}
-use Rattle.be_script.specs.Limits.{IsWithinLimits, is_at_most, is_window, is_list, is_rule, same_list, is_filter_line, is_body_line}
-use Rattle.be_script.specs.Programs.{view_count, is_handler_of, is_body_program}
+use Rattle.be_script.specs.Limits.{IsWithinLimits, is_list, is_filter_line, is_body_line}
+use Rattle.be_script.specs.Programs.{view_count, is_handler_of}
 use Rattle.be_script.specs.Script.{Declared}
-use Rattle.be_script.specs.Windows.{view_lines, body_lines, declared_filter, declared_body, chain_of}
+use Rattle.be_script.specs.Windows.{view_lines, declared_filter, declared_body, chain_of}
 use Rattle.be_machine.proofs.Lists.{both_first, both_second, same_number}
 
 -- ---- filters that see no target of their own
@@ -54,11 +53,7 @@ not_own d w v (Some (target.Plain h)) is past = refl
 not_own d w v None is past = refl
 
 filter_list : (d : Declared) (line : FilterLine) → is_filter_line d line ≡ true → is_list d line.window line.list ≡ true
-filter_list d line h =
-    let count : Bool = is_at_most 32 (filter (λ other. other.window == line.window && same_list other.list line.list) d.filters) in
-    both_second (is_window d line.window) (is_list d line.window line.list)
-    (both_first (is_window d line.window && is_list d line.window line.list) (is_rule d line.window line.rule)
-    (both_first (is_window d line.window && is_list d line.window line.list && is_rule d line.window line.rule) count h))
+filter_list d line h = search (both_first, both_second)
 
 own_by : (d : Declared) (w v : ℕ) (line : FilterLine) (rest : List FilterLine) (b : Bool) → (line.window == w) ≡ b → is_list d line.window line.list ≡ true → view_count d w ≤ v → filter (λ f. is_own (target.View v) f.list) (map declared_filter rest) ≡ [] → filter (λ f. is_own (target.View v) f.list) (map declared_filter (cond b (line ∷ rest) rest)) ≡ []
 own_by d w v line rest true here is past later =
@@ -78,13 +73,8 @@ other_body d w v target.Window is past = refl
 other_body d w v (target.View u) is past = not_below u v (view_count d w) is past
 other_body d w v (target.Plain h) is past = refl
 
-second_of_five : (a b c e f : Bool) → (a && b && c && e && f) ≡ true → b ≡ true
-second_of_five a b c e f h = both_second a b (both_first (a && b) c (both_first (a && b && c) e (both_first (a && b && c && e) f h)))
-
 body_target : (d : Declared) (line : BodyLine) → is_body_line d line ≡ true → is_handler_of d line.window line.target ≡ true
-body_target d line h =
-    second_of_five (is_window d line.window) (is_handler_of d line.window line.target) (not (is_reserved line.what)) (is_body_program d line.window line.program)
-    (is_at_most 1 (filter (λ other. same_target other.target line.target && other.what == line.what) (body_lines d line.window))) h
+body_target d line h = search (both_first, both_second)
 
 body_by : (d : Declared) (w v what : ℕ) (line : BodyLine) (rest : List BodyLine) (b : Bool) → (line.window == w) ≡ b → is_handler_of d line.window line.target ≡ true → view_count d w ≤ v → list_any (λ x. same_target x.target (target.View v) && x.what == what) (map declared_body rest) ≡ false → list_any (λ x. same_target x.target (target.View v) && x.what == what) (map declared_body (cond b (line ∷ rest) rest)) ≡ false
 body_by d w v what line rest true here is past later =
