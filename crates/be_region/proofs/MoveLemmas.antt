@@ -1,18 +1,20 @@
 -- Rectangles moved, and those that leave the range.
-use Rattle.std.proofs.Common.{◌≡◌, ℕ, ◌+◌, ◌-◌, ◌<◌, ◌≤◌, ℤ, pos, negsuc, ◌+ℤ◌, ◌-ℤ◌, ◌≤ℤ◌, ◌<ℤ◌, Bool, true, false, ◌&&◌, cond, ◌⊎◌, inl, inr, ◌↔◌, List, [], ◌∷◌, ◌++◌, length, get_or, set, take, drop, map, All, Result, Ok, Err, IsOk, IsErr, arith, refl, sym, ap, ◌∙◌}
+use Rattle.std.proofs.Common.{◌≡◌, ℕ, ◌+◌, ◌-◌, ◌<◌, ◌≤◌, ℤ, pos, negsuc, ◌+ℤ◌, ◌-ℤ◌, ◌≤ℤ◌, ◌<ℤ◌, Bool, true, false, not, ◌&&◌, ◌⊎◌, inl, inr, ◌↔◌, List, [], ◌∷◌, ◌++◌, length, get_or, set, take, drop, map, All, Result, Ok, Err, IsOk, IsErr, arith, refl, sym, ap, ◌∙◌}
 use Rattle.std.specs.List.{list_all}
 use Rattle.std.proofs.lemmas.Int.{ints}
 use Rattle.std.proofs.lemmas.Bool.{and_cases, and_left, and_right, and_parts, or_cases, or_left, or_right, true≢false}
 use Rattle.std.proofs.lemmas.List.{get_or_default, get_or-append_right, get_or-drop, length-append, length-map, length-take, length-drop, take_all, drop_all, append-nil, take_at}
 use Rattle.std.proofs.lemmas.List.Edits.{map_over_more}
 use Rattle.std.proofs.lemmas.List.Elements.{All-head, All-tail, All-map, All-weaker}
-use Rattle.std.proofs.lemmas.List.Sums.{sum_by-cons}
 use Rattle.be_geom.specs.declared.rect.Rect.{Rect}
 use Rattle.be_geom.specs.declared.point.OutOfRange.{OutOfRange}
 use Rattle.be_geom.specs.Points.{between, in_range}
 use Rattle.be_geom.specs.Rects.{rect_has, rect_fits, moved_rect}
 use Rattle.be_geom.proofs.Between.{between_tells}
-use Rattle.be_region.specs.Regions.{region_has, rects_at, IsNotEmpty, IsMoved, SomePixelLeaves, AreDisjointRects}
+use Rattle.be_region.specs.Regions.{region_has, IsNotEmpty, IsMoved, SomePixelLeaves}
+use Rattle.be_region.specs.Bands.{IsBefore, RowsDiffer, AreBands}
+use Rattle.be_region.proofs.PairLemmas.{pairs_head, pairs_tail, pairs_none, pairs_cons}
+use Rattle.std.specs.List.{AllPairs}
 
 pub fits_is_ok : (r : Result Rect OutOfRange) (b : Bool) → (IsErr r ↔ (b ≡ false)) → b ≡ true → IsOk r
 fits_is_ok (Ok x) b h e = refl
@@ -24,11 +26,6 @@ between_moved low high z d = grind (arith, ints, between_tells)
 moved_has : (r : Rect) (dx dy x y : ℤ) → rect_has (moved_rect r dx dy) x y ≡ rect_has r (x -ℤ dx) (y -ℤ dy)
 moved_has r dx dy x y = rw (between_moved r.left r.right x dx, between_moved r.top r.bottom y dy) refl
 
-moved_at : (rs : List Rect) (dx dy x y : ℤ) → rects_at (map (λ r. moved_rect r dx dy) rs) x y ≡ rects_at rs (x -ℤ dx) (y -ℤ dy)
-moved_at [] dx dy x y = refl
-moved_at (r ∷ rs) dx dy x y =
-    sum_by-cons (λ q. cond (rect_has q x y) 1 0) (moved_rect r dx dy) (map (λ q. moved_rect q dx dy) rs) ∙ rw (moved_has r dx dy x y, moved_at rs dx dy x y) (sym (sum_by-cons (λ q. cond (rect_has q (x -ℤ dx) (y -ℤ dy)) 1 0) r rs))
-
 pub moved_region : (rs : List Rect) (dx dy : ℤ) → IsMoved (map (λ r. moved_rect r dx dy) rs) rs dx dy
 moved_region [] dx dy x y = refl
 moved_region (r ∷ rs) dx dy x y = rw (moved_has r dx dy x y, moved_region rs dx dy x y) refl
@@ -36,10 +33,33 @@ moved_region (r ∷ rs) dx dy x y = rw (moved_has r dx dy x y, moved_region rs d
 moved_full : (dx dy : ℤ) (r : Rect) → IsNotEmpty r → IsNotEmpty (moved_rect r dx dy)
 moved_full dx dy r full = record { across = omega (arith, ints); down = omega (arith, ints) }
 
-pub moved_disjoint : (rs : List Rect) (dx dy : ℤ) → AreDisjointRects rs → AreDisjointRects (map (λ r. moved_rect r dx dy) rs)
-moved_disjoint rs dx dy h = record {
+moved_before : (dx dy : ℤ) (r q : Rect) → IsBefore r q → IsBefore (moved_rect r dx dy) (moved_rect q dx dy)
+moved_before dx dy r q (inl h) =
+    let apart = h.2 in
+    inl (ap (λ (z : ℤ). z +ℤ dy) h.0, ap (λ (z : ℤ). z +ℤ dy) h.1, omega (arith, ints))
+moved_before dx dy r q (inr h) = inr (omega (arith, ints))
+
+moved_order : (rs : List Rect) (dx dy : ℤ) → AllPairs IsBefore rs → AllPairs IsBefore (map (λ r. moved_rect r dx dy) rs)
+moved_order [] dx dy h = pairs_none IsBefore
+moved_order (r ∷ rs) dx dy h =
+    pairs_cons IsBefore (moved_rect r dx dy) (map (λ q. moved_rect q dx dy) rs) (All-map (IsBefore (moved_rect r dx dy)) (λ q. moved_rect q dx dy) rs (All-weaker (IsBefore r) (λ q. IsBefore (moved_rect r dx dy) (moved_rect q dx dy)) (moved_before dx dy r) rs (pairs_head IsBefore r rs h))) (moved_order rs dx dy (pairs_tail IsBefore r rs h))
+
+back : (z d : ℤ) → (z +ℤ d) -ℤ d ≡ z
+back z d = omega (arith, ints)
+
+back_above : (z d : ℤ) → (z +ℤ d -ℤ pos 1) -ℤ d ≡ z -ℤ pos 1
+back_above z d = omega (arith, ints)
+
+moved_differs : (rs : List Rect) (dx dy : ℤ) (r : Rect) → RowsDiffer rs (r.top -ℤ pos 1) r.top → RowsDiffer (map (λ q. moved_rect q dx dy) rs) (r.top +ℤ dy -ℤ pos 1) (r.top +ℤ dy)
+moved_differs rs dx dy r h =
+    let x = h.0 +ℤ dx in
+    (x, moved_region rs dx dy x (r.top +ℤ dy -ℤ pos 1) ∙ rw (back h.0 dx, back_above r.top dy) (h.1 ∙ ap not (sym (moved_region rs dx dy x (r.top +ℤ dy) ∙ rw (back h.0 dx, back r.top dy) refl))))
+
+pub moved_bands : (rs : List Rect) (dx dy : ℤ) → AreBands rs → AreBands (map (λ r. moved_rect r dx dy) rs)
+moved_bands rs dx dy h = record {
   none_empty = All-map IsNotEmpty (λ r. moved_rect r dx dy) rs (All-weaker IsNotEmpty (λ r. IsNotEmpty (moved_rect r dx dy)) (moved_full dx dy) rs h.none_empty);
-  none_shared = λ x y. rw (moved_at rs dx dy x y) (h.none_shared (x -ℤ dx) (y -ℤ dy));
+  in_order = moved_order rs dx dy h.in_order;
+  merged = All-map (λ r. RowsDiffer (map (λ q. moved_rect q dx dy) rs) (r.top -ℤ pos 1) r.top) (λ r. moved_rect r dx dy) rs (All-weaker (λ r. RowsDiffer rs (r.top -ℤ pos 1) r.top) (λ r. RowsDiffer (map (λ q. moved_rect q dx dy) rs) (r.top +ℤ dy -ℤ pos 1) (r.top +ℤ dy)) (moved_differs rs dx dy) rs h.merged);
 }
 
 same_length : (olds rs : List Rect) (dx dy : ℤ) (i : ℕ) → i < length olds → rs ≡ map (λ q. moved_rect q dx dy) (take i olds) ++ drop i olds → length rs ≡ length olds

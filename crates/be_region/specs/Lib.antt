@@ -1,3 +1,8 @@
 pub mod Regions
+pub mod Bands
 pub mod Frames
-pub mod Pieces
+pub mod Runs
+pub mod Rules
+pub mod Rows
+pub mod Spans
+pub mod Places

@@ -1,4 +1,4 @@
-use Rattle.std.specs.Prelude.{◌≡◌, ◌≤◌, ℕ, ℤ, ◌+ℤ◌, ◌-ℤ◌, ◌≤ℤ◌, Bool, true, false, not, ◌&&◌, ◌||◌, List, All, count_by}
+use Rattle.std.specs.Prelude.{◌≡◌, ℤ, ◌+ℤ◌, ◌-ℤ◌, ◌≤ℤ◌, Bool, true, false, not, ◌&&◌, ◌||◌, List}
 use Rattle.std.specs.List.{list_any}
 use Rattle.be_geom.specs.declared.rect.Rect.{Rect}
 use Rattle.be_geom.specs.Points.{in_range}
@@ -45,12 +45,3 @@ SomePixelLeaves rs dx dy =
 pub record IsNotEmpty (r : Rect) : Type 0 where
   pub across : r.left ≤ℤ r.right
   pub down : r.top ≤ℤ r.bottom
-
--- how many of the rectangles have the pixel
-abbrev pub rects_at : List Rect → ℤ → ℤ → ℕ
-rects_at rs x y = count_by (λ r. rect_has r x y) rs
-
--- no rectangle is empty, and no pixel is in two of them
-pub record AreDisjointRects (rs : List Rect) : Type 0 where
-  pub none_empty : All IsNotEmpty rs
-  pub none_shared : (x y : ℤ) → rects_at rs x y ≤ 1

@@ -1,23 +1,10 @@
 ghost use Rattle.std.specs.Prelude.{◌≡◌, ◌↔◌, [], ◌∷◌, map, All, IsNone, IfSome};
 ghost use Rattle.std.specs.List.{list_all, AllPass};
-ghost use Rattle.be_geom.specs.Points.{between};
-ghost use Rattle.be_geom.specs.Rects.{rect_has, rect_fits, moved_rect};
+ghost use Rattle.be_geom.specs.Rects.{rect_fits, moved_rect};
 ghost use Rattle.be_region.specs.Regions.{IsNotEmpty};
 ghost use Rattle.be_region.specs.Frames.{IsFrame, outer_rect};
 
 use be_geom::Rect;
-
-pub(crate) fn has_pixel(rect: Rect, x: i32, y: i32) -> bool
-    ensures { result ≡ rect_has rect x y }
-{
-    is_between(rect.left, x, rect.right) && is_between(rect.top, y, rect.bottom)
-}
-
-fn is_between(low: i16, z: i32, high: i16) -> bool
-    ensures { result ≡ between low z high }
-{
-    i32::from(low) <= z && z <= i32::from(high)
-}
 
 /// Whether each rectangle, moved, stays in the range of coordinates.
 pub(crate) fn are_movable(rects: &[Rect], dx: i32, dy: i32) -> bool

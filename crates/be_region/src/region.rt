@@ -1,18 +1,20 @@
 ghost use Rattle.std.specs.Prelude.{◌≡◌, ◌≤◌, ◌↔◌, length, slice_get, IsErr, IsNone, IfOk, IfSome, OnOk, OnErr};
-ghost use Rattle.be_region.specs.Regions.{region_has, HasNone, HasPixelsOf, SamePixels, IsUnion, IsDifference, IsIntersection, IsMoved, SomePixelLeaves, AreDisjointRects};
+ghost use Rattle.be_region.specs.Regions.{region_has, HasNone, HasPixelsOf, SamePixels, IsUnion, IsDifference, IsIntersection, IsMoved, SomePixelLeaves};
+ghost use Rattle.be_region.specs.Bands.{AreBands};
+ghost use Rattle.be_region.specs.Runs.{IsRun};
 ghost use Rattle.be_region.specs.Frames.{IsFrame};
 
-use crate::common::common;
-use crate::edges::{are_movable, frame_of, has_pixel, move_all};
-use crate::without::without_all;
+use crate::edges::{are_movable, frame_of, move_all};
+use crate::place::{has_at, run_at};
+use crate::rule::Rule;
+use crate::walk::merged;
 use be_geom::{NoMemory, OutOfRange, Rect};
 use std::alloc::Global;
 use std::marker::Model;
 
 /// A set of pixels: `BRegion`.
 ///
-/// Its rectangles are disjoint, none is empty, together they are the set, and they come in any
-/// order.
+/// Its rectangles are the spans of its bands, by band from the top down, then from left to right.
 #[derive(Debug, Drop)]
 pub struct Region {
     rects: Vec<Rect>,
@@ -21,13 +23,13 @@ pub struct Region {
 impl Model for Region {
     ghost use Rattle.std.specs.Prelude.{List};
     ghost use Rattle.be_geom.specs.declared.rect.Rect.{Rect};
-    ghost use Rattle.be_region.specs.Regions.{AreDisjointRects};
+    ghost use Rattle.be_region.specs.Bands.{AreBands};
 
     ghost Value = { List Rect };
 
     ghost view = { λ r. r.rects.items };
 
-    ghost invariant = { λ r. AreDisjointRects r.rects.items };
+    ghost invariant = { λ r. AreBands r.rects.items };
 }
 
 impl Region {
@@ -57,8 +59,7 @@ impl Region {
         ensures err { OnErr result (self.new ≡ self.old) }
     {
         let alloc = *self.rects.allocator();
-        let added = without_all(alloc, &other.rects, &self.rects)?;
-        self.rects.extend_from_slice(&added)?;
+        self.rects = merged(alloc, &self.rects, &other.rects, Rule::Union)?;
         Ok(())
     }
 
@@ -68,7 +69,7 @@ impl Region {
         ensures err { OnErr result (self.new ≡ self.old) }
     {
         let alloc = *self.rects.allocator();
-        self.rects = without_all(alloc, &self.rects, &other.rects)?;
+        self.rects = merged(alloc, &self.rects, &other.rects, Rule::Difference)?;
         Ok(())
     }
 
@@ -78,7 +79,7 @@ impl Region {
         ensures err { OnErr result (self.new ≡ self.old) }
     {
         let alloc = *self.rects.allocator();
-        self.rects = common(alloc, &self.rects, &other.rects)?;
+        self.rects = merged(alloc, &self.rects, &other.rects, Rule::Intersection)?;
         Ok(())
     }
 
@@ -109,22 +110,31 @@ impl Region {
     pub fn contains(&self, x: i32, y: i32) -> bool
         ensures { result ≡ region_has self.now x y }
     {
-        self.rects.iter().any(|rect| has_pixel(*rect, x, y))
+        has_at(&self.rects, x, y)
+    }
+
+    /// Whether the pixel is in the set, and the last column up to which that stays so along the row.
+    pub fn run_at(&self, x: i32, y: i32) -> (bool, i32)
+        ensures answer { result.0 ≡ region_has self.now x y }
+        ensures run { IsRun (λ z. region_has self.now z y) x result.1 }
+    {
+        run_at(&self.rects, x, y)
     }
 
     /// The number of rectangles: `BRegion::CountRects`.
     pub fn count(&self) -> usize
         ensures number { result ≡ length self.now }
-        ensures disjoint { AreDisjointRects self.now }
+        ensures bands { AreBands self.now }
     {
         self.rects.len()
     }
 
-    /// A rectangle by its place, counted from 0: `BRegion::RectAt`.
+    /// A rectangle by its place, counted from 0, by bands from the top down and then from left to
+    /// right: `BRegion::RectAt`.
     pub fn rect_at(&self, place: usize) -> Option<Rect>
         ensures none { IsNone result ↔ (length self.now ≤ place) }
         ensures at_place { result ≡ slice_get self.now place }
-        ensures disjoint { AreDisjointRects self.now }
+        ensures bands { AreBands self.now }
     {
         self.rects.get(place).copied()
     }

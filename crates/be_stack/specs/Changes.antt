@@ -61,8 +61,15 @@ closed s w window =
 
 -- a change is asked of a window that is closed or isn't there, or asks it to go behind such a one
 abbrev pub is_gone : List Window → ℕ → Change → Bool
+is_gone windows w Show = not (is_open windows w)
+is_gone windows w Hide = not (is_open windows w)
+is_gone windows w (MoveTo corner) = not (is_open windows w)
+is_gone windows w (MoveBy dx dy) = not (is_open windows w)
+is_gone windows w (ResizeTo width height) = not (is_open windows w)
+is_gone windows w Activate = not (is_open windows w)
 is_gone windows w (Behind front) = not (is_open windows w) || not (is_open windows front)
-is_gone windows w other = not (is_open windows w)
+is_gone windows w (Focus view) = not (is_open windows w)
+is_gone windows w Close = not (is_open windows w)
 
 -- the windows after a change of window w, which isn't gone
 abbrev pub changed : Windows → ℕ → Window → Change → Result Windows ChangeFault

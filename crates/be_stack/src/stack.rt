@@ -179,7 +179,14 @@ impl Stack {
     {
         match change {
             Change::Behind(front) => !self.is_open(w) || !self.is_open(front),
-            _ => !self.is_open(w),
+            Change::Show
+            | Change::Hide
+            | Change::MoveTo(_)
+            | Change::MoveBy(_, _)
+            | Change::ResizeTo(_, _)
+            | Change::Activate
+            | Change::Focus(_)
+            | Change::Close => !self.is_open(w),
         }
     }
 

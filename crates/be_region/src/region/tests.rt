@@ -38,17 +38,67 @@ fn pixels_of(region: &Region, dx: i32, dy: i32) -> Pixels {
     pixels
 }
 
-/// The pixels of the rectangles, one after another: none where two have a pixel in common.
-fn pixels_by_rect(region: &Region) -> Option<Pixels> {
+/// The pixels of the rectangles, one after another: none where they aren't canonical bands.
+fn pixels_by_band(region: &Region) -> Option<Pixels> {
     let mut pixels = 0;
+    let mut last: Option<Rect> = None;
     for place in 0..region.count() {
-        let more = pixels_of_rect(region.rect_at(place)?);
-        if more == 0 || pixels & more != 0 {
+        let rect = region.rect_at(place)?;
+        let more = pixels_of_rect(rect);
+        if more == 0 || pixels & more != 0 || !comes_next(last, rect) {
             return None;
         }
         pixels |= more;
+        last = Some(rect);
     }
-    Some(pixels)
+    if region.count() == spans_of(pixels) {
+        Some(pixels)
+    } else {
+        None
+    }
+}
+
+/// Whether a rectangle may stand behind another: in its rows, right of it with a column between, or
+/// below it.
+fn comes_next(last: Option<Rect>, rect: Rect) -> bool {
+    match last {
+        Some(last) if last.top == rect.top => {
+            last.bottom == rect.bottom && i32::from(last.right) + 1 < i32::from(rect.left)
+        }
+        Some(last) => last.bottom < rect.top,
+        None => true,
+    }
+}
+
+/// How many spans there are in the rows that differ from the row above.
+fn spans_of(pixels: Pixels) -> usize {
+    let mut spans = 0usize;
+    let mut above = 0;
+    for row in pixels.to_be_bytes() {
+        if row != above {
+            spans = spans.saturating_add((row & !(row << 1)).count_ones() as usize);
+        }
+        above = row;
+    }
+    spans
+}
+
+/// Whether each run from a pixel on holds what the pixels tell, and no further column.
+fn runs_agree(region: &Region) -> bool {
+    for y in -4..4 {
+        for x in -4..4 {
+            let (inside, last) = region.run_at(x, y);
+            if inside != region.contains(x, y) || last < x {
+                return false;
+            }
+            for z in x..5 {
+                if (z <= last) != (region.contains(z, y) == inside) && z <= last.saturating_add(1) {
+                    return false;
+                }
+            }
+        }
+    }
+    true
 }
 
 /// The smallest rectangle that has the pixels.
@@ -117,30 +167,31 @@ impl Random {
 #[test]
 fn agrees_with_plain_sets(rt: HostRuntime) -> Result<(), Fail> {
     let mut random = Random(2026);
-    for case in 0..400 {
+    for case in 0..250 {
         let (a, a_pixels) = random.region(rt.alloc())?;
         let (b, b_pixels) = random.region(rt.alloc())?;
         assert_eq!(rt; pixels_of(&a, 0, 0), a_pixels, "case {case}: {a:?}");
-        assert_eq!(rt; pixels_by_rect(&a), Some(a_pixels), "case {case}: {a:?}");
+        assert_eq!(rt; pixels_by_band(&a), Some(a_pixels), "case {case}: {a:?}");
         assert_eq!(rt; a.frame(), frame_of_pixels(a_pixels), "case {case}: {a:?}");
+        assert!(rt; runs_agree(&a), "case {case}: {a:?}");
         let mut union = a.copy()?;
         union.include(&b)?;
         assert_eq!(rt;
-            pixels_by_rect(&union),
+            pixels_by_band(&union),
             Some(a_pixels | b_pixels),
             "case {case}: {a:?} {b:?}"
         );
         let mut rest = a.copy()?;
         rest.exclude(&b)?;
         assert_eq!(rt;
-            pixels_by_rect(&rest),
+            pixels_by_band(&rest),
             Some(a_pixels & !b_pixels),
             "case {case}: {a:?} {b:?}"
         );
         let mut both = a.copy()?;
         both.intersect(&b)?;
         assert_eq!(rt;
-            pixels_by_rect(&both),
+            pixels_by_band(&both),
             Some(a_pixels & b_pixels),
             "case {case}: {a:?} {b:?}"
         );
@@ -161,6 +212,15 @@ fn cuts_a_hole(rt: HostRuntime) -> Result<(), Fail> {
     let mut region = Region::from_rect(rt.alloc(), rect(0, 0, 3, 3))?;
     region.exclude(&Region::from_rect(rt.alloc(), rect(1, 1, 2, 2))?)?;
     assert_eq!(rt; region.frame(), Some(rect(0, 0, 3, 3)));
+    assert_eq!(rt; region.count(), 4);
+    for (place, rect) in [
+        (0, rect(0, 0, 3, 0)),
+        (1, rect(0, 1, 0, 2)),
+        (2, rect(3, 1, 3, 2)),
+        (3, rect(0, 3, 3, 3)),
+    ] {
+        assert_eq!(rt; region.rect_at(place), Some(rect));
+    }
     assert!(rt; !region.contains(1, 1));
     assert!(rt; region.contains(3, 2));
     assert!(rt; !region.contains(65536, 0));
@@ -168,12 +228,43 @@ fn cuts_a_hole(rt: HostRuntime) -> Result<(), Fail> {
     let pixels = pixels_of(&region, 0, 0);
     region.include(&same)?;
     assert_eq!(rt; pixels_of(&region, 0, 0), pixels);
+    assert_eq!(rt; region.count(), 4);
+    for (x, y, run) in [
+        (-5, 0, (false, -1)),
+        (0, 0, (true, 3)),
+        (0, 1, (true, 0)),
+        (1, 2, (false, 2)),
+        (3, 2, (true, 3)),
+        (4, 2, (false, 2147483647)),
+        (0, -1, (false, 2147483647)),
+        (0, 4, (false, 2147483647)),
+        (2147483647, 3, (false, 2147483647)),
+    ] {
+        assert_eq!(rt; region.run_at(x, y), run, "at {x}, {y}");
+    }
     let empty = Region::empty(rt.alloc());
     assert_eq!(rt; empty.count(), 0);
     assert_eq!(rt; empty.rect_at(0), None);
     assert_eq!(rt; empty.frame(), None);
     let none = Region::from_rect(rt.alloc(), rect(1, 0, 0, 0))?;
     assert_eq!(rt; none.count(), 0);
+    Ok(())
+}
+
+#[test]
+fn goes_to_and_fro(rt: HostRuntime) -> Result<(), Fail> {
+    let mut region = Region::from_rect(rt.alloc(), rect(0, 0, 9, 9))?;
+    for step in 0..100i16 {
+        let pixel = Region::from_rect(
+            rt.alloc(),
+            rect(step % 10, step / 10, step % 10, step / 10),
+        )?;
+        region.exclude(&pixel)?;
+        assert!(rt; region.count() <= 4, "at {step}: {region:?}");
+        region.include(&pixel)?;
+        assert_eq!(rt; region.count(), 1, "at {step}: {region:?}");
+    }
+    assert_eq!(rt; region.rect_at(0), Some(rect(0, 0, 9, 9)));
     Ok(())
 }
 

@@ -1,5 +1,5 @@
 use Rattle.be_region.proofs.FrameLemmas.{frame_of_one, frame_step}
-use Rattle.be_region.proofs.StepLemmas.{no_rect}
+use Rattle.be_region.proofs.CountLemmas.{no_rect}
 use Rattle.be_region.proofs.edges.frame_round.Goals as goal
 
 pub loop-rect-init : goal.loop-rect-init

@@ -5,7 +5,7 @@ use Rattle.be_geom.specs.declared.rect.Rect.{Rect}
 use Rattle.be_geom.specs.declared.point.OutOfRange.{OutOfRange}
 use Rattle.be_geom.specs.Rects.{moved_rect}
 use Rattle.be_region.proofs.MoveLemmas.{fits_is_ok, move_step, not_moved, all_moved}
-use Rattle.be_region.proofs.StepLemmas.{no_rect}
+use Rattle.be_region.proofs.CountLemmas.{no_rect}
 use Rattle.be_region.proofs.edges.move_all.Goals as goal
 
 pub unwrap-requires : goal.unwrap-requires

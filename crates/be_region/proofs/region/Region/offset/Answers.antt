@@ -1,7 +1,7 @@
 use Rattle.std.proofs.Common.{◌∙◌, sym, refl}
 use Rattle.std.proofs.lemmas.Int.{to_z-of_z}
 use Rattle.std.proofs.lemmas.Bool.{true≢false}
-use Rattle.be_region.proofs.MoveLemmas.{moved_region, moved_disjoint, some_leaves, leaves_some, moved_back}
+use Rattle.be_region.proofs.MoveLemmas.{moved_region, moved_bands, some_leaves, leaves_some, moved_back}
 use Rattle.be_region.proofs.region.Region.offset.Goals as goal
 
 pub returns-then-not-are_movable-clause-out : goal.returns-then-not-are_movable-clause-out
@@ -16,7 +16,7 @@ invariant_of-self c =
     let f = c.ranges.dx in
     let g = c.ranges.dy in
     let moved = simp to_z-of_z at c.move_all.ensures in
-    rw (moved_back c.self.inside.rects.len c.move_all.new.rects c.deref_mut.result.now c.self.inside.rects.items c.args.dx c.args.dy moved c.deref_mut.ensures.value c.self.inside.rects.ok.0) (moved_disjoint c.self.inside.rects.items c.args.dx c.args.dy c.self.invariant)
+    rw (moved_back c.self.inside.rects.len c.move_all.new.rects c.deref_mut.result.now c.self.inside.rects.items c.args.dx c.args.dy moved c.deref_mut.ensures.value c.self.inside.rects.ok.0) (moved_bands c.self.inside.rects.items c.args.dx c.args.dy c.self.invariant)
 
 pub returns-clause-ok : goal.returns-clause-ok
 returns-clause-ok c =

@@ -1,0 +1,69 @@
+-- The spans of a band that is being made.
+use Rattle.std.specs.Prelude.{◌≡◌, ℤ, pos, negsuc, ◌+ℤ◌, ◌-ℤ◌, ◌≤ℤ◌, ◌<ℤ◌, Bool, false, not, ◌||◌, List, [], ◌∷◌, ◌++◌, map, All, Option, Some, None, int_le}
+use Rattle.std.specs.List.{list_any}
+use Rattle.be_geom.specs.declared.rect.Rect.{Rect}
+use Rattle.be_geom.specs.Points.{between}
+use Rattle.be_region.specs.declared.span.Span.{Span}
+use Rattle.be_region.specs.declared.bands.Bands.{Bands}
+use Rattle.be_region.specs.Regions.{region_has}
+use Rattle.be_region.specs.Bands.{AreBands}
+use Rattle.be_region.specs.Rows.{AreAbove}
+
+-- the column is in some span
+abbrev pub spans_have : List Span → ℤ → Bool
+spans_have spans x = list_any (λ s. between s.left x s.right) spans
+
+-- the spans lie between two columns, in order, none is empty, and no two touch
+abbrev pub AreWithin : ℤ → List Span → ℤ → Type 0
+AreWithin low [] high = low <ℤ high
+AreWithin low (s ∷ spans) high = (low <ℤ s.left) × (s.left ≤ℤ s.right) × AreWithin (s.right +ℤ pos 1) spans high
+
+-- spans in order, none empty, of which no two touch
+abbrev pub AreSpans : List Span → Type 0
+AreSpans spans = (low : ℤ) × ((high : ℤ) × AreWithin low spans high)
+
+-- ---- a line being made
+
+-- a span is open, and has begun before the column or at it
+abbrev pub has_begun : Option ℤ → ℤ → Bool
+has_begun (Some start) x = int_le start x
+has_begun None x = false
+
+-- where a span is open, its first column, else the column
+abbrev pub start_or : Option ℤ → ℤ → ℤ
+start_or (Some start) x = start
+start_or None x = x
+
+-- an open span has begun before the column
+abbrev pub BeginsBefore : Option ℤ → ℤ → Type 0
+BeginsBefore (Some start) x = (negsuc 32767 ≤ℤ start) × (start <ℤ x)
+BeginsBefore None x = Unit {0}
+
+-- the spans, and the one that is open, are the columns before x that pass
+pub record AreColumnsBefore (spans : List Span) (begun : Option ℤ) (x : ℤ) (passes : ℤ → Bool) : Type 0 where
+  pub columns : (z : ℤ) → z <ℤ x → passes z ≡ (spans_have spans z || has_begun begun z)
+  pub apart : (low : ℤ) × AreWithin low spans (start_or begun x)
+  pub began : BeginsBefore begun x
+
+-- ---- bands being made
+
+-- the span in the rows from top to bottom
+abbrev pub rect_of : ℤ → ℤ → Span → Rect
+rect_of top bottom s = record { left = s.left; top = top; right = s.right; bottom = bottom }
+
+-- the spans in the rows from top to bottom
+abbrev pub rects_of : List Span → ℤ → ℤ → List Rect
+rects_of spans top bottom = map (rect_of top bottom) spans
+
+-- the rectangles of all bands, the last among them
+abbrev pub bands_of : Bands → List Rect
+bands_of b = b.rects.items ++ rects_of b.spans.items b.top b.bottom
+
+-- the bands that are done, and the last one, which may still grow
+pub record AreOpenBands (b : Bands) : Type 0 where
+  pub done : AreBands b.rects.items
+  pub above : AreAbove b.top b.rects.items
+  pub down : b.top ≤ℤ b.bottom
+  pub apart : AreSpans b.spans.items
+  pub first : b.spans.items ≡ [] → b.rects.items ≡ []
+  pub differs : All (λ s. (x : ℤ) × (region_has b.rects.items x (b.top -ℤ pos 1) ≡ not (spans_have b.spans.items x))) b.spans.items
