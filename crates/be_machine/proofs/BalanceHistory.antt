@@ -1,4 +1,4 @@
--- Answers and claims are balanced after every legal history, and all are claimed where it ends in Stop.
+-- Answers and claims are balanced after every legal history.
 use Rattle.std.proofs.Common.{◌≡◌, ℕ, ◌+◌, Bool, true, false, List, [], ◌∷◌, ◌++◌, length, Some, refl, sym, ap, subst, ◌∙◌}
 use Rattle.std.specs.Prelude.{slice_get, option_map, option_and_then, if◌then◌else◌}
 use Rattle.std.specs.Option.{option_map_or}
@@ -73,7 +73,7 @@ use Rattle.be_machine.proofs.WaitingSums.{total_none}
 
 -- ---- cells
 
-no_reply_there : (kind : Answered) (c : reply.Cell) → is_busy c ≡ false → in_cell kind c ≡ 0
+pub no_reply_there : (kind : Answered) (c : reply.Cell) → is_busy c ≡ false → in_cell kind c ≡ 0
 no_reply_there kind reply.idle e = refl
 no_reply_there kind reply.waiting e = cc
 no_reply_there kind (reply.replied message) e = cc
@@ -224,14 +224,14 @@ legal_balanced kind b d s e limits waits legal h =
 
 -- ---- histories
 
-abbrev says : Entry → List Answering
+abbrev pub says : Entry → List Answering
 says e = answering_of e.act
 
 covered_append : (kind : Answered) (b : Balance) (xs ys : List Answering) → AreCovered kind b xs → AreCovered kind (balance_from kind b xs) ys → AreCovered kind b (xs ++ ys)
 covered_append kind b [] ys h k = k
 covered_append kind b (x ∷ xs) ys h k = (h.0, covered_append kind (balanced_with kind b x) xs ys h.1 k)
 
-balance_append : (kind : Answered) (b : Balance) (xs ys : List Answering) → balance_from kind b (xs ++ ys) ≡ balance_from kind (balance_from kind b xs) ys
+pub balance_append : (kind : Answered) (b : Balance) (xs ys : List Answering) → balance_from kind b (xs ++ ys) ≡ balance_from kind (balance_from kind b xs) ys
 balance_append kind b [] ys = refl
 balance_append kind b (x ∷ xs) ys = balance_append kind (balanced_with kind b x) xs ys
 
@@ -262,44 +262,3 @@ waiting_opening d limits = waiting_after d [] limits tt
 pub balanced_after : (kind : Answered) (d : Declared) (h : List Entry) → IsWithinLimits d → IsLegalHistory d h → Answers kind no_balance (state_after d h).apps (answerings h)
 unfolding answerings
 balanced_after kind d h limits legal = history_balanced kind no_balance d (opening_state d) h limits (waiting_opening d limits) legal (opening_balanced kind d)
-
--- ---- the end of a history
-
-range_get : (n k i : ℕ) → i < n → slice_get (range_with_len k n) i ≡ Some (k + i)
-range_get n k i inside =
-    slice_get-get_or (range_with_len k n) i 0 (rw length-range_with_len inside) ∙ ap Some (get_or-range_with_len k n i 0 inside)
-
-at_end : (m n : ℕ) → nat_le m n ≡ true → m ≤ n
-at_end m n e = grind (arith, nat_tests)
-
-ended_claims : (program : List Instruction) (place : Place) → is_at_end program place ≡ true → claims_at program place ≡ false
-ended_claims program place e = ap (λ o. claims o place.part) (slice_get_past program place.step (at_end (length program) place.step e))
-
--- an application at its end has no reply in its cell
-ended_cell : (kind : Answered) (d : Declared) (s : State) (m : ℕ) (a : App) → IsWaiting d s → slice_get s.apps m ≡ Some a → has_ended d s m ≡ true → in_cell kind a.cell ≡ 0
-ended_cell kind d s m a waits read e =
-    let at : is_at_end (app_program d m) a.place ≡ true = sym (ap (λ o. option_map_or (λ (x : App). is_at_end (app_program d m) x.place) o false) read) ∙ e in
-    no_reply_there kind a.cell (waits.busy m a read ∙ ended_claims (app_program d m) a.place at)
-
-all_ended : (d : Declared) (s : State) (m : ℕ) → all_done d s ≡ true → m < length s.apps → has_ended d s m ≡ true
-all_ended d s m done inside = all_get (has_ended d s) (range_with_len 0 (length s.apps)) m m (both_first (list_all (has_ended d s) (range_with_len 0 (length s.apps))) _ done) (let same : 0 + m ≡ m = omega arith in range_get (length s.apps) 0 m inside ∙ ap Some same)
-
-none_waits : (kind : Answered) (d : Declared) (s : State) → IsWaiting d s → all_done d s ≡ true → total (of_app kind) s.apps ≡ 0
-none_waits kind d s waits done = total_none (of_app kind) s.apps (λ m a read. ended_cell kind d s m a waits read (all_ended d s m done (slice_get_within s.apps m a read)))
-
-says_nothing : (kind : Answered) (b : Balance) (h : List Entry) (e : Entry) → e.act ≡ act.Stop → balance_from kind b (flat_map says (h ++ e ∷ [])) ≡ balance_from kind b (flat_map says h)
-says_nothing kind b [] e is = ap (λ a. balance_from kind b (answering_of a ++ [])) is
-says_nothing kind b (x ∷ h) e is =
-    balance_append kind b (says x) (flat_map says (h ++ e ∷ []))
-    ∙ says_nothing kind (balance_from kind b (says x)) h e is
-    ∙ sym (balance_append kind b (says x) (flat_map says h))
-
-pub all_claimed : (kind : Answered) (d : Declared) (h : List Entry) → IsWithinLimits d → IsLegalHistory d h → EndsInStop h → (balance_of kind h).went ≡ (balance_of kind h).came
-unfolding answerings
-all_claimed kind d h limits legal stop =
-    let end : Ends d h = ended.ends d h legal stop in
-    let before : Answers kind no_balance (state_after d end.before).apps (answerings end.before) = balanced_after kind d end.before limits end.legal in
-    let none : total (of_app kind) (state_after d end.before).apps ≡ 0 = none_waits kind d (state_after d end.before) (waiting_after d end.before limits end.legal) end.rest.done in
-    let same : balance_of kind h ≡ balance_of kind end.before = ap (λ x. balance_from kind no_balance (flat_map says x)) end.is ∙ says_nothing kind no_balance end.before end.last end.stop in
-    let even : (balance_of kind end.before).went ≡ (balance_of kind end.before).came = omega (arith, before.balanced.waiting, none) in
-    ap (λ b. b.went) same ∙ even ∙ sym (ap (λ b. b.came) same)

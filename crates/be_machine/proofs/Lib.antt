@@ -27,6 +27,7 @@ pub mod WaitingTells
 pub mod Balances
 pub mod BalanceSteps
 pub mod BalanceHistory
+pub mod BalanceEnd
 pub mod PixelRules
 pub mod PixelSteps
 pub mod PixelHistory

@@ -1,4 +1,5 @@
-use Rattle.be_machine.proofs.BalanceHistory.{balanced_after, all_claimed}
+use Rattle.be_machine.proofs.BalanceEnd.{all_claimed}
+use Rattle.be_machine.proofs.BalanceHistory.{balanced_after}
 use Rattle.be_machine.proofs.OrderlyHistory.{goes_from_opening, even}
 use Rattle.be_machine.proofs.laws.orderly.every_history_is_orderly.Goals as goal
 
