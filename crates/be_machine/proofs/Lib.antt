@@ -30,6 +30,7 @@ pub mod BalanceHistory
 pub mod PixelRules
 pub mod PixelSteps
 pub mod PixelHistory
+pub mod TouchedOthers
 pub mod TouchedParts
 pub mod TouchedSteps
 pub mod TouchedWants

@@ -9,7 +9,8 @@ mod touched;
 pub use counts::{no_history_outgrows_its_work, numbers_stay_small};
 pub use orderly::every_history_is_orderly;
 pub use pixels::{
-    a_pixel_is_changed_by_its_window_alone, commands_stay_in_their_window, drawing_leaves_marks, the_desktop_shows_where_no_window_is,
+    a_pixel_is_changed_by_its_window_alone, commands_stay_in_their_window, drawing_leaves_marks,
+    the_desktop_shows_where_no_window_is,
 };
 pub use progress::{each_seed_has_one_history, no_history_is_stuck, nothing_follows_stop};
 pub use touched::an_entry_leaves_what_it_does_not_touch;
