@@ -15,7 +15,7 @@ use Rattle.be_machine.specs.Step.{granted, step, is_accepted_wish, met}
 use Rattle.be_machine.specs.Pixels.{owner_in}
 use Rattle.be_machine.specs.Windows.{changed}
 use Rattle.be_machine.specs.Lists.{at}
-use Rattle.be_machine.specs.Touched.{Part, SamePixels, SamePart, IsOf, TouchesBy, own_part, TouchesPanes, TouchesPort, TouchesFor, TouchesOldest, IsPostTo, TouchesActive, TouchesDelivered, TouchesEvent, Touches}
+use Rattle.be_machine.specs.Touched.{Part, SamePart, TouchesBy, own_part, TouchesPanes, TouchesFor, IsPostTo, TouchesActive, TouchesDelivered, TouchesEvent, Touches}
 use Rattle.be_machine.specs.declared.Entry.{Entry}
 use Rattle.be_machine.specs.Legal.{IsLegal}
 use Rattle.be_machine.specs.Update.{at_stage}

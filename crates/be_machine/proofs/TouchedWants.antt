@@ -29,7 +29,7 @@ use Rattle.be_machine.specs.Pixels.{pixel_at, owner_in}
 use Rattle.be_machine.specs.Windows.{owned, width_of, changed, changed_to, ports_after, corner_at, dirty_of}
 use Rattle.be_machine.specs.Lists.{at}
 use Rattle.be_link.specs.Queues.{Numbered}
-use Rattle.be_machine.specs.Touched.{Part, SamePixels, SamePart, IsOf, TouchesBy, own_part, TouchesPanes, TouchesPort, TouchesFor, TouchesOldest, IsPostTo, TouchesActive, TouchesDelivered, TouchesEvent, Touches}
+use Rattle.be_machine.specs.Touched.{Part, SamePixels, IsOf, TouchesPanes, TouchesPort, TouchesFor, TouchesOldest}
 use Rattle.be_handler.specs.declared.Route.{Route}
 use Rattle.be_handler.specs.declared.Route.TheVariants.{Skipped, Handler, Unknown}
 use Rattle.be_machine.specs.Update.{passed_by, begun, opened}
@@ -112,7 +112,7 @@ dec_number : (a b : ℕ) (t : Bool) → (a == b) ≡ t → (a ≡ b) ⊎ (a ≡ 
 dec_number a b true e = inl (same_number a b e)
 dec_number a b false e = inr (other_number a b e)
 
-dec_owner : (a b : Option ℕ) → (a ≡ b) ⊎ (a ≡ b → ⊥)
+pub dec_owner : (a b : Option ℕ) → (a ≡ b) ⊎ (a ≡ b → ⊥)
 dec_owner None None = inl refl
 dec_owner None (Some b) = inr (λ e. cc)
 dec_owner (Some a) None = inr (λ e. cc)
@@ -166,7 +166,7 @@ effect_alters pictures s w (changes change) = changed_alters s w change
 effect_alters pictures s w ends_update = panes_alter s w _
 
 -- taking a command off the link changes no owner
-same_touch : (s : State) (w : ℕ) (r : State) (effect : Effect) (p : Part) → TouchesFor (without_front s w) r w effect p → TouchesFor s r w effect p
+pub same_touch : (s : State) (w : ℕ) (r : State) (effect : Effect) (p : Part) → TouchesFor (without_front s w) r w effect p → TouchesFor s r w effect p
 same_touch s w r (at_view v deed) p e = e
 same_touch s w r (changes change) p e = e
 same_touch s w r ends_update p e = e

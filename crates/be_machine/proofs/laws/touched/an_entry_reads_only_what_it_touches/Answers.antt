@@ -1,0 +1,11 @@
+use Rattle.be_machine.proofs.ReadsEntries.{read_by}
+use Rattle.be_machine.proofs.laws.touched.an_entry_reads_only_what_it_touches.Goals as goal
+
+pub returns-clause-wanted : goal.returns-clause-wanted
+returns-clause-wanted c = λ d g h e want limits one two legal wants touched. (read_by d g h e want limits one two legal wants touched).wanted
+
+pub returns-clause-legal : goal.returns-clause-legal
+returns-clause-legal c = λ d g h e want limits one two legal wants touched. (read_by d g h e want limits one two legal wants touched).legal
+
+pub returns-clause-kept : goal.returns-clause-kept
+returns-clause-kept c = λ d g h e want p limits one two legal wants touched same. (read_by d g h e want limits one two legal wants touched).kept p same
