@@ -48,6 +48,7 @@ pub mod ReadsChanges
 pub mod ReadsCommands
 pub mod ReadsInput
 pub mod ReadsStop
+pub mod ReadsTables
 pub mod ReadsEntries
 pub mod ProgressBeside
 pub mod ProgressParts

@@ -90,7 +90,7 @@ outcome_front pictures s w (at_view v deed) pane = refl
 outcome_front pictures s w (changes change) pane = refl
 outcome_front pictures s w ends_update pane = refl
 
-abbrev oldest : State → ℕ → Option Numbered
+abbrev pub oldest : State → ℕ → Option Numbered
 oldest s w = option_and_then (λ l. slice_get l 0) (slice_get s.links w)
 
 record HasOldest (o : Option Numbered) : Type 0 where

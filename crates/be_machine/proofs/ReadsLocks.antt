@@ -105,15 +105,20 @@ stands_again d r m x a i read next asked =
     ∙ ap (λ o. option_map (asks (app m)) (option_map (wish_at a.place.part None (buffered r (app m))) o)) next
     ∙ ap (λ y. Some (asks (app m) y)) asked
 
+pub same_app : (d : Declared) (s r : State) (m : ℕ) (x : Wish) → Wanted d s r (asks (app m) x) → SameRunner s r (app m)
+same_app d s r m x is =
+    let stands : AppStands d s m x = app_stands d s m x is.wanted in
+    let own : SamePart s r (part.cell m) = is.touched (part.cell m) (inl refl) in
+    record { window = same_lock d s r m stands.it is.both.one.locks is.both.two.locks stands.read (own ∙ stands.read); hand = refl }
+
 pub reads_app : (d : Declared) (s r : State) (m : ℕ) (x : Wish) → Wanted d s r (asks (app m) x) → Reads d s r (asks (app m) x)
 unfolding want_act met
 reads_app d s r m x is =
     let stands : AppStands d s m x = app_stands d s m x is.wanted in
     let own : SamePart s r (part.cell m) = is.touched (part.cell m) (inl refl) in
-    let lock : locked_by r m ≡ locked_by s m = same_lock d s r m stands.it is.both.one.locks is.both.two.locks stands.read (own ∙ stands.read) in
-    let who : SameRunner s r (app m) = record { window = lock; hand = refl } in
+    let who : SameRunner s r (app m) = same_app d s r m x is in
     record {
-      wanted = stands_again d r m x stands.it stands.step (own ∙ stands.read) stands.next (asked_again d s r m x stands lock is.touched);
+      wanted = stands_again d r m x stands.it stands.step (own ∙ stands.read) stands.next (asked_again d s r m x stands who.window is.touched);
       granted = same_wish_act s r (app m) x who is.touched;
       kept = asked_keeps d s r (app m) x who is.touched;
     }

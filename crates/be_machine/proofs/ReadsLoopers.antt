@@ -52,11 +52,14 @@ looper_wants d s r w want own e =
     let full : buffered r (looper w) ≡ buffered s (looper w) = ap (λ (o : Option Buffer). option_map_or (λ b. length b.commands) o 0) own.1 in
     ap (option_map (looper_want d r w)) own.0 ∙ same_found (looper_want d r w) (looper_want d s w) (slice_get s.loopers w) (λ l. same_looper_want d s r w l full) ∙ e
 
+pub same_body : (d : Declared) (s r : State) (w : ℕ) (x : Wish) → Wanted d s r (asks (looper w) x) → SameRunner s r (looper w)
+same_body d s r w x is = let own : SamePart s r (part.looper w) = is.touched (part.looper w) (inl refl) in record { window = refl; hand = ap (option_and_then hand_in) own.0 }
+
 pub reads_body : (d : Declared) (s r : State) (w : ℕ) (x : Wish) → Wanted d s r (asks (looper w) x) → Reads d s r (asks (looper w) x)
 unfolding want_act met
 reads_body d s r w x is =
     let own : SamePart s r (part.looper w) = is.touched (part.looper w) (inl refl) in
-    let who : SameRunner s r (looper w) = record { window = refl; hand = ap (option_and_then hand_in) own.0 } in
+    let who : SameRunner s r (looper w) = same_body d s r w x is in
     record {
       wanted = looper_wants d s r w (asks (looper w) x) own is.wanted;
       granted = same_wish_act s r (looper w) x who is.touched;

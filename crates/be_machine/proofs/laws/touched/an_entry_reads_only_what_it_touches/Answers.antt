@@ -9,3 +9,6 @@ returns-clause-legal c = λ d g h e want limits one two legal wants touched. (re
 
 pub returns-clause-kept : goal.returns-clause-kept
 returns-clause-kept c = λ d g h e want p limits one two legal wants touched same. (read_by d g h e want limits one two legal wants touched).kept p same
+
+pub returns-clause-touches : goal.returns-clause-touches
+returns-clause-touches c = λ d g h e want p limits one two legal wants touched. (read_by d g h e want limits one two legal wants touched).touches p
