@@ -17,7 +17,8 @@ use Rattle.be_machine.specs.declared.Entry.{Entry}
 use Rattle.be_machine.specs.History.{AreLegalFrom, state_from, IsLegalHistory, state_after}
 use Rattle.be_machine.specs.Input.{used, with_event}
 use Rattle.be_machine.specs.Legal.{IsLegal}
-use Rattle.be_machine.specs.Program.{is_locked_by}
+use Rattle.be_actor.specs.declared.Instruction.{Instruction}
+use Rattle.be_machine.specs.Program.{app_program, is_locked_by}
 use Rattle.be_machine.specs.State.{State, free, opening_app, opening_state}
 use Rattle.be_machine.specs.Step.{met, step}
 use Rattle.be_machine.specs.Wants.{Want, asks, takes, begins, flushes, draws_end, ends, notifies, executes, uses, stops, want_of}
@@ -26,7 +27,7 @@ use Rattle.be_machine.proofs.Programs.{app_rest}
 use Rattle.be_machine.proofs.ProgressBeside.{beside_event}
 use Rattle.be_machine.proofs.ProgressCalm.{IsCalm}
 use Rattle.be_machine.proofs.ProgressCalmSteps.{IsCalmState, calm_met}
-use Rattle.be_machine.proofs.ProgressLocks.{Follows}
+use Rattle.be_machine.proofs.ProgressLocks.{Follows, lock_before}
 use Rattle.be_machine.proofs.ProgressLocksMet.{IsLockedState, locked_met}
 use Rattle.be_machine.proofs.ProgressParts.{SameSizes, same_beside, same_met, HasParts, parts_kept}
 use Rattle.be_machine.proofs.Waiting.{IsWaiting}
@@ -112,11 +113,16 @@ opening_calm : (d : Declared) → IsCalmState (opening_state d)
 unfolding opening_state
 opening_calm d = λ w l read b there. subst (IsCalm l) (repeated (length d.windows) w empty_buffer b there) (record { within = omega arith; idle = λ e. refl })
 
+first_lock : (program : List Instruction) → lock_before None program 0 ≡ None
+first_lock [] = refl
+first_lock (i ∷ rest) = refl
+
 opening_locks : (d : Declared) → IsWithinLimits d → IsLockedState d (opening_state d)
 unfolding opening_state
 opening_locks d limits = record {
   follows = λ m a read. subst (Follows d (replicate (length d.windows) free) m) (repeated (length d.apps) m opening_app a read) (record {
     lock = None;
+    placed = sym (first_lock (app_program d m));
     has = record { inside = tt; alone = λ w l there. ap (is_locked_by m) (sym (repeated (length d.windows) w free l there)) };
     keeps = app_rest d m limits;
   });

@@ -1,5 +1,5 @@
 -- Each application has the lock that its program has at its place, and no other.
-use Rattle.std.proofs.Common.{◌≡◌, ℕ, ◌+◌, ◌<◌, Bool, true, false, List, ◌∷◌, drop, length, Option, Some, None, refl, sym, ap, subst, ◌∙◌}
+use Rattle.std.proofs.Common.{◌≡◌, ℕ, zero, suc, ◌+◌, ◌<◌, Bool, true, false, List, [], ◌∷◌, drop, length, Option, Some, None, refl, sym, ap, subst, ◌∙◌, arith}
 use Rattle.std.specs.Prelude.{slice_get, ◌==◌, if◌then◌else◌}
 use Rattle.std.proofs.lemmas.Option.{same_Some}
 use Rattle.be_actor.specs.declared.Instruction.{Instruction}
@@ -33,9 +33,27 @@ pub record HasLock (loopers : List Looper) (m : ℕ) (lock : Option ℕ) : Type 
   pub inside : HasPlace (length loopers) lock
   pub alone : Each (λ w l. is_locked_by m l ≡ is_number w lock) loopers
 
--- what is left of its program keeps the rules of locks from its lock on
+-- the window that is locked before a place of a program
+abbrev pub lock_before : Option ℕ → List Instruction → ℕ → Option ℕ
+lock_before lock [] k = lock
+lock_before lock (i ∷ rest) zero = lock
+lock_before lock (i ∷ rest) (suc k) = lock_before (lock_behind lock i) rest k
+
+pub lock_after : (lock : Option ℕ) (program : List Instruction) (k : ℕ) (i : Instruction) → slice_get program k ≡ Some i → lock_before lock program (k + 1) ≡ lock_behind (lock_before lock program k) i
+lock_after lock [] k i next = cc
+lock_after lock (j ∷ rest) zero i next = lock_here lock rest j ∙ ap (lock_behind lock) (same_Some j i next)
+  where
+    lock_here : (lock : Option ℕ) (rest : List Instruction) (j : Instruction) → lock_before lock (j ∷ rest) 1 ≡ lock_behind lock j
+    lock_here lock [] j = refl
+    lock_here lock (k ∷ rest) j = refl
+lock_after lock (j ∷ rest) (suc k) i next =
+    let n : suc k + 1 ≡ suc (k + 1) = omega arith in
+    ap (lock_before lock (j ∷ rest)) n ∙ lock_after (lock_behind lock j) rest k i next
+
+-- its lock is the one that its program has at its place, and what is left of the program keeps the rules of locks from it on
 pub record Follows (d : Declared) (loopers : List Looper) (m : ℕ) (a : App) : Type 0 where
   pub lock : Option ℕ
+  pub placed : lock ≡ lock_before None (app_program d m) a.place.step
   pub has : HasLock loopers m lock
   pub keeps : is_rest_of_app d lock (drop a.place.step (app_program d m)) ≡ true
 
@@ -59,7 +77,7 @@ pub locks_kept : (d : Declared) (loopers : List Looper) (apps : List App) (w : �
 locks_kept d loopers apps w f same h = record {
   follows = λ m a read.
       let old : Follows d loopers m a = h.follows m a read in
-      record { lock = old.lock; has = has_kept loopers w m f old.lock (same m) old.has; keeps = old.keeps };
+      record { lock = old.lock; placed = old.placed; has = has_kept loopers w m f old.lock (same m) old.has; keeps = old.keeps };
   known = each_kept (λ u l. IsKnown d l) loopers w f (λ l read known m e. known m (sym (same m l read) ∙ e)) h.known;
 }
 
@@ -67,7 +85,7 @@ locks_kept d loopers apps w f same h = record {
 
 pub cells_kept : (d : Declared) (loopers : List Looper) (apps : List App) (m : ℕ) (f : App → App) → ((a : App) → (f a).place ≡ a.place) → AreLocked d loopers apps → AreLocked d loopers (at apps m f)
 cells_kept d loopers apps m f same h = record {
-  follows = each_kept (Follows d loopers) apps m f (λ a read old. record { lock = old.lock; has = old.has; keeps = subst (λ (p : Place). is_rest_of_app d old.lock (drop p.step (app_program d m)) ≡ true) (sym (same a)) old.keeps }) h.follows;
+  follows = each_kept (Follows d loopers) apps m f (λ a read old. record { lock = old.lock; placed = subst (λ (p : Place). old.lock ≡ lock_before None (app_program d m) p.step) (sym (same a)) old.placed; has = old.has; keeps = subst (λ (p : Place). is_rest_of_app d old.lock (drop p.step (app_program d m)) ≡ true) (sym (same a)) old.keeps }) h.follows;
   known = h.known;
 }
 
@@ -130,6 +148,11 @@ keeps_on d lock program i old new next (passes more same) h =
     let behind : is_rest_of_app d (lock_behind lock i) (drop (old.step + 1) program) ≡ true = (step_keeps d lock program old.step i next h).behind in
     ap (λ k. is_rest_of_app d lock (drop k program)) more ∙ ap (λ o. is_rest_of_app d o (drop (old.step + 1) program)) (sym (same lock)) ∙ behind
 
+-- the program has the same lock where it goes on
+placed_on : (program : List Instruction) (i : Instruction) (old new : Place) → slice_get program old.step ≡ Some i → GoesOn i old new → lock_before None program new.step ≡ lock_before None program old.step
+placed_on program i old new next (stays same) = ap (lock_before None program) same
+placed_on program i old new next (passes more same) = ap (lock_before None program) more ∙ lock_after None program old.step i next ∙ same (lock_before None program old.step)
+
 -- an application goes on and keeps the lock that it has
 pub gone_on_kept : (d : Declared) (s : State) (loopers : List Looper) (m : ℕ) (accepted : Bool) (x : Wish) (is : AppStands d s m x) → is_lockless x ≡ true → AreLocked d loopers s.apps → AreLocked d loopers (at s.apps m (app_gone_on d m accepted x))
 gone_on_kept d s loopers m accepted x is lockless h = record {
@@ -140,8 +163,11 @@ gone_on_kept d s loopers m accepted x is lockless h = record {
       subst (λ y. GoesOn is.step is.it.place (place_after is.step is.it.place accepted y)) is.asked (goes_on is.step is.it.place accepted (buffered s (app m)) (ap is_lockless is.asked ∙ lockless)) in
       let keeps : is_rest_of_app d old.lock (drop is.it.place.step program) ≡ true = subst (λ (b : App). is_rest_of_app d old.lock (drop b.place.step program) ≡ true) (sym same) old.keeps in
       let now : is_rest_of_app d old.lock (drop (place_after is.step is.it.place accepted x).step program) ≡ true = keeps_on d old.lock program is.step is.it.place (place_after is.step is.it.place accepted x) is.next went keeps in
+      let placed : old.lock ≡ lock_before None program is.it.place.step = subst (λ (b : App). old.lock ≡ lock_before None program b.place.step) (sym same) old.placed in
       record {
         lock = old.lock;
+        placed = subst (λ (b : App). old.lock ≡ lock_before None program (app_gone_on d m accepted x b).place.step) same
+            (placed ∙ sym (ap (λ (p : Place). lock_before None program p.step) (gone_to program is.it.place is.step accepted x is.next) ∙ placed_on program is.step is.it.place (place_after is.step is.it.place accepted x) is.next went));
         has = old.has;
         keeps = subst (λ (b : App). is_rest_of_app d old.lock (drop (app_gone_on d m accepted x b).place.step program) ≡ true) same
             (ap (λ (p : Place). is_rest_of_app d old.lock (drop p.step program)) (gone_to program is.it.place is.step accepted x is.next) ∙ now);

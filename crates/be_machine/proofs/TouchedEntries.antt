@@ -15,7 +15,7 @@ use Rattle.be_machine.specs.Step.{granted, step, is_accepted_wish, met}
 use Rattle.be_machine.specs.Pixels.{owner_in}
 use Rattle.be_machine.specs.Windows.{changed}
 use Rattle.be_machine.specs.Lists.{at}
-use Rattle.be_machine.specs.Touched.{Part, SamePixels, SamePart, IsOf, TouchesBy, own_part, TouchesPanes, TouchesPort, TouchesFor, TouchesOldest, IsPostTo, TouchesActive, TouchesDelivered, TouchesEvent, Touches}
+use Rattle.be_machine.specs.Touched.{Part, SamePart, TouchesBy, own_part, TouchesPanes, TouchesFor, IsPostTo, TouchesActive, TouchesDelivered, TouchesEvent, Touches}
 use Rattle.be_machine.specs.declared.Entry.{Entry}
 use Rattle.be_machine.specs.Legal.{IsLegal}
 use Rattle.be_machine.specs.Update.{at_stage}
@@ -41,7 +41,7 @@ used_alters s (part.cell m) other = refl
 used_alters s (part.looper w) other = (refl, refl)
 used_alters s (part.port w) other = refl
 used_alters s (part.link w) other = refl
-used_alters s (part.pane w) other = (refl, λ x y o. (refl, refl))
+used_alters s (part.pane w) other = (refl, λ x y o. (refl, refl), refl, refl)
 
 under_alters : (s : State) (x : Delivery) → Alters s (record s { desk = with_under x s.desk }) (λ p. p ≡ part.desk)
 under_alters s x part.desk other = absurd (other refl)
@@ -50,7 +50,7 @@ under_alters s x (part.cell m) other = refl
 under_alters s x (part.looper w) other = (refl, refl)
 under_alters s x (part.port w) other = refl
 under_alters s x (part.link w) other = refl
-under_alters s x (part.pane w) other = (refl, λ a b o. (refl, refl))
+under_alters s x (part.pane w) other = (refl, λ a b o. (refl, refl), refl, refl)
 
 post_to_alters : (s : State) (post : Option Post) → Alters s (record s { ports = ports_with s.ports post }) (IsPostTo post)
 post_to_alters s (Some post) = ports_alter s post.window _

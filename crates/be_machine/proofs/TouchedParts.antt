@@ -35,7 +35,7 @@ same_part s r t (cell m) h k = k ∙ h
 same_part s r t (looper w) h k = (k.0 ∙ h.0, k.1 ∙ h.1)
 same_part s r t (port w) h k = k ∙ h
 same_part s r t (link w) h k = k ∙ h
-same_part s r t (pane w) h k = (k.0 ∙ h.0, same_pixels s r t w h.1 k.1)
+same_part s r t (pane w) (panes, pixels, corner, tree) (panes', pixels', corner', tree') = (panes' ∙ panes, same_pixels s r t w pixels pixels', corner' ∙ corner, tree' ∙ tree)
 
 pub both_alter : (s r t : State) (P Q R : Part → Type 0) → ((p : Part) → P p → R p) → ((p : Part) → Q p → R p) → Alters s r P → Alters r t Q → Alters s t R
 both_alter s r t P Q R first second h k p other = same_part s r t p (h p (λ e. other (first p e))) (k p (λ e. other (second p e)))
@@ -52,7 +52,7 @@ same_state s (cell m) = refl
 same_state s (looper w) = (refl, refl)
 same_state s (port w) = refl
 same_state s (link w) = refl
-same_state s (pane w) = (refl, λ x y o. (refl, refl))
+same_state s (pane w) = (refl, λ x y o. (refl, refl), refl, refl)
 
 pub none_alters : (s : State) (P : Part → Type 0) → Alters s s P
 none_alters s P p other = same_state s p
@@ -81,7 +81,7 @@ ports_alter s v f (cell m) other = refl
 ports_alter s v f (looper w) other = (refl, refl)
 ports_alter s v f (port w) other = elsewhere s.ports v w f port other
 ports_alter s v f (link w) other = refl
-ports_alter s v f (pane w) other = (refl, λ x y o. (refl, refl))
+ports_alter s v f (pane w) other = (refl, λ x y o. (refl, refl), refl, refl)
 
 pub loopers_alter : (s : State) (v : ℕ) (f : Looper → Looper) → Alters s (record s { loopers = at s.loopers v f }) (λ p. p ≡ looper v)
 loopers_alter s v f desk other = refl
@@ -90,7 +90,7 @@ loopers_alter s v f (cell m) other = refl
 loopers_alter s v f (looper w) other = (elsewhere s.loopers v w f looper other, refl)
 loopers_alter s v f (port w) other = refl
 loopers_alter s v f (link w) other = refl
-loopers_alter s v f (pane w) other = (refl, λ x y o. (refl, refl))
+loopers_alter s v f (pane w) other = (refl, λ x y o. (refl, refl), refl, refl)
 
 pub buffers_alter : (s : State) (v : ℕ) (f : Buffer → Buffer) → Alters s (record s { buffers = at s.buffers v f }) (λ p. p ≡ looper v)
 buffers_alter s v f desk other = refl
@@ -99,7 +99,7 @@ buffers_alter s v f (cell m) other = refl
 buffers_alter s v f (looper w) other = (refl, elsewhere s.buffers v w f looper other)
 buffers_alter s v f (port w) other = refl
 buffers_alter s v f (link w) other = refl
-buffers_alter s v f (pane w) other = (refl, λ x y o. (refl, refl))
+buffers_alter s v f (pane w) other = (refl, λ x y o. (refl, refl), refl, refl)
 
 pub links_alter : (s : State) (v : ℕ) (f : List Numbered → List Numbered) → Alters s (record s { links = at s.links v f }) (λ p. p ≡ link v)
 links_alter s v f desk other = refl
@@ -108,7 +108,7 @@ links_alter s v f (cell m) other = refl
 links_alter s v f (looper w) other = (refl, refl)
 links_alter s v f (port w) other = refl
 links_alter s v f (link w) other = elsewhere s.links v w f link other
-links_alter s v f (pane w) other = (refl, λ x y o. (refl, refl))
+links_alter s v f (pane w) other = (refl, λ x y o. (refl, refl), refl, refl)
 
 pub panes_alter : (s : State) (v : ℕ) (f : Pane → Pane) → Alters s (record s { panes = at s.panes v f }) (λ p. p ≡ pane v)
 panes_alter s v f desk other = refl
@@ -117,7 +117,7 @@ panes_alter s v f (cell m) other = refl
 panes_alter s v f (looper w) other = (refl, refl)
 panes_alter s v f (port w) other = refl
 panes_alter s v f (link w) other = refl
-panes_alter s v f (pane w) other = (elsewhere s.panes v w f pane other, λ x y o. (refl, refl))
+panes_alter s v f (pane w) other = (elsewhere s.panes v w f pane other, λ x y o. (refl, refl), refl, refl)
 
 pub apps_alter : (s : State) (v : ℕ) (f : App → App) → Alters s (record s { apps = at s.apps v f }) (λ p. p ≡ cell v)
 apps_alter s v f desk other = refl
@@ -126,4 +126,4 @@ apps_alter s v f (cell m) other = elsewhere s.apps v m f cell other
 apps_alter s v f (looper w) other = (refl, refl)
 apps_alter s v f (port w) other = refl
 apps_alter s v f (link w) other = refl
-apps_alter s v f (pane w) other = (refl, λ x y o. (refl, refl))
+apps_alter s v f (pane w) other = (refl, λ x y o. (refl, refl), refl, refl)

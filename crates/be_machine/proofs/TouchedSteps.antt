@@ -17,7 +17,7 @@ use Rattle.be_machine.specs.Step.{granted}
 use Rattle.be_port.specs.Ports.{Letter}
 use Rattle.be_machine.specs.Lists.{at}
 use Rattle.be_link.specs.Queues.{emptied, lengthened}
-use Rattle.be_machine.specs.Touched.{Part, SamePixels, SamePart, IsOf, TouchesBy, own_part, TouchesPanes, TouchesPort, TouchesFor, TouchesOldest, IsPostTo, TouchesActive, TouchesDelivered, TouchesEvent, Touches}
+use Rattle.be_machine.specs.Touched.{Part, IsOf, TouchesBy, own_part}
 use Rattle.be_machine.proofs.TouchedParts.{Alters, both_alter, wider, none_alters, found_alters, of_alters, tested_alters, ports_alter, loopers_alter, buffers_alter, links_alter, apps_alter}
 use Rattle.be_actor.specs.declared.Wish.TheVariants as wish
 use Rattle.be_machine.specs.Touched as part

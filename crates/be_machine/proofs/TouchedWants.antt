@@ -8,7 +8,7 @@ use Rattle.be_machine.specs.Looper.{word_alone, freed, told_at_end, ended_hand}
 use Rattle.be_machine.proofs.PixelRules.{executed_stays, cleaned_stays}
 use Rattle.be_update.specs.Sessions.{with_session, session_of, is_any, cleaned_cell}
 use Rattle.std.proofs.Common.{◌≡◌, ℕ, Bool, true, false, List, Option, Some, None, refl, sym, ap, ◌∙◌, Result, Ok, Err, ◌⊎◌, inl, inr, subst}
-use Rattle.std.specs.Prelude.{slice_get, Result, Ok, Err, ℤ, ◌==◌, option_and_then}
+use Rattle.std.specs.Prelude.{slice_get, Result, Ok, Err, ℤ, ◌==◌, option_and_then, option_map}
 use Rattle.std.specs.Option.{option_map_or}
 use Rattle.be_desk.specs.Changes.{Desk, desk_after}
 use Rattle.be_geom.specs.declared.change.Change.{Change}
@@ -29,7 +29,7 @@ use Rattle.be_machine.specs.Pixels.{pixel_at, owner_in}
 use Rattle.be_machine.specs.Windows.{owned, width_of, changed, changed_to, ports_after, corner_at, dirty_of}
 use Rattle.be_machine.specs.Lists.{at}
 use Rattle.be_link.specs.Queues.{Numbered}
-use Rattle.be_machine.specs.Touched.{Part, SamePixels, SamePart, IsOf, TouchesBy, own_part, TouchesPanes, TouchesPort, TouchesFor, TouchesOldest, IsPostTo, TouchesActive, TouchesDelivered, TouchesEvent, Touches}
+use Rattle.be_machine.specs.Touched.{Part, SamePixels, IsOf, TouchesPanes, TouchesPort, TouchesFor, TouchesOldest}
 use Rattle.be_handler.specs.declared.Route.{Route}
 use Rattle.be_handler.specs.declared.Route.TheVariants.{Skipped, Handler, Unknown}
 use Rattle.be_machine.specs.Update.{passed_by, begun, opened}
@@ -41,6 +41,9 @@ use Rattle.be_machine.proofs.PixelSteps.{Leaves, own_leaves}
 use Rattle.be_machine.proofs.PixelHistory.{own_change_leaves}
 use Rattle.be_machine.proofs.TouchedParts.{Alters, both_alter, none_alters, found_alters, tested_alters, ports_alter, loopers_alter, links_alter, panes_alter}
 use Rattle.be_machine.proofs.TouchedSteps.{told_alters}
+use Rattle.be_machine.proofs.TouchedOthers.{DeskKeepsOther, desk_keeps_other}
+use Rattle.be_stack.specs.declared.window.Window.{Window}
+use Rattle.be_views.specs.Trees.{left_top}
 use Rattle.be_pane.specs.Panes.{Pane}
 use Rattle.be_geom.specs.declared.point.Point.{Point}
 use Rattle.be_port.specs.Ports as ports
@@ -97,7 +100,7 @@ screen_alters s w rule stays (part.port v) other = refl
 screen_alters s w rule stays (part.link v) other = refl
 screen_alters s w rule stays (part.pane u) other =
     let leaves : Leaves s (record s { screen = each_cell (width_of s) rule s.screen }) (λ v. w ≡ v) = own_leaves s (record s { screen = each_cell (width_of s) rule s.screen }) w rule refl refl stays in
-    (refl, λ x y o. (refl, leaves.kept u x y (λ e. other (ap part.pane (sym e))) (one_owner s u x y o) (one_owner s u x y o)))
+    (refl, λ x y o. (refl, leaves.kept u x y (λ e. other (ap part.pane (sym e))) (one_owner s u x y o) (one_owner s u x y o)), refl, refl)
 
 -- ---- changes
 
@@ -109,7 +112,7 @@ dec_number : (a b : ℕ) (t : Bool) → (a == b) ≡ t → (a ≡ b) ⊎ (a ≡ 
 dec_number a b true e = inl (same_number a b e)
 dec_number a b false e = inr (other_number a b e)
 
-dec_owner : (a b : Option ℕ) → (a ≡ b) ⊎ (a ≡ b → ⊥)
+pub dec_owner : (a b : Option ℕ) → (a ≡ b) ⊎ (a ≡ b → ⊥)
 dec_owner None None = inl refl
 dec_owner None (Some b) = inr (λ e. cc)
 dec_owner (Some a) None = inr (λ e. cc)
@@ -134,19 +137,21 @@ kept_pixel s r w u leaves other x y o = by_owner (dec_owner (owner_in r x y) (ow
     by_owner (inl same) = (same, leaves.kept u x y (λ e. other (u, refl, inl (sym e))) (was_owner s r u x y same o) (same ∙ was_owner s r u x y same o))
     by_owner (inr differs) = absurd (other (u, refl, inr (x, y, o, differs)))
 
-change_alters : (s : State) (w : ℕ) (change : Change) (r : Result Desk ChangeFault) → Leaves s (changed_to s w change r) (λ v. w ≡ v) → Alters s (changed_to s w change r) (TouchesFor s (changed_to s w change r) w (changes change))
-change_alters s w change (Err f) leaves p other = none_alters s (TouchesFor s s w (changes change)) p other
-change_alters s w change (Ok new) leaves part.desk other = absurd (other (inl refl))
-change_alters s w change (Ok new) leaves part.input other = (refl, refl)
-change_alters s w change (Ok new) leaves (part.cell m) other = refl
-change_alters s w change (Ok new) leaves (part.looper v) other = (refl, refl)
-change_alters s w change (Ok new) leaves (part.port v) other = ports_change s w v change (λ e. other (inr (inl e)))
-change_alters s w change (Ok new) leaves (part.link v) other = refl
-change_alters s w change (Ok new) leaves (part.pane u) other = (refl, kept_pixel s (changed_to s w change (Ok new)) w u leaves (λ e. other (inr (inr e))))
+change_alters : (s : State) (w : ℕ) (change : Change) (r : Result Desk ChangeFault) → Leaves s (changed_to s w change r) (λ v. w ≡ v) → ((u : ℕ) → (u ≡ w → ⊥) → DeskKeepsOther u s.desk r) → Alters s (changed_to s w change r) (TouchesFor s (changed_to s w change r) w (changes change))
+change_alters s w change (Err f) leaves keeps p other = none_alters s (TouchesFor s s w (changes change)) p other
+change_alters s w change (Ok new) leaves keeps part.desk other = absurd (other (inl refl))
+change_alters s w change (Ok new) leaves keeps part.input other = (refl, refl)
+change_alters s w change (Ok new) leaves keeps (part.cell m) other = refl
+change_alters s w change (Ok new) leaves keeps (part.looper v) other = (refl, refl)
+change_alters s w change (Ok new) leaves keeps (part.port v) other = ports_change s w v change (λ e. other (inr (inl e)))
+change_alters s w change (Ok new) leaves keeps (part.link v) other = refl
+change_alters s w change (Ok new) leaves keeps (part.pane u) other =
+    let kept : DeskKeepsOther u s.desk (Ok new) = keeps u (λ e. other (inr (inr (u, refl, inl e)))) in
+    (refl, kept_pixel s (changed_to s w change (Ok new)) w u leaves (λ e. other (inr (inr e))), ap (option_map (λ (window : Window). left_top window.frame)) kept.0, kept.1)
 
 pub changed_alters : (s : State) (w : ℕ) (change : Change) → Alters s (changed s w change) (TouchesFor s (changed s w change) w (changes change))
 unfolding changed
-changed_alters s w change = change_alters s w change (desk_after s.desk w change) (own_change_leaves s w change)
+changed_alters s w change = change_alters s w change (desk_after s.desk w change) (own_change_leaves s w change) (λ u other. desk_keeps_other s.desk w u change other)
 
 -- ---- commands
 
@@ -161,7 +166,7 @@ effect_alters pictures s w (changes change) = changed_alters s w change
 effect_alters pictures s w ends_update = panes_alter s w _
 
 -- taking a command off the link changes no owner
-same_touch : (s : State) (w : ℕ) (r : State) (effect : Effect) (p : Part) → TouchesFor (without_front s w) r w effect p → TouchesFor s r w effect p
+pub same_touch : (s : State) (w : ℕ) (r : State) (effect : Effect) (p : Part) → TouchesFor (without_front s w) r w effect p → TouchesFor s r w effect p
 same_touch s w r (at_view v deed) p e = e
 same_touch s w r (changes change) p e = e
 same_touch s w r ends_update p e = e

@@ -17,6 +17,7 @@ use Rattle.be_machine.specs.Input.{delivery_of}
 use Rattle.be_machine.specs.Pixels.{owner_in, pixel_at}
 use Rattle.be_machine.specs.Program.{hand_of, hand_at, window_of}
 use Rattle.be_machine.specs.State.{State}
+use Rattle.be_machine.specs.Windows.{corner_at, tree_at}
 use Rattle.be_machine.specs.Wants.{Want, asks, takes, begins, flushes, draws_end, ends, notifies, executes, uses, stops}
 
 -- ---- parts
@@ -32,7 +33,7 @@ pub data Part : Type 0 where
   looper : ℕ → Part
   port : ℕ → Part
   link : ℕ → Part
-  -- what the server keeps of a window, which pixels the window owns, and their cells
+  -- what the server keeps of a window, its left top and its views, which pixels the window owns, and their cells
   pane : ℕ → Part
 
 -- a pixel that one of the two states gives window u has the same cell, and the same owner, in both
@@ -47,7 +48,8 @@ SamePart s r (cell m) = slice_get r.apps m ≡ slice_get s.apps m
 SamePart s r (looper w) = (slice_get r.loopers w ≡ slice_get s.loopers w) × (slice_get r.buffers w ≡ slice_get s.buffers w)
 SamePart s r (port w) = slice_get r.ports w ≡ slice_get s.ports w
 SamePart s r (link w) = slice_get r.links w ≡ slice_get s.links w
-SamePart s r (pane w) = (slice_get r.panes w ≡ slice_get s.panes w) × SamePixels s r w
+SamePart s r (pane w) =
+    (slice_get r.panes w ≡ slice_get s.panes w) × SamePixels s r w × (corner_at r w ≡ corner_at s w) × (tree_at r w ≡ tree_at s w)
 
 -- ---- what instructions touch
 

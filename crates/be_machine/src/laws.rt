@@ -13,4 +13,4 @@ pub use pixels::{
     the_desktop_shows_where_no_window_is,
 };
 pub use progress::{each_seed_has_one_history, no_history_is_stuck, nothing_follows_stop};
-pub use touched::an_entry_leaves_what_it_does_not_touch;
+pub use touched::{an_entry_leaves_what_it_does_not_touch, an_entry_reads_only_what_it_touches};

@@ -1,9 +1,4 @@
-ghost use Rattle.std.specs.Prelude.{List};
-ghost use Rattle.be_script.specs.Limits.{IsWithinLimits};
-ghost use Rattle.be_script.specs.Script.{Declared};
-ghost use Rattle.be_machine.specs.declared.Entry.{Entry};
-ghost use Rattle.be_machine.specs.History.{IsLegalHistory};
-ghost use Rattle.be_machine.specs.Orderly.{IsOrderly};
+ghost use Rattle.be_machine.specs.Laws.{EachHistoryIsOrderly};
 
 /// Every legal history is orderly, which its entries alone show.
 ///
@@ -12,5 +7,5 @@ ghost use Rattle.be_machine.specs.Orderly.{IsOrderly};
 /// one reply at most, and of each kind no more answers are claimed than were given. Where the last entry is Stop no
 /// letter, no command and no answer is left over.
 pub fn every_history_is_orderly()
-    ensures { (d : Declared) (h : List Entry) → IsWithinLimits d → IsLegalHistory d h → IsOrderly d h }
+    ensures { EachHistoryIsOrderly }
 {}

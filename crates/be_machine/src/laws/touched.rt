@@ -1,16 +1,20 @@
-ghost use Rattle.std.specs.Prelude.{◌≡◌, Some, option_and_then};
-ghost use Rattle.be_script.specs.Script.{Declared};
-ghost use Rattle.be_machine.specs.Activities.{activity_of};
-ghost use Rattle.be_machine.specs.declared.Entry.{Entry};
-ghost use Rattle.be_machine.specs.Legal.{IsLegal};
-ghost use Rattle.be_machine.specs.State.{State};
-ghost use Rattle.be_machine.specs.Step.{step};
-ghost use Rattle.be_machine.specs.Touched.{Part, SamePart, Touches};
-ghost use Rattle.be_machine.specs.Wants.{Want, want_of};
+ghost use Rattle.be_machine.specs.Laws.{UntouchedStays, WantedAfterBoth, LegalAfterBoth, MakesTheSame, TouchesTheSame};
 
 /// A legal entry leaves each part as it was that the table of touched parts doesn't name for it.
 ///
-/// The part of a window's pane has its pixels: those that it owns before or after keep their owner and their cell.
+/// The part of a window's pane has its left top, its views and its pixels: those that it owns before or after keep their
+/// owner and their cell.
 pub fn an_entry_leaves_what_it_does_not_touch()
-    ensures { (d : Declared) (s : State) (e : Entry) (want : Want) (p : Part) → IsLegal d s e → option_and_then (want_of d s) (activity_of d e.actor) ≡ Some want → (Touches s (step d s e) want p → ⊥) → SamePart s (step d s e) p }
+    ensures { UntouchedStays }
+{}
+
+/// A legal entry reads only what it touches: where those parts are the same after two legal histories of one script, it is
+/// legal after both, for the same want, touches the same, and makes the same of each part that is the same.
+///
+/// So whoever holds the touched parts knows whether the entry is legal and what it makes of them.
+pub fn an_entry_reads_only_what_it_touches()
+    ensures wanted { WantedAfterBoth }
+    ensures legal { LegalAfterBoth }
+    ensures kept { MakesTheSame }
+    ensures touches { TouchesTheSame }
 {}
