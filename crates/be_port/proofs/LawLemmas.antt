@@ -1,13 +1,12 @@
 -- A queue that forgets what was taken stands for a port that remembers it.
-use Rattle.std.proofs.Common.{◌≡◌, ℕ, zero, suc, ◌+◌, ◌-◌, ◌≤◌, ◌<◌, Bool, true, false, not, ◌||◌, if◌then◌else◌, List, [], ◌∷◌, ◌++◌, length, filter, map, drop, slice_get, Option, Some, None, IfSome, refl, ap, sym, ◌∙◌, ⊎_elim, arith, length-append, length-drop}
+use Rattle.std.proofs.Common.{◌≡◌, ℕ, zero, suc, ◌+◌, ◌-◌, ◌<◌, Bool, true, false, not, ◌||◌, if◌then◌else◌, List, [], ◌∷◌, ◌++◌, length, filter, map, drop, slice_get, IfSome, refl, ap, sym, ◌∙◌, ⊎_elim, arith, length-append, length-drop}
 use Rattle.std.specs.List.{list_any, range_with_len}
-use Rattle.std.specs.Option.{option_map}
 use Rattle.std.proofs.lemmas.Bool.{cases_Bool}
 use Rattle.std.proofs.lemmas.List.{map-append, drop-append-le, drop-drop, length-map}
 use Rattle.std.proofs.lemmas.Option.{slice_get-map}
 use Rattle.be_port.specs.declared.letter.Letter as held
 use Rattle.be_port.specs.Ports as port
-use Rattle.be_port.specs.Queues.{Queue, empty_queue, counted, answer, holds_notice, with_letter, after_post, after_take, after_close}
+use Rattle.be_port.specs.Queues.{Queue, counted, holds_notice, with_letter, after_take}
 use Rattle.be_port.specs.Laws.{letter_of, letter_as, StandsFor, AnswersAsPort, PostsAsPort, NoticesAsPort, TakesAsPort}
 
 abbrev pub number_of : held.Letter → ℕ

@@ -1,10 +1,9 @@
 -- Letters taken from the front.
-use Rattle.std.proofs.Common.{◌≡◌, ℕ, suc, ◌+◌, ◌≤◌, Bool, true, false, not, List, [], ◌∷◌, length, filter, drop, slice_get, if◌then◌else◌, Option, Some, None, refl, ap, sym, ◌∙◌, subst, arith}
+use Rattle.std.proofs.Common.{◌≡◌, ◌+◌, ◌≤◌, Bool, true, false, not, List, [], ◌∷◌, length, filter, drop, slice_get, if◌then◌else◌, Some, refl, sym, arith}
 use Rattle.std.specs.List.{list_any}
 use Rattle.std.proofs.lemmas.Bool.{cases_Bool}
 use Rattle.std.proofs.Common.{⊎_elim}
 use Rattle.be_port.specs.declared.letter.Letter as held
-use Rattle.be_port.specs.Queues.{Queue, counted, holds_notice, IsQueue}
 
 abbrev pub is_counted : held.Letter → Bool
 is_counted letter = not letter.notice

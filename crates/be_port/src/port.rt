@@ -30,11 +30,26 @@ impl Model for Port {
 
     ghost Value = { Queue };
 
-    ghost view = { λ p. record { letters = p.ring.items; last = p.last; capacity = p.capacity; closed = p.closed } };
+    ghost view = { λ p. record {
+      letters = p.ring.items;
+      last = p.last;
+      capacity = p.capacity;
+      closed = p.closed;
+    } };
 
     ghost invariant = { λ p. (p.ring.capacity ≡ p.capacity + 1)
-        × (p.standing ≡ holds_notice record { letters = p.ring.items; last = p.last; capacity = p.capacity; closed = p.closed })
-        × IsQueue record { letters = p.ring.items; last = p.last; capacity = p.capacity; closed = p.closed } };
+        × (p.standing ≡ holds_notice record {
+          letters = p.ring.items;
+          last = p.last;
+          capacity = p.capacity;
+          closed = p.closed;
+        })
+        × IsQueue record {
+          letters = p.ring.items;
+          last = p.last;
+          capacity = p.capacity;
+          closed = p.closed;
+        } };
 }
 
 impl Port {

@@ -1,4 +1,4 @@
-use Rattle.std.proofs.Common.{◌≡◌, ◌+◌, ◌*◌}
+use Rattle.std.proofs.Common.{◌≡◌, ◌+◌}
 use Rattle.pass_letters.proofs.passing.filled_port.Given as goal
 
 abbrev pub invariant-loop-place : goal.invariant-loop-place

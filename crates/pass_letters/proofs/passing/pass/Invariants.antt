@@ -1,4 +1,4 @@
-use Rattle.std.proofs.Common.{◌≡◌, ◌+◌, ◌*◌}
+use Rattle.std.proofs.Common.{◌≡◌, ◌+◌}
 use Rattle.pass_letters.proofs.passing.pass.Given as goal
 
 abbrev pub invariant-loop-letter : goal.invariant-loop-letter
