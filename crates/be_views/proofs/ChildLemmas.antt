@@ -1,0 +1,82 @@
+-- The views that lie in one directly, and the way down to the last that holds a pixel.
+use Rattle.std.specs.Prelude.{find, reverse}
+use Rattle.std.proofs.Common.{◌≡◌, ℕ, ◌+◌, ◌-◌, ◌<◌, zero, suc, ℤ, ◌-ℤ◌, ◌≤ℤ◌, Bool, true, false, ◌&&◌, cond, List, [], ◌∷◌, ◌++◌, Option, Some, None, IfSome, length, get_or, take, arith, refl, sym, ap, ◌∙◌}
+use Rattle.std.proofs.lemmas.Int.{ints}
+use Rattle.std.proofs.lemmas.Bool.{and_parts}
+use Rattle.std.proofs.lemmas.List.{take_more, length-take, reverse-append, append-nil}
+use Rattle.be_geom.specs.declared.rect.Rect.{Rect}
+use Rattle.be_geom.specs.Numbers.{is_number}
+use Rattle.be_geom.specs.Points.{between}
+use Rattle.be_geom.specs.Rects.{rect_has}
+use Rattle.be_geom.proofs.Between.{between_tells}
+use Rattle.be_views.specs.Trees.{View, Tree, children_from}
+use Rattle.be_views.specs.Pixels.{last_child_at, descended, view_below}
+
+between_parts : (low high z : ℤ) → between low z high ≡ true → (low ≤ℤ z) × (z ≤ℤ high)
+between_parts low high z h = grind (arith, ints, between_tells)
+
+pub in_frame : (f : Rect) (x y : ℤ) → rect_has f x y ≡ true → (f.left ≤ℤ x) × (x ≤ℤ f.right) × (f.top ≤ℤ y) × (y ≤ℤ f.bottom)
+in_frame f x y h =
+    let parts = and_parts (between f.left x f.right) (between f.top y f.bottom) h in
+    let across = between_parts f.left f.right x parts.0 in
+    let down = between_parts f.top f.bottom y parts.1 in
+    (across.0, across.1, down.0, down.1)
+
+-- ---- one more view
+
+abbrev one_child : Bool → ℕ → View → List (ℕ × View)
+one_child b k w = cond b ((k, w) ∷ []) []
+
+pushed_on : (b : Bool) (k : ℕ) (u : View) (l m : List (ℕ × View)) (n o : List (ℕ × View)) → l ≡ m ++ n → n ≡ o → cond b ((k, u) ∷ l) l ≡ cond b ((k, u) ∷ m) m ++ o
+pushed_on true k u l m n o e f = rw (e, f) refl
+pushed_on false k u l m n o e f = rw (e, f) refl
+
+children-push : (k v : ℕ) (xs : Tree) (w : View) → children_from k v (xs ++ w ∷ []) ≡ children_from k v xs ++ one_child (is_number v w.parent) (k + length xs) w
+children-push k v [] w = ap (λ n. one_child (is_number v w.parent) n w) (omega arith)
+children-push k v (u ∷ xs) w =
+    pushed_on (is_number v u.parent) k u (children_from (suc k) v (xs ++ w ∷ [])) (children_from (suc k) v xs) (one_child (is_number v w.parent) (suc k + length xs) w) (one_child (is_number v w.parent) (k + suc (length xs)) w) (children-push (suc k) v xs w) (ap (λ n. one_child (is_number v w.parent) n w) (omega arith))
+
+last-push : (p : ℕ × View → Bool) (b : Bool) (ys : List (ℕ × View)) (k : ℕ) (w : View) → find p (reverse (ys ++ one_child b k w)) ≡ cond (b && p (k, w)) (Some (k, w)) (find p (reverse ys))
+last-push p true ys k w = ap (find p) (reverse-append ys ((k, w) ∷ []))
+last-push p false ys k w = ap (λ l. find p (reverse l)) (append-nil ys)
+
+pub child_more : (tree : Tree) (i v : ℕ) (x y : ℤ) (d : View) → i < length tree → last_child_at (take (i + 1) tree) v x y ≡ cond (is_number v (get_or tree i d).parent && rect_has (get_or tree i d).frame x y) (Some (i, get_or tree i d)) (last_child_at (take i tree) v x y)
+child_more tree i v x y d h =
+    let p : ℕ × View → Bool = λ child. rect_has child.1.frame x y in
+    let w = get_or tree i d in
+    let n : 0 + length (take i tree) ≡ i = omega (arith, length-take i tree) in
+    ap (λ l. find p (reverse (children_from 0 v l))) (take_more tree i d h) ∙ ap (λ l. find p (reverse l)) (children-push 0 v (take i tree) w) ∙ ap (λ k. find p (reverse (children_from 0 v (take i tree) ++ one_child (is_number v w.parent) k w))) n ∙ last-push p (is_number v w.parent) (children_from 0 v (take i tree)) i w
+
+-- what is known of the last child found so far
+pub record IsLast (tree : Tree) (i v : ℕ) (x y : ℤ) (last : Option (ℕ × View)) : Type 0 where
+  pub child : last ≡ last_child_at (take i tree) v x y
+  pub there : IfSome last (λ child. child.0 < length tree)
+  pub holds : IfSome last (λ child. rect_has child.1.frame x y ≡ true)
+
+pub keeps_last : (tree : Tree) (i v : ℕ) (x y : ℤ) (last : Option (ℕ × View)) (d : View) → i < length tree → (is_number v (get_or tree i d).parent && rect_has (get_or tree i d).frame x y) ≡ false → IsLast tree i v x y last → IsLast tree (i + 1) v x y last
+keeps_last tree i v x y last d h out l = record {
+  child = l.child ∙ sym (child_more tree i v x y d h ∙ ap (λ b. cond b (Some (i, get_or tree i d)) (last_child_at (take i tree) v x y)) out);
+  there = l.there;
+  holds = l.holds;
+}
+
+pub takes_last : (tree : Tree) (i v : ℕ) (x y : ℤ) (d : View) → i < length tree → (is_number v (get_or tree i d).parent && rect_has (get_or tree i d).frame x y) ≡ true → IsLast tree (i + 1) v x y (Some (i, get_or tree i d))
+takes_last tree i v x y d h inside = record {
+  child = sym (child_more tree i v x y d h ∙ ap (λ b. cond b (Some (i, get_or tree i d)) (last_child_at (take i tree) v x y)) inside);
+  there = h;
+  holds = (and_parts (is_number v (get_or tree i d).parent) (rect_has (get_or tree i d).frame x y) inside).1;
+}
+
+-- ---- the way down
+
+pub below_none : (n : ℕ) (tree : Tree) (v : ℕ) (x y : ℤ) → last_child_at tree v x y ≡ None → view_below n tree v x y ≡ v
+below_none zero tree v x y h = refl
+below_none (suc n) tree v x y h = ap (descended (view_below n tree) v x y) h
+
+pub below_some : (n : ℕ) (tree : Tree) (v : ℕ) (x y : ℤ) (child : ℕ × View) → 0 < n → last_child_at tree v x y ≡ Some child → view_below n tree v x y ≡ view_below (n - 1) tree child.0 (x -ℤ child.1.frame.left) (y -ℤ child.1.frame.top)
+below_some zero tree v x y child k h = absurd (omega arith)
+below_some (suc n) tree v x y child k h = ap (descended (view_below n tree) v x y) h ∙ ap (λ m. view_below m tree child.0 (x -ℤ child.1.frame.left) (y -ℤ child.1.frame.top)) (omega arith)
+
+pub next_below : (n i : ℕ) (tree : Tree) (v : ℕ) (x y : ℤ) (child : ℕ × View) (x' y' : ℤ) (total : ℕ) → i < n → Some child ≡ last_child_at tree v x y → x' ≡ (x -ℤ child.1.frame.left) → y' ≡ (y -ℤ child.1.frame.top) → view_below (n - i) tree v x y ≡ total → view_below (n - (i + 1)) tree child.0 x' y' ≡ total
+next_below n i tree v x y child x' y' total h e p q before =
+    rw (p, q) (ap (λ m. view_below m tree child.0 (x -ℤ child.1.frame.left) (y -ℤ child.1.frame.top)) (omega arith) ∙ sym (below_some (n - i) tree v x y child (omega arith) (sym e)) ∙ before)

@@ -1,0 +1,52 @@
+ghost use Rattle.std.specs.Prelude.{◌≡◌, ◌<◌, ◌&&◌, true, length, IfSome};
+ghost use Rattle.be_geom.specs.Points.{between};
+ghost use Rattle.be_geom.specs.Rects.{rect_has};
+ghost use Rattle.be_geom.specs.Numbers.{is_number};
+ghost use Rattle.be_views.specs.Pixels.{last_child_at};
+
+use crate::view::View;
+use be_geom::Rect;
+
+/// Of the views that lie in view `v` directly, the one declared last whose frame holds the pixel.
+pub(crate) fn last_child_at(views: &[View], v: u16, x: i32, y: i32) -> Option<(usize, View)>
+    ensures child { result ≡ last_child_at views.now v x y }
+    ensures there { IfSome result (λ child. child.0 < length views.now) }
+    ensures holds { IfSome result (λ child. rect_has child.1.frame x y ≡ true) }
+{
+    let mut last = None;
+    for (k, view) in views.iter().enumerate() {
+        if is_child_at(*view, v, x, y) {
+            last = Some((k, *view));
+        }
+    }
+    last
+}
+
+/// Whether a view lies in view `v` directly, and its frame holds the pixel.
+fn is_child_at(view: View, v: u16, x: i32, y: i32) -> bool
+    ensures { result ≡ (is_number v view.parent && rect_has view.frame x y) }
+{
+    lies_in(view.parent, v) && has_pixel(view.frame, x, y)
+}
+
+fn lies_in(parent: Option<u16>, v: u16) -> bool
+    ensures { result ≡ is_number v parent }
+{
+    match parent {
+        Some(parent) => parent == v,
+        None => false,
+    }
+}
+
+/// Whether the pixel is in the frame.
+pub(crate) fn has_pixel(frame: Rect, x: i32, y: i32) -> bool
+    ensures { result ≡ rect_has frame x y }
+{
+    is_between(frame.left, x, frame.right) && is_between(frame.top, y, frame.bottom)
+}
+
+fn is_between(low: i16, z: i32, high: i16) -> bool
+    ensures { result ≡ between low z high }
+{
+    i32::from(low) <= z && z <= i32::from(high)
+}

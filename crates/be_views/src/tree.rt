@@ -1,0 +1,227 @@
+ghost use Rattle.be_geom.specs.Rects.{rect_has};
+ghost use Rattle.std.specs.Prelude.{◌≡◌, ◌<◌, ◌≤◌, ◌↔◌, ℕ, true, pos, ◌-ℤ◌, ◌≤ℤ◌, ◌∷◌, [], length, slice_get, option_map, option_and_then, vec_len, vec_capacity, IfOk, OnOk, OnErr, IsNone};
+ghost use Rattle.be_views.specs.Trees.{parent_of};
+ghost use Rattle.be_views.specs.Pixels.{view_at, view_below};
+ghost use Rattle.be_views.specs.Whole.{IsTree, root_view, with_view, depth_from, depth_of};
+
+use crate::children::{has_pixel, last_child_at};
+use crate::fault::ViewFault;
+use crate::view::View;
+use be_follow::{Across, Down, Follow};
+use be_geom::{NoMemory, Rect};
+use std::alloc::Global;
+use std::marker::Model;
+
+/// How many views a window may have, the root among them.
+const MAX_VIEWS: usize = 32;
+
+/// How deep a view may be, where the root is at depth 1.
+const MAX_DEPTH: usize = 8;
+
+/// The views of a window, by their numbers: view 0 is the root, and a parent's number is below those
+/// of its children.
+#[derive(Debug, Drop)]
+pub struct ViewTree {
+    views: Vec<View>,
+}
+
+impl Model for ViewTree {
+    ghost use Rattle.be_views.specs.Trees.{Tree};
+    ghost use Rattle.be_views.specs.Whole.{IsTree};
+
+    ghost Value = { Tree };
+
+    ghost view = { λ t. t.views.items };
+
+    ghost invariant = { λ t. IsTree t.views.items };
+}
+
+impl ViewTree {
+    /// The root alone, of a window whose right edge less the left one is `width` and whose bottom edge
+    /// less the top one is `height`.
+    pub fn new(alloc: Global, width: i16, height: i16) -> Result<ViewTree, NoMemory>
+        requires across { pos 0 ≤ℤ width }
+        requires down { pos 0 ≤ℤ height }
+        ensures { IfOk result (λ tree. tree ≡ root_view width height ∷ []) }
+    {
+        let mut views = Vec::new(alloc);
+        views.push(root(width, height))?;
+        Ok(ViewTree { views })
+    }
+
+    /// Adds a view in front of its siblings, and gives its number: `BView::AddChild`. The frame is in the
+    /// parent's coordinates.
+    pub fn add(&mut self, parent: u16, frame: Rect, mode: Follow) -> Result<u16, ViewFault>
+        ensures no_view { (result ≡ Err ViewFault.NoView) ↔ (length self.old ≤ parent) }
+        ensures too_deep { (result ≡ Err ViewFault.TooDeep)
+            ↔ ((parent < length self.old) × (8 ≤ depth_of self.old parent)) }
+        ensures too_many { (result ≡ Err ViewFault.TooMany)
+            ↔ ((parent < length self.old) × (depth_of self.old parent < 8)
+            × (length self.old ≡ 32)) }
+        ensures number { IfOk result (λ view. view ≡ length self.old) }
+        ensures added { IfOk result (λ view. self.new ≡ with_view self.old parent frame mode) }
+        ensures err { OnErr result (self.new ≡ self.old) }
+    {
+        let count = self.views.len();
+        if usize::from(parent) >= count {
+            return Err(ViewFault::NoView);
+        }
+        if depth_of(&self.views, parent) >= MAX_DEPTH {
+            return Err(ViewFault::TooDeep);
+        }
+        if count >= MAX_VIEWS {
+            return Err(ViewFault::TooMany);
+        }
+        make_room(&mut self.views)?;
+        self.views
+            .push(View {
+                parent: Some(parent),
+                frame,
+                mode,
+            })
+            .unwrap();
+        Ok(count as u16)
+    }
+
+    /// How many views there are, the root among them.
+    pub fn len(&self) -> usize
+        ensures number { result ≡ length self.now }
+
+        // What holds of every tree, for callers that rest on it.
+        ensures whole { IsTree self.now }
+    {
+        self.views.len()
+    }
+
+    /// A view's frame: `BView::Frame`. None where there is no such view.
+    pub fn frame_of(&self, view: u16) -> Option<Rect>
+        ensures none { IsNone result ↔ (length self.now ≤ view) }
+        ensures frame { result ≡ option_map (λ v. v.frame) (slice_get self.now view) }
+    {
+        self.views.get(usize::from(view)).map(|view| view.frame)
+    }
+
+    /// How a view's frame goes with its parent's size: `BView::ResizingMode`. None where there is no
+    /// such view.
+    pub fn mode_of(&self, view: u16) -> Option<Follow>
+        ensures none { IsNone result ↔ (length self.now ≤ view) }
+        ensures mode { result ≡ option_map (λ v. v.mode) (slice_get self.now view) }
+    {
+        self.views.get(usize::from(view)).map(|view| view.mode)
+    }
+
+    /// The view in which a view lies: `BView::Parent`. None for the root, and where there is no such
+    /// view.
+    pub fn parent(&self, view: u16) -> Option<u16>
+        ensures { result ≡ parent_of self.now view }
+    {
+        self.views.get(usize::from(view))?.parent
+    }
+
+    /// The view at a pixel of the window. None outside the root.
+    pub fn view_at(&self, x: i32, y: i32) -> Option<u16>
+        ensures { result ≡ view_at self.now x y }
+    {
+        let root = self.views.first()?;
+        if has_pixel(root.frame, x, y) {
+            Some(view_below(&self.views, x, y))
+        } else {
+            None
+        }
+    }
+
+    /// The same views, on the same allocator.
+    pub fn copy(&self) -> Result<ViewTree, NoMemory>
+        ensures { IfOk result (λ tree. tree ≡ self.now) }
+    {
+        let alloc = *self.views.allocator();
+        Ok(ViewTree {
+            views: Vec::from_slice(alloc, &self.views)?,
+        })
+    }
+}
+
+fn root(width: i16, height: i16) -> View
+    ensures { result ≡ root_view width height }
+{
+    View {
+        parent: None,
+        frame: Rect {
+            left: 0,
+            top: 0,
+            right: width,
+            bottom: height,
+        },
+        mode: Follow {
+            across: Across::Left,
+            down: Down::Top,
+        },
+    }
+}
+
+/// Makes room for one more view.
+fn make_room(views: &mut Vec<View>) -> Result<(), NoMemory>
+    ensures same { views.new.items ≡ views.old.items }
+    ensures room { OnOk result (vec_len views.new < vec_capacity views.new) }
+{
+    views.reserve(1)?;
+    Ok(())
+}
+
+/// How deep a view is.
+fn depth_of(views: &[View], v: u16) -> usize
+    ensures { result ≡ depth_of views.now v }
+{
+    depth_from(views.len(), views, v)
+}
+
+/// How deep a view is, in so many steps at most.
+fn depth_from(steps: usize, views: &[View], v: u16) -> usize
+    ensures depth { result ≡ depth_from steps views.now v }
+    ensures bound { result ≤ steps }
+{
+    if steps == 0 {
+        return 0;
+    }
+    match views.get(usize::from(v)) {
+        Some(view) => match view.parent {
+            Some(parent) => depth_from(steps - 1, views, parent) + 1,
+            None => 1,
+        },
+        None => 0,
+    }
+}
+
+/// From the root to its last child that holds the pixel, again and again.
+fn view_below(views: &[View], x: i32, y: i32) -> u16
+    requires few { length views.now ≤ 32 }
+    ensures { result ≡ view_below (length views.now) views.now 0 x y }
+{
+    let mut view = 0u16;
+    let mut place = (x, y);
+    for _step in 0..views.len() {
+        match last_child_at(views, view, place.0, place.1) {
+            Some((child, found)) => {
+                view = child as u16;
+                place = within(place, found.frame);
+            }
+            None => return view,
+        }
+    }
+    view
+}
+
+/// A pixel of a frame, from the frame's left top on.
+fn within(place: (i32, i32), frame: Rect) -> (i32, i32)
+    requires { rect_has frame place.0 place.1 ≡ true }
+    ensures across { result.0 ≡ place.0 -ℤ frame.left }
+    ensures down { result.1 ≡ place.1 -ℤ frame.top }
+{
+    (
+        place.0 - i32::from(frame.left),
+        place.1 - i32::from(frame.top),
+    )
+}
+
+#[cfg(test)]
+mod tests;

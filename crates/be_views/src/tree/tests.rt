@@ -1,0 +1,88 @@
+use super::ViewTree;
+use crate::fault::ViewFault;
+use be_follow::{Across, Down, Follow};
+use be_geom::Rect;
+use std::test::Fail;
+
+const FIXED: Follow = Follow {
+    across: Across::Left,
+    down: Down::Top,
+};
+
+fn rect(left: i16, top: i16, right: i16, bottom: i16) -> Rect {
+    Rect {
+        left,
+        top,
+        right,
+        bottom,
+    }
+}
+
+#[test]
+fn finds_the_later_of_two_children(rt: HostRuntime) -> Result<(), Fail> {
+    let mut tree = ViewTree::new(rt.alloc(), 9, 9)?;
+    assert_eq!(rt; tree.add(0, rect(1, 1, 5, 5), FIXED), Ok(1));
+    assert_eq!(rt; tree.add(0, rect(3, 3, 7, 7), FIXED), Ok(2));
+    assert_eq!(rt; tree.add(1, rect(0, 0, 0, 0), FIXED), Ok(3));
+    assert_eq!(rt; tree.add(2, rect(1, 1, 20, 1), FIXED), Ok(4));
+    for (x, y, view) in [
+        (0, 0, Some(0)),
+        (1, 1, Some(3)),
+        (2, 1, Some(1)),
+        (3, 3, Some(2)),
+        (5, 5, Some(2)),
+        (4, 4, Some(4)),
+        (7, 4, Some(4)),
+        (8, 4, Some(0)),
+        (9, 9, Some(0)),
+        (10, 9, None),
+        (-1, 0, None),
+        (2147483647, -2147483648, None),
+    ] {
+        assert_eq!(rt; tree.view_at(x, y), view, "at {x}, {y}");
+    }
+    let same = tree.copy()?;
+    for (view, parent, frame) in [
+        (0, None, Some(rect(0, 0, 9, 9))),
+        (1, Some(0), Some(rect(1, 1, 5, 5))),
+        (3, Some(1), Some(rect(0, 0, 0, 0))),
+        (4, Some(2), Some(rect(1, 1, 20, 1))),
+        (5, None, None),
+    ] {
+        assert_eq!(rt; same.parent(view), parent, "of {view}");
+        assert_eq!(rt; same.frame_of(view), frame, "of {view}");
+    }
+    assert_eq!(rt; same.len(), 5);
+    assert_eq!(rt; same.mode_of(4), Some(FIXED));
+    assert_eq!(rt; same.mode_of(5), None);
+    Ok(())
+}
+
+#[test]
+fn refuses_views(rt: HostRuntime) -> Result<(), Fail> {
+    let mut tree = ViewTree::new(rt.alloc(), 0, 0)?;
+    assert_eq!(rt;
+        tree.add(99, rect(0, 0, 0, 0), FIXED),
+        Err(ViewFault::NoView)
+    );
+    for parent in 0..7u16 {
+        assert_eq!(rt; tree.add(parent, rect(0, 0, 0, 0), FIXED), Ok(parent + 1));
+    }
+    assert_eq!(rt;
+        tree.add(7, rect(0, 0, 0, 0), FIXED),
+        Err(ViewFault::TooDeep)
+    );
+    for number in 8..32u16 {
+        assert_eq!(rt; tree.add(0, rect(0, 0, 0, 0), FIXED), Ok(number));
+    }
+    assert_eq!(rt;
+        tree.add(0, rect(0, 0, 0, 0), FIXED),
+        Err(ViewFault::TooMany)
+    );
+    assert_eq!(rt;
+        tree.add(7, rect(0, 0, 0, 0), FIXED),
+        Err(ViewFault::TooDeep)
+    );
+    assert_eq!(rt; tree.len(), 32);
+    Ok(())
+}
