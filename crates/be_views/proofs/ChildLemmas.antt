@@ -1,5 +1,6 @@
 -- The views that lie in one directly, and the way down to the last that holds a pixel.
-use Rattle.std.specs.Prelude.{find, reverse}
+use Rattle.std.specs.Prelude.{find, reverse, option_map}
+use Rattle.std.proofs.lemmas.Option.{none-some, same_Some}
 use Rattle.std.proofs.Common.{◌≡◌, ℕ, ◌+◌, ◌-◌, ◌<◌, zero, suc, ℤ, ◌-ℤ◌, ◌≤ℤ◌, Bool, true, false, ◌&&◌, cond, List, [], ◌∷◌, ◌++◌, Option, Some, None, IfSome, length, get_or, take, arith, refl, sym, ap, ◌∙◌}
 use Rattle.std.proofs.lemmas.Int.{ints}
 use Rattle.std.proofs.lemmas.Bool.{and_parts}
@@ -40,43 +41,58 @@ last-push : (p : ℕ × View → Bool) (b : Bool) (ys : List (ℕ × View)) (k :
 last-push p true ys k w = ap (find p) (reverse-append ys ((k, w) ∷ []))
 last-push p false ys k w = ap (λ l. find p (reverse l)) (append-nil ys)
 
-pub child_more : (tree : Tree) (i v : ℕ) (x y : ℤ) (d : View) → i < length tree → last_child_at (take (i + 1) tree) v x y ≡ cond (is_number v (get_or tree i d).parent && rect_has (get_or tree i d).frame x y) (Some (i, get_or tree i d)) (last_child_at (take i tree) v x y)
+child_more : (tree : Tree) (i v : ℕ) (x y : ℤ) (d : View) → i < length tree → last_child_at (take (i + 1) tree) v x y ≡ cond (is_number v (get_or tree i d).parent && rect_has (get_or tree i d).frame x y) (Some (i, get_or tree i d)) (last_child_at (take i tree) v x y)
 child_more tree i v x y d h =
     let p : ℕ × View → Bool = λ child. rect_has child.1.frame x y in
     let w = get_or tree i d in
     let n : 0 + length (take i tree) ≡ i = omega (arith, length-take i tree) in
     ap (λ l. find p (reverse (children_from 0 v l))) (take_more tree i d h) ∙ ap (λ l. find p (reverse l)) (children-push 0 v (take i tree) w) ∙ ap (λ k. find p (reverse (children_from 0 v (take i tree) ++ one_child (is_number v w.parent) k w))) n ∙ last-push p (is_number v w.parent) (children_from 0 v (take i tree)) i w
 
--- what is known of the last child found so far
-pub record IsLast (tree : Tree) (i v : ℕ) (x y : ℤ) (last : Option (ℕ × View)) : Type 0 where
-  pub child : last ≡ last_child_at (take i tree) v x y
-  pub there : IfSome last (λ child. child.0 < length tree)
-  pub holds : IfSome last (λ child. rect_has child.1.frame x y ≡ true)
+-- a child's number and its frame
+abbrev framed : ℕ × View → ℕ × Rect
+framed child = (child.0, child.1.frame)
 
-pub keeps_last : (tree : Tree) (i v : ℕ) (x y : ℤ) (last : Option (ℕ × View)) (d : View) → i < length tree → (is_number v (get_or tree i d).parent && rect_has (get_or tree i d).frame x y) ≡ false → IsLast tree i v x y last → IsLast tree (i + 1) v x y last
-keeps_last tree i v x y last d h out l = record {
-  child = l.child ∙ sym (child_more tree i v x y d h ∙ ap (λ b. cond b (Some (i, get_or tree i d)) (last_child_at (take i tree) v x y)) out);
+-- what is known of the last child found so far
+pub record IsLast (tree : Tree) (i v : ℕ) (x y : ℤ) (last : Option (ℕ × Rect)) : Type 0 where
+  pub child : last ≡ option_map framed (last_child_at (take i tree) v x y)
+  pub there : IfSome last (λ child. child.0 < length tree)
+  pub holds : IfSome last (λ child. rect_has child.1 x y ≡ true)
+
+read_more : (tree : Tree) (i v : ℕ) (x y : ℤ) (view : View) (b : Bool) → i < length tree → view ≡ get_or tree i view → (is_number v view.parent && rect_has view.frame x y) ≡ b → last_child_at (take (i + 1) tree) v x y ≡ cond b (Some (i, view)) (last_child_at (take i tree) v x y)
+read_more tree i v x y view b h read is = child_more tree i v x y view h ∙ ap (λ w. cond (is_number v w.parent && rect_has w.frame x y) (Some (i, w)) (last_child_at (take i tree) v x y)) (sym read) ∙ ap (λ c. cond c (Some (i, view)) (last_child_at (take i tree) v x y)) is
+
+pub keeps_last : (tree : Tree) (i v : ℕ) (x y : ℤ) (last : Option (ℕ × Rect)) (view : View) → i < length tree → view ≡ get_or tree i view → (is_number v view.parent && rect_has view.frame x y) ≡ false → IsLast tree i v x y last → IsLast tree (i + 1) v x y last
+keeps_last tree i v x y last view h read out l = record {
+  child = l.child ∙ ap (option_map framed) (sym (read_more tree i v x y view false h read out));
   there = l.there;
   holds = l.holds;
 }
 
-pub takes_last : (tree : Tree) (i v : ℕ) (x y : ℤ) (d : View) → i < length tree → (is_number v (get_or tree i d).parent && rect_has (get_or tree i d).frame x y) ≡ true → IsLast tree (i + 1) v x y (Some (i, get_or tree i d))
-takes_last tree i v x y d h inside = record {
-  child = sym (child_more tree i v x y d h ∙ ap (λ b. cond b (Some (i, get_or tree i d)) (last_child_at (take i tree) v x y)) inside);
+pub takes_last : (tree : Tree) (i v : ℕ) (x y : ℤ) (view : View) → i < length tree → view ≡ get_or tree i view → (is_number v view.parent && rect_has view.frame x y) ≡ true → IsLast tree (i + 1) v x y (Some (i, view.frame))
+takes_last tree i v x y view h read inside = record {
+  child = ap (option_map framed) (sym (read_more tree i v x y view true h read inside));
   there = h;
-  holds = (and_parts (is_number v (get_or tree i d).parent) (rect_has (get_or tree i d).frame x y) inside).1;
+  holds = (and_parts (is_number v view.parent) (rect_has view.frame x y) inside).1;
 }
 
 -- ---- the way down
 
-pub below_none : (n : ℕ) (tree : Tree) (v : ℕ) (x y : ℤ) → last_child_at tree v x y ≡ None → view_below n tree v x y ≡ v
+goes_down : (below : ℕ → ℤ → ℤ → ℕ) (v : ℕ) (x y : ℤ) (child : ℕ × Rect) (found : Option (ℕ × View)) → Some child ≡ option_map framed found → descended below v x y found ≡ below child.0 (x -ℤ child.1.left) (y -ℤ child.1.top)
+goes_down below v x y child (Some inner) h = ap (λ c. below c.0 (x -ℤ c.1.left) (y -ℤ c.1.top)) (sym (same_Some child (framed inner) h))
+goes_down below v x y child None h = absurd (none-some child (sym h))
+
+stays : (below : ℕ → ℤ → ℤ → ℕ) (v : ℕ) (x y : ℤ) (found : Option (ℕ × View)) → None ≡ option_map framed found → descended below v x y found ≡ v
+stays below v x y (Some inner) h = absurd (none-some (framed inner) h)
+stays below v x y None h = refl
+
+pub below_none : (n : ℕ) (tree : Tree) (v : ℕ) (x y : ℤ) → None ≡ option_map framed (last_child_at tree v x y) → view_below n tree v x y ≡ v
 below_none zero tree v x y h = refl
-below_none (suc n) tree v x y h = ap (descended (view_below n tree) v x y) h
+below_none (suc n) tree v x y h = stays (view_below n tree) v x y (last_child_at tree v x y) h
 
-pub below_some : (n : ℕ) (tree : Tree) (v : ℕ) (x y : ℤ) (child : ℕ × View) → 0 < n → last_child_at tree v x y ≡ Some child → view_below n tree v x y ≡ view_below (n - 1) tree child.0 (x -ℤ child.1.frame.left) (y -ℤ child.1.frame.top)
+below_some : (n : ℕ) (tree : Tree) (v : ℕ) (x y : ℤ) (child : ℕ × Rect) → 0 < n → Some child ≡ option_map framed (last_child_at tree v x y) → view_below n tree v x y ≡ view_below (n - 1) tree child.0 (x -ℤ child.1.left) (y -ℤ child.1.top)
 below_some zero tree v x y child k h = absurd (omega arith)
-below_some (suc n) tree v x y child k h = ap (descended (view_below n tree) v x y) h ∙ ap (λ m. view_below m tree child.0 (x -ℤ child.1.frame.left) (y -ℤ child.1.frame.top)) (omega arith)
+below_some (suc n) tree v x y child k h = goes_down (view_below n tree) v x y child (last_child_at tree v x y) h ∙ ap (λ m. view_below m tree child.0 (x -ℤ child.1.left) (y -ℤ child.1.top)) (omega arith)
 
-pub next_below : (n i : ℕ) (tree : Tree) (v : ℕ) (x y : ℤ) (child : ℕ × View) (x' y' : ℤ) (total : ℕ) → i < n → Some child ≡ last_child_at tree v x y → x' ≡ (x -ℤ child.1.frame.left) → y' ≡ (y -ℤ child.1.frame.top) → view_below (n - i) tree v x y ≡ total → view_below (n - (i + 1)) tree child.0 x' y' ≡ total
+pub next_below : (n i : ℕ) (tree : Tree) (v : ℕ) (x y : ℤ) (child : ℕ × Rect) (x' y' : ℤ) (total : ℕ) → i < n → Some child ≡ option_map framed (last_child_at tree v x y) → x' ≡ (x -ℤ child.1.left) → y' ≡ (y -ℤ child.1.top) → view_below (n - i) tree v x y ≡ total → view_below (n - (i + 1)) tree child.0 x' y' ≡ total
 next_below n i tree v x y child x' y' total h e p q before =
-    rw (p, q) (ap (λ m. view_below m tree child.0 (x -ℤ child.1.frame.left) (y -ℤ child.1.frame.top)) (omega arith) ∙ sym (below_some (n - i) tree v x y child (omega arith) (sym e)) ∙ before)
+    rw (p, q) (ap (λ m. view_below m tree child.0 (x -ℤ child.1.left) (y -ℤ child.1.top)) (omega arith) ∙ sym (below_some (n - i) tree v x y child (omega arith) e) ∙ before)

@@ -4,8 +4,7 @@ use Rattle.be_geom.specs.declared.rect.Rect.{Rect}
 use Rattle.be_follow.specs.declared.mode.Follow.{Follow}
 use Rattle.be_follow.specs.declared.mode.Across.TheVariants as across
 use Rattle.be_follow.specs.declared.mode.Down.TheVariants as down
-use Rattle.be_views.specs.declared.view.View.{View}
-use Rattle.be_views.specs.Trees.{Tree}
+use Rattle.be_views.specs.Trees.{View, Tree}
 use Rattle.be_views.specs.Resizing.{root_frame}
 
 -- the root of a window whose last edges are so far from its first; it follows nothing

@@ -1,4 +1,4 @@
-ghost use Rattle.std.specs.Prelude.{◌≡◌, ◌<◌, ◌&&◌, true, length, IfSome};
+ghost use Rattle.std.specs.Prelude.{◌≡◌, ◌<◌, ◌&&◌, true, length, option_map, IfSome};
 ghost use Rattle.be_geom.specs.Points.{between};
 ghost use Rattle.be_geom.specs.Rects.{rect_has};
 ghost use Rattle.be_geom.specs.Numbers.{is_number};
@@ -7,16 +7,17 @@ ghost use Rattle.be_views.specs.Pixels.{last_child_at};
 use crate::view::View;
 use be_geom::Rect;
 
-/// Of the views that lie in view `v` directly, the one declared last whose frame holds the pixel.
-pub(crate) fn last_child_at(views: &[View], v: u16, x: i32, y: i32) -> Option<(usize, View)>
-    ensures child { result ≡ last_child_at views.now v x y }
+/// Of the views that lie in view `v` directly, the one declared last whose frame holds the pixel, with
+/// that frame.
+pub(crate) fn last_child_at(views: &[View], v: u16, x: i32, y: i32) -> Option<(usize, Rect)>
+    ensures child { result ≡ option_map (λ child. (child.0, child.1.frame)) (last_child_at views.now v x y) }
     ensures there { IfSome result (λ child. child.0 < length views.now) }
-    ensures holds { IfSome result (λ child. rect_has child.1.frame x y ≡ true) }
+    ensures holds { IfSome result (λ child. rect_has child.1 x y ≡ true) }
 {
     let mut last = None;
     for (k, view) in views.iter().enumerate() {
         if is_child_at(*view, v, x, y) {
-            last = Some((k, *view));
+            last = Some((k, view.frame));
         }
     }
     last

@@ -201,9 +201,9 @@ fn view_below(views: &[View], x: i32, y: i32) -> u16
     let mut place = (x, y);
     for _step in 0..views.len() {
         match last_child_at(views, view, place.0, place.1) {
-            Some((child, found)) => {
+            Some((child, frame)) => {
                 view = child as u16;
-                place = within(place, found.frame);
+                place = within(place, frame);
             }
             None => return view,
         }

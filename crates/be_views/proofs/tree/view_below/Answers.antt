@@ -8,4 +8,4 @@ loop-step-preserved c =
     let f : SFits w32 c.loop-step.place.0 = search rules in
     let g : SFits w32 c.loop-step.place.1 = search rules in
     let child = simp to_z-of_z at c.in-Some.ensures.child in
-    next_below (length c.args.views.now) c.loop-step._step c.args.views.now c.loop-step.view c.loop-step.place.0 c.loop-step.place.1 (c.in-Some.child, c.in-Some.found) c.within-place.result.0 c.within-place.result.1 _ c.loop-step-test.true child c.within-place.ensures.across c.within-place.ensures.down c.loop-step.invariant
+    next_below (length c.args.views.now) c.loop-step._step c.args.views.now c.loop-step.view c.loop-step.place.0 c.loop-step.place.1 (c.in-Some.child, c.in-Some.frame) c.within-place.result.0 c.within-place.result.1 _ c.loop-step-test.true child c.within-place.ensures.across c.within-place.ensures.down c.loop-step.invariant
