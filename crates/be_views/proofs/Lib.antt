@@ -1,1 +1,2 @@
 pub mod ChildLemmas
+pub mod PlaceLemmas

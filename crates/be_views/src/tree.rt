@@ -1,8 +1,9 @@
 ghost use Rattle.be_geom.specs.Rects.{rect_has};
-ghost use Rattle.std.specs.Prelude.{◌≡◌, ◌<◌, ◌≤◌, ◌↔◌, ℕ, true, pos, ◌-ℤ◌, ◌≤ℤ◌, ◌∷◌, [], length, slice_get, option_map, option_and_then, vec_len, vec_capacity, IfOk, OnOk, OnErr, IsNone};
-ghost use Rattle.be_views.specs.Trees.{parent_of};
+ghost use Rattle.std.specs.Prelude.{◌≡◌, ◌<◌, ◌≤◌, ◌↔◌, ℕ, true, pos, ◌-ℤ◌, ◌≤ℤ◌, ◌∷◌, [], length, slice_get, option_map, option_and_then, vec_len, vec_capacity, IfOk, IfSome, OnOk, OnErr, IsNone};
+ghost use Rattle.be_views.specs.Trees.{parent_of, place_of, place_from};
 ghost use Rattle.be_views.specs.Pixels.{view_at, view_below};
 ghost use Rattle.be_views.specs.Whole.{IsTree, root_view, with_view, depth_from, depth_of};
+ghost use Rattle.be_views.specs.Places.{pair_of, IsNear};
 
 use crate::children::{has_pixel, last_child_at};
 use crate::fault::ViewFault;
@@ -57,7 +58,7 @@ impl ViewTree {
             ↔ ((parent < length self.old) × (8 ≤ depth_of self.old parent)) }
         ensures too_many { (result ≡ Err ViewFault.TooMany)
             ↔ ((parent < length self.old) × (depth_of self.old parent < 8)
-            × (length self.old ≡ 32)) }
+                × (length self.old ≡ 32)) }
         ensures number { IfOk result (λ view. view ≡ length self.old) }
         ensures added { IfOk result (λ view. self.new ≡ with_view self.old parent frame mode) }
         ensures err { OnErr result (self.new ≡ self.old) }
@@ -118,6 +119,14 @@ impl ViewTree {
         self.views.get(usize::from(view))?.parent
     }
 
+    /// A view's left top within the window: `BView::ConvertToParent` up to the window. None where there is
+    /// no such view.
+    pub fn place_of(&self, view: u16) -> Option<(i32, i32)>
+        ensures { result ≡ option_map pair_of (place_of self.now view) }
+    {
+        place_from(self.views.len(), &self.views, view)
+    }
+
     /// The view at a pixel of the window. None outside the root.
     pub fn view_at(&self, x: i32, y: i32) -> Option<u16>
         ensures { result ≡ view_at self.now x y }
@@ -166,6 +175,28 @@ fn make_room(views: &mut Vec<View>) -> Result<(), NoMemory>
 {
     views.reserve(1)?;
     Ok(())
+}
+
+/// A view's left top within the window, in so many steps at most.
+fn place_from(steps: usize, views: &[View], v: u16) -> Option<(i32, i32)>
+    requires { steps ≤ 32 }
+    ensures place { result ≡ option_map pair_of (place_from steps views.now v) }
+    ensures across { IfSome result (λ place. IsNear steps place.0) }
+    ensures down { IfSome result (λ place. IsNear steps place.1) }
+{
+    if steps == 0 {
+        return None;
+    }
+    let view = views.get(usize::from(v))?;
+    let left = i32::from(view.frame.left);
+    let top = i32::from(view.frame.top);
+    match view.parent {
+        Some(parent) => {
+            let place = place_from(steps - 1, views, parent)?;
+            Some((left + place.0, top + place.1))
+        }
+        None => Some((left, top)),
+    }
 }
 
 /// How deep a view is.

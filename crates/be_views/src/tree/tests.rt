@@ -42,14 +42,15 @@ fn finds_the_later_of_two_children(rt: HostRuntime) -> Result<(), Fail> {
         assert_eq!(rt; tree.view_at(x, y), view, "at {x}, {y}");
     }
     let same = tree.copy()?;
-    for (view, parent, frame) in [
-        (0, None, Some(rect(0, 0, 9, 9))),
-        (1, Some(0), Some(rect(1, 1, 5, 5))),
-        (3, Some(1), Some(rect(0, 0, 0, 0))),
-        (4, Some(2), Some(rect(1, 1, 20, 1))),
-        (5, None, None),
+    for (view, parent, place, frame) in [
+        (0, None, Some((0, 0)), Some(rect(0, 0, 9, 9))),
+        (1, Some(0), Some((1, 1)), Some(rect(1, 1, 5, 5))),
+        (3, Some(1), Some((1, 1)), Some(rect(0, 0, 0, 0))),
+        (4, Some(2), Some((4, 4)), Some(rect(1, 1, 20, 1))),
+        (5, None, None, None),
     ] {
         assert_eq!(rt; same.parent(view), parent, "of {view}");
+        assert_eq!(rt; same.place_of(view), place, "of {view}");
         assert_eq!(rt; same.frame_of(view), frame, "of {view}");
     }
     assert_eq!(rt; same.len(), 5);
