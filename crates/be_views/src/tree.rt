@@ -58,7 +58,7 @@ impl ViewTree {
             ↔ ((parent < length self.old) × (8 ≤ depth_of self.old parent)) }
         ensures too_many { (result ≡ Err ViewFault.TooMany)
             ↔ ((parent < length self.old) × (depth_of self.old parent < 8)
-                × (length self.old ≡ 32)) }
+            × (length self.old ≡ 32)) }
         ensures number { IfOk result (λ view. view ≡ length self.old) }
         ensures added { IfOk result (λ view. self.new ≡ with_view self.old parent frame mode) }
         ensures err { OnErr result (self.new ≡ self.old) }
