@@ -1,3 +1,5 @@
+-- The frame of a view after its parent's size has changed (The Be Book: the following modes of BView; that a resize makes
+-- no stop on its way is this project's own).
 use Rattle.std.specs.Prelude.{◌≡◌, ℤ, ◌+ℤ◌}
 use Rattle.be_geom.specs.declared.rect.Rect.{Rect}
 use Rattle.be_follow.specs.declared.mode.Follow.{Follow}

@@ -1,3 +1,4 @@
+-- Whole coordinates and their range (this project's own; The Be Book has floats).
 use Rattle.std.specs.Prelude.{ℤ, Bool, pos, negsuc, ◌&&◌, int_le}
 
 -- the number is neither below low nor above high

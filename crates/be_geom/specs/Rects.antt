@@ -1,3 +1,5 @@
+-- Rectangles as sets of pixels (The Be Book: BRect, whose right and bottom edges belong to it; whole numbers and their
+-- range are this project's own).
 use Rattle.std.specs.Prelude.{◌≡◌, ℤ, Bool, false, ◌+ℤ◌, ◌&&◌}
 use Rattle.be_geom.specs.declared.rect.Rect.{Rect}
 use Rattle.be_geom.specs.Points.{in_range, between}

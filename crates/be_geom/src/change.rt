@@ -4,9 +4,9 @@ use crate::point::Point;
 /// sizes are in pixels of the screen.
 #[derive(Clone, Copy, Debug, PartialEq, Eq)]
 pub enum Change {
-    /// `BWindow::Show`: one less hide counts.
+    /// `BWindow::Show`: one hide less is counted.
     Show,
-    /// `BWindow::Hide`: one more hide counts.
+    /// `BWindow::Hide`: one hide more is counted.
     Hide,
     /// `BWindow::MoveTo`: the left top corner goes to a pixel, and the size stays.
     MoveTo(Point),

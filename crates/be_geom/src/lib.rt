@@ -1,7 +1,8 @@
 //! Points, rectangles and the changes of a window, as plain values.
 //!
-//! y grows downwards, a coordinate lies in -32768 to 32767, and a rectangle includes its right and
-//! bottom edges. Every call takes a constant number of steps and no memory.
+//! Coordinates are whole numbers of 16 bits with a sign, and grow to the right and downwards. The
+//! right and bottom edges of a rectangle belong to it. Every call takes a constant number of steps
+//! and no memory.
 #![tactic(auto)]
 
 mod change;

@@ -1,4 +1,4 @@
--- A value written as a list of tokens that gives it back, by which two values are told apart.
+-- A value written as a list of tokens that gives it back, by which two values are told apart (this project's own).
 use Rattle.std.specs.Prelude.{◌≡◌, refl, ◌⊎◌, ◌==◌, if◌then◌else◌, ℕ, ℤ, Bool, List, [], ◌∷◌}
 use Rattle.std.proofs.Common.{inl, inr}
 use Rattle.std.specs.Coded.{Coded, code_by, coded×, coded⊎, coded_list, coded_ℕ, coded_ℤ, coded_bool}

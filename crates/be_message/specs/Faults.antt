@@ -1,4 +1,4 @@
--- What a fault that hands a value back says: the value, and the reason.
+-- What a fault that hands a value back says: the value, and the reason (this project's own).
 use Rattle.std.specs.Prelude.{◌≡◌, Option, Some, None}
 use Rattle.be_message.specs.declared.value.Value.{Value}
 use Rattle.be_message.specs.declared.fault.AddFault.{AddFault}

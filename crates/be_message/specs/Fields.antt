@@ -1,4 +1,5 @@
--- What a message has under a name, and what each change makes of its fields.
+-- What a message has under a name, and what each change makes of its fields (The Be Book: BMessage, Add, Find, Replace,
+-- RemoveName; the reasons of a refusal are this project's own).
 use Rattle.std.specs.Prelude.{ℕ, suc, Bool, true, not, nat_le, if◌then◌else◌, List, [], ◌∷◌, ◌++◌, length, map, filter, find, slice_get, slice_set, Option, Some, None, Result, Ok, Err}
 use Rattle.std.specs.List.{list_any}
 use Rattle.std.specs.Str.{bytes_eq}

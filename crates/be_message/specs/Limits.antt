@@ -1,4 +1,4 @@
--- How much a message can hold.
+-- How much a message can hold (the numbers are this project's own).
 use Rattle.std.specs.Prelude.{ℕ}
 
 abbrev pub most_fields : ℕ

@@ -1,4 +1,4 @@
--- What a message is: its what, and its fields in order of first adding.
+-- What a message is: its what, and its fields in order of first adding (The Be Book: BMessage).
 use Rattle.std.specs.Prelude.{ℕ, ℤ, Bool, List, [], ◌∷◌}
 use Rattle.be_geom.specs.declared.point.Point.{Point}
 use Rattle.be_geom.specs.declared.rect.Rect.{Rect}

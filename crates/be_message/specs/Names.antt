@@ -1,4 +1,4 @@
--- Which bytes are a field's name, and which are a text that a message can hold.
+-- Which bytes are a field's name, and which are a text that a message can hold (this project's own).
 use Rattle.std.specs.Prelude.{ℕ, Bool, false, ◌==◌, ◌&&◌, ◌||◌, nat_le, List, [], ◌∷◌, length}
 use Rattle.std.specs.List.{list_all}
 use Rattle.std.specs.Char.{is_ascii_digit, is_ascii_lowercase}

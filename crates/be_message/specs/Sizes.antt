@@ -1,4 +1,4 @@
--- Each message within a message is less deep.
+-- Each message within a message is less deep (this project's own).
 use Rattle.std.specs.Prelude.{◌≤◌, ◌+◌, List, [], ◌∷◌}
 use Rattle.std.proofs.Common.{arith}
 use denote.Param.Weighed.{most}

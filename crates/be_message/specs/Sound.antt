@@ -1,4 +1,5 @@
--- What is true of every message, and of each message within it.
+-- What is true of every message, and of each message within it (this project's own, but that the values of a field have
+-- one type).
 use Rattle.std.specs.Prelude.{◌≡◌, ◌≤◌, ◌<◌, ◌^◌, ℕ, suc, ℤ, Bool, true, not, ◌&&◌, List, FitsSigned}
 use Rattle.std.specs.Int.{w16, w32}
 use Rattle.std.specs.Str.{bytes_eq}

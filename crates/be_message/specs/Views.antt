@@ -1,4 +1,4 @@
--- The message that a value of the code stands for.
+-- The message that a value of the code stands for (this project's own).
 use Rattle.std.specs.Prelude.{◌≡◌, List, map, string_bytes, Result, Ok, Err}
 use Rattle.be_message.specs.declared.fault.FindFault.{FindFault}
 use Rattle.be_message.specs.declared.field.Field.{Field}

@@ -1,3 +1,4 @@
+-- The smallest rectangle round a region (The Be Book: BRegion, Frame).
 use Rattle.std.specs.Prelude.{◌≡◌, ℤ, true, List}
 use Rattle.std.specs.Int.{int_max, int_min}
 use Rattle.be_geom.specs.declared.rect.Rect.{Rect}

@@ -1,4 +1,4 @@
--- Where in the order of its rectangles a region is asked for a pixel.
+-- Where in the order of its rectangles a region is asked for a pixel (this project's own).
 use Rattle.std.specs.Prelude.{ℤ, Bool, ◌&&◌, ◌||◌, int_lt, int_le}
 use Rattle.be_geom.specs.declared.rect.Rect.{Rect}
 

@@ -1,3 +1,5 @@
+-- Sets of pixels as lists of rectangles, and what the calls make of them (The Be Book: BRegion, Include, Exclude,
+-- IntersectWith, OffsetBy, Contains; that a set that leaves the range isn't moved is this project's own).
 use Rattle.std.specs.Prelude.{◌≡◌, ℤ, ◌+ℤ◌, ◌-ℤ◌, ◌≤ℤ◌, Bool, true, false, not, ◌&&◌, ◌||◌, List}
 use Rattle.std.specs.List.{list_any}
 use Rattle.be_geom.specs.declared.rect.Rect.{Rect}

@@ -1,4 +1,4 @@
--- The bands of a region, one by one.
+-- The bands of a region, one by one (this project's own).
 use Rattle.std.specs.Prelude.{◌≡◌, ◌<◌, ℤ, pos, negsuc, ◌+ℤ◌, ◌≤ℤ◌, ◌<ℤ◌, ◌⊎◌, Bool, true, false, List, [], ◌∷◌, length, All}
 use Rattle.std.specs.List.{list_any, AllPairs}
 use Rattle.be_geom.specs.declared.rect.Rect.{Rect}

@@ -1,4 +1,4 @@
--- Which pixels of two regions are kept.
+-- Which pixels of two regions are kept (The Be Book: BRegion, Include, Exclude, IntersectWith).
 use Rattle.std.specs.Prelude.{Bool, not, ◌&&◌, ◌||◌}
 use Rattle.be_region.specs.declared.rule.Rule.{Rule}
 use Rattle.be_region.specs.declared.rule.Rule.TheVariants.{Union, Difference, Intersection}

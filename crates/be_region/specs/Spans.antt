@@ -1,4 +1,4 @@
--- The spans of a band that is being made.
+-- The spans of a band that is being made (this project's own).
 use Rattle.std.specs.Prelude.{◌≡◌, ℤ, pos, negsuc, ◌+ℤ◌, ◌-ℤ◌, ◌≤ℤ◌, ◌<ℤ◌, Bool, false, not, ◌||◌, List, [], ◌∷◌, ◌++◌, map, All, Option, Some, None, int_le}
 use Rattle.std.specs.List.{list_any}
 use Rattle.be_geom.specs.declared.rect.Rect.{Rect}

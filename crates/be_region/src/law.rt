@@ -1,6 +1,6 @@
 ghost use Rattle.be_region.specs.Bands.{SamePixelsSameBands};
 
-/// Two regions with the same pixels have the same rectangles in the same order.
+/// Regions of the same pixels are lists of the same rectangles, one by one.
 pub fn same_pixels_same_bands()
     ensures { SamePixelsSameBands }
 {}

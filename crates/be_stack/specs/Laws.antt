@@ -1,4 +1,4 @@
--- What no change of a window breaks.
+-- What no change of a window breaks (this project's own).
 use Rattle.std.specs.Prelude.{◌≡◌, ℕ, Ok}
 use Rattle.be_geom.specs.declared.change.Change.{Change}
 use Rattle.be_stack.specs.Windows.{Windows}

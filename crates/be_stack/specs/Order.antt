@@ -1,4 +1,5 @@
--- Windows by their numbers, from front to back.
+-- Windows by their numbers, from front to back (The Be Book: windows lie in front of each other; numbers are this
+-- project's own).
 use Rattle.std.specs.Prelude.{ℕ, ◌==◌, not, List, [], ◌∷◌, filter, if◌then◌else◌}
 
 -- the order without a window

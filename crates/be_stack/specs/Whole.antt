@@ -1,4 +1,4 @@
--- What holds of every stack.
+-- What holds of every stack (this project's own).
 use Rattle.std.specs.Prelude.{◌≡◌, ℕ, true, ◌≤◌, ◌==◌, length, Some, count_by, if◌then◌else◌}
 use Rattle.be_stack.specs.Windows.{Windows, is_open, is_shown}
 
