@@ -1,5 +1,5 @@
 -- A commit keeps the rule.
-use Rattle.std.proofs.Common.{◌≡◌, ℕ, suc, ◌+◌, ◌%◌, ◌^◌, ◌<◌, ◌≢◌, List, [], ◌∷◌, ◌++◌, map, length, get_or, set, Option, sym, refl, ap, ◌∙◌, subst, ⊎_elim, arith, length-set, get_or-set_other, get_or-set_same}
+use Rattle.std.proofs.Common.{◌≡◌, ℕ, suc, ◌+◌, ◌*◌, ◌%◌, ◌^◌, ◌<◌, ◌≢◌, List, [], ◌∷◌, ◌++◌, map, length, get_or, set, Option, sym, refl, ap, ◌∙◌, subst, ⊎_elim, arith, length-set, get_or-set_other, get_or-set_same}
 use mathlib.Core.Option.{none, some, some-injective, some-ne-none}
 use mathlib.Core.Option as opt
 use lib.ListN.{get_elem?}
@@ -114,8 +114,8 @@ module _ {P M E T : Type 0} (machine : P → Machine M E) (meaning : T → M) (l
         all = ap length lead ∙ (as_long now e r.sound permits ∙ r.all);
         all_logs = t.as_many ∙ r.all_logs;
         home = λ p free. let k = r.home p free in let same = mine_not p free in
-            (get_or-set_other s.words 0 (p + 2) n 0 (λ z. omega arith) ∙ k.0, (k.1.0, k.1.1, ap (λ (l : List M). get_elem? l p) lead ∙ (same.0 ∙ k.1.2), same.1 ∙ k.1.3));
-        out = λ p j taken. let k = r.out p j taken in (get_or-set_other s.words 0 (p + 2) n 0 (λ z. omega arith) ∙ k.0, k.1);
+            (get_or-set_other s.words 0 (8 * p + 16) n 0 (λ z. omega arith) ∙ k.0, (k.1.0, k.1.1, ap (λ (l : List M). get_elem? l p) lead ∙ (same.0 ∙ k.1.2), same.1 ∙ k.1.3));
+        out = λ p j taken. let k = r.out p j taken in (get_or-set_other s.words 0 (8 * p + 16) n 0 (λ z. omega arith) ∙ k.0, k.1);
         held = λ p j taken. held_renewed s.views id me.0 w p j at (has_by_places me.0.marks t.zs p t.same_places) (r.held p j taken);
         marked = λ j v there_v y has. ⊎_elim
             (λ (q : (j ≡ id) × (w ≡ v)). let k = t.ties y (subst (λ (u : V). Has u.marks y) (sym q.1) has) in
@@ -143,7 +143,7 @@ module _ {P M E T : Type 0} (machine : P → Machine M E) (meaning : T → M) (l
         sound = subst x.sound (sym lead) (lawful.stays_sound now e r.sound permits);
         in_logs = t.in_logs;
         in_one_log = λ k. let was = r.in_one_log k in let now_one = t.in_one_log k in let more : once (length h') k ≡ once (length h) k + one_if (suc (length h)) k = ap (λ (c : ℕ). once c k) long in let same : one_if (length h + 1) k ≡ one_if (suc (length h)) k = ap (λ (c : ℕ). one_if c k) (omega arith) in omega arith;
-        stops = stop_set (get_or s.words 1 0) (get_or (set s.words 0 n) 1 0) s.views id me.0 w (get_or-set_other s.words 0 1 n 0 (λ z. omega arith)) at refl refl r.stops;
+        stops = stop_set (get_or s.words 8 0) (get_or (set s.words 0 n) 8 0) s.views id me.0 w (get_or-set_other s.words 0 8 n 0 (λ z. omega arith)) at refl refl r.stops;
         about = λ j v b there_v is. ⊎_elim
             (λ (q : (j ≡ id) × (w ≡ v)). r.about id me.0 b at (ap (λ (u : V). u.about) q.1 ∙ is))
             (λ (q : (j ≢ id) × (get_elem? s.views j ≡ some v)). r.about j v b q.1 is)

@@ -1,5 +1,5 @@
 -- A hall that was just made meets the rule.
-use Rattle.std.proofs.Common.{rules, ◌⊎◌, inl, ⊎_elim, true, ◌≡◌, ℕ, zero, suc, ◌+◌, ◌≤◌, List, [], ◌∷◌, map, length, get_or, replicate, All, Option, Some, sym, refl, ap, ◌∙◌, subst, arith}
+use Rattle.std.proofs.Common.{rules, ◌⊎◌, inl, ⊎_elim, true, ◌≡◌, ℕ, zero, suc, ◌+◌, ◌*◌, ◌≤◌, List, [], ◌∷◌, map, length, get_or, replicate, All, Option, Some, sym, refl, ap, ◌∙◌, subst, arith}
 use Rattle.std.proofs.lemmas.List.Elements.{All-head, All-tail}
 use mathlib.Core.Option.{none, some, some-injective, some-ne-none}
 use mathlib.Core.Option as opt
@@ -51,14 +51,14 @@ module _ {P M E T : Type 0} (machine : P → Machine M E) (meaning : T → M) (l
   no_log (y ∷ ys) all zero x e = subst (λ (z : T). log z ≡ []) (some-injective y x e) (All-head (λ z. log z ≡ []) y ys all)
   no_log (y ∷ ys) all (suc p) x e = no_log ys (All-tail (λ z. log z ≡ []) y ys all) p x e
 
-  pub opens : (a : About P M) (words : List ℕ) (parts : List T) → words ≡ zeros_of (length parts + 2) → a.opening ≡ map meaning parts → (machine a.rules).sound a.opening
+  pub opens : (a : About P M) (words : List ℕ) (parts : List T) → words ≡ zeros_of (8 * length parts + 16) → a.opening ≡ map meaning parts → (machine a.rules).sound a.opening
       → total (machine a.rules).budget a.opening ≤ a.limit → a.limit ≤ 4611686018427387904 → AllFit (machine a.rules).fits 0 a.opening → All (λ x. log x ≡ []) parts → Kept machine meaning log a (opening words (map Some parts) (blank a))
   opens a words parts all_zeros is sound budgets limit fit logs =
       let homes : List (opt.Option (Option T)) = map some (map Some parts) in
       let homes_long : length homes ≡ length parts = map_long some (map Some parts) ∙ map_long Some parts in
       let holders : List (opt.Option ℕ) = map (λ (x : T). none) parts in
-      let words_long : length words ≡ length parts + 2 = ap length all_zeros ∙ zeros_long (length parts + 2) in
-      let zero_at : (p : ℕ) → get_or words p 0 ≡ 0 = λ p. ap (λ (l : List ℕ). get_or l p 0) all_zeros ∙ all_zero (length parts + 2) p in
+      let words_long : length words ≡ 8 * length parts + 16 = ap length all_zeros ∙ zeros_long (8 * length parts + 16) in
+      let zero_at : (p : ℕ) → get_or words p 0 ≡ 0 = λ p. ap (λ (l : List ℕ). get_or l p 0) all_zeros ∙ all_zero (8 * length parts + 16) p in
       record {
         history = [];
         holders = holders;
@@ -68,7 +68,7 @@ module _ {P M E T : Type 0} (machine : P → Machine M E) (meaning : T → M) (l
         all = ap length is ∙ (map_long meaning parts ∙ sym homes_long);
         all_logs = map_long log parts ∙ sym homes_long;
         home = λ p e. let t = map_from (λ (x : T). none) parts p none e in
-            (zero_at (p + 2), (t.0, at_map some (map Some parts) p (Some t.0) (at_map Some parts p t.0 t.1), ap (λ (l : List M). get_elem? l p) is ∙ at_map meaning parts p t.0 t.1, at_map log parts p t.0 t.1));
+            (zero_at (8 * p + 16), (t.0, at_map some (map Some parts) p (Some t.0) (at_map Some parts p t.0 t.1), ap (λ (l : List M). get_elem? l p) is ∙ at_map meaning parts p t.0 t.1, at_map log parts p t.0 t.1));
         out = λ p id e. let t = map_from (λ (x : T). none) parts p (some id) e in absurd (some-ne-none id (sym t.2));
         held = λ p id e. let t = map_from (λ (x : T). none) parts p (some id) e in absurd (some-ne-none id (sym t.2));
         marked = λ j v e y h. absurd (only_one (λ (u : View P M E). Has u.marks y → ⊥) (blank a) (λ k. k) j v e h);
@@ -82,7 +82,7 @@ module _ {P M E T : Type 0} (machine : P → Machine M E) (meaning : T → M) (l
         sound = sound;
         in_logs = λ p l e. let t = map_from log parts p l e in subst (InHistory []) (sym (no_log parts logs p t.0 t.1) ∙ t.2) tt;
         in_one_log = λ n. none_logged parts logs n;
-        stops = record { bit = inl (zero_at 1); told = λ j v e says. absurd (only_one (λ (u : View P M E). (u.raised ≡ true) ⊎ (u.knows ≡ true) → ⊥) (blank a) (λ k. ⊎_elim (λ z. grind rules) (λ z. grind rules) k) j v e says); raiser = λ one. let z = zero_at 1 in absurd (omega arith) };
+        stops = record { bit = inl (zero_at 8); told = λ j v e says. absurd (only_one (λ (u : View P M E). (u.raised ≡ true) ⊎ (u.knows ≡ true) → ⊥) (blank a) (λ k. ⊎_elim (λ z. grind rules) (λ z. grind rules) k) j v e says); raiser = λ one. let z = zero_at 8 in absurd (omega arith) };
         about = λ j v b e about_b. only_one (λ (u : View P M E). u.about ≡ b ∷ [] → b ≡ a) (blank a) (λ k. let f = ap (λ (l : List (About P M)). first_of b l) k in sym f) j v e about_b;
       } where
         first_of : About P M → List (About P M) → About P M

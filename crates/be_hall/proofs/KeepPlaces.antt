@@ -1,5 +1,5 @@
 -- Marking a place and giving it back keep the rule.
-use Rattle.std.proofs.Common.{◌≡◌, ℕ, ◌+◌, ◌-◌, ◌<◌, ◌≤◌, ◌≢◌, eqb, List, [], ◌∷◌, ◌++◌, length, get_or, set, Option, Some, sym, refl, ap, ◌∙◌, subst, ⊎_elim, arith, length-set, get_or-set_other, get_or-set_same, eq-eqb, ne_eqb}
+use Rattle.std.proofs.Common.{◌≡◌, ℕ, ◌+◌, ◌*◌, ◌-◌, ◌/◌, ◌<◌, ◌≤◌, ◌≢◌, eqb, List, [], ◌∷◌, ◌++◌, length, get_or, set, Option, Some, sym, refl, ap, ◌∙◌, subst, ⊎_elim, arith, length-set, get_or-set_other, get_or-set_same, eq-eqb, ne_eqb}
 use mathlib.Core.Logic.{dite}
 use mathlib.Core.Option.{none, some, some-injective, some-ne-none}
 use mathlib.Core.Option as opt
@@ -17,7 +17,7 @@ use Rattle.be_hall.specs.Machine.{AllFit, Machine, leads}
 use Rattle.be_hall.specs.Views.{HasPlace, mark, Has, but_last, times, counted, marking, missing, letting_go, spent}
 use Rattle.be_hall.specs.History.{Knows, RisesOver, EachRises, AllStand, EachStand}
 use Rattle.be_hall.specs.Rule.{HoldsMark, Tied, AtHome, Kept}
-use Rattle.be_hall.specs.Steps.{tries, lets_go, looks, Sees}
+use Rattle.be_hall.specs.Steps.{tries, lets_go, looks, glances, Sees}
 use Rattle.be_hall.proofs.Stopping.{stop_set}
 use Rattle.be_hall.proofs.Marked.{has_snoc, has_left, has_last, but_last_snoc, place_before, held_renewed}
 use Rattle.be_hall.proofs.Growth.{there, inside, total_set, fits_known, fits_logs}
@@ -105,13 +105,13 @@ module _ {P M E T : Type 0} (machine : P → Machine M E) (meaning : T → M) (l
     sound = r.sound;
     in_logs = r.in_logs;
     in_one_log = r.in_one_log;
-    stops = stop_set (get_or s.words 1 0) (get_or s.words 1 0) s.views id me.0 w refl at same.raised same.knows r.stops;
+    stops = stop_set (get_or s.words 8 0) (get_or s.words 8 0) s.views id me.0 w refl at same.raised same.knows r.stops;
     about = still_about s r id me.0 w at same;
   }
 
   -- the place p, which was free, goes to the seat id
   takes_it : (s : St) (r : Rule s) (p id : ℕ) (me : Own) (y : T) → get_elem? s.views id ≡ some me.0 → get_elem? r.holders p ≡ some none → get_elem? s.homes p ≡ some (some (Some y))
-      → Tied (leads x a.opening r.history) r.logs (mark p (meaning y) (log y)) → Rule (stepped s (p + 2) 1 id me.1 (marking me.0 (mark p (meaning y) (log y))) (takes p (Some y)))
+      → Tied (leads x a.opening r.history) r.logs (mark p (meaning y) (log y)) → Rule (stepped s (8 * p + 16) 1 id me.1 (marking me.0 (mark p (meaning y) (log y))) (takes p (Some y)))
   takes_it s r p id me y at free here tied =
       let long = r.long in
       let wide = r.wide in
@@ -124,22 +124,22 @@ module _ {P M E T : Type 0} (machine : P → Machine M E) (meaning : T → M) (l
         history = r.history;
         holders = set r.holders p (some id);
         logs = r.logs;
-        wide = length-set s.words (p + 2) 1 ∙ (wide ∙ ap (λ (n : ℕ). n + 2) (sym homes_long));
+        wide = length-set s.words (8 * p + 16) 1 ∙ (wide ∙ ap (λ (n : ℕ). 8 * n + 16) (sym homes_long));
         long = length-set r.holders p (some id) ∙ (long ∙ sym homes_long);
         all = r.all ∙ sym homes_long;
         all_logs = r.all_logs ∙ sym homes_long;
         home = λ q e. ⊎_elim
             (λ (t : (q ≡ p) × (some id ≡ none)). absurd (some-ne-none id t.1))
             (λ (t : (q ≢ p) × (get_elem? r.holders q ≡ some none)). let h = r.home q t.1 in
-            (get_or-set_other s.words (p + 2) (q + 2) 1 0 (λ z. t.0 (omega arith)) ∙ h.0, (h.1.0, set_else s.homes p q none t.0 ∙ h.1.1, h.1.2, h.1.3)))
+            (get_or-set_other s.words (8 * p + 16) (8 * q + 16) 1 0 (λ z. t.0 (omega arith)) ∙ h.0, (h.1.0, set_else s.homes p q none t.0 ∙ h.1.1, h.1.2, h.1.3)))
             (at_set r.holders p q (some id) none e);
         out = λ q j e. ⊎_elim
             (λ (t : (q ≡ p) × (some id ≡ some j)). (
-              ap (λ (n : ℕ). get_or (set s.words (p + 2) 1) (n + 2) 0) t.0 ∙ get_or-set_same s.words (p + 2) 1 0 (omega arith),
+              ap (λ (n : ℕ). get_or (set s.words (8 * p + 16) 1) (8 * n + 16) 0) t.0 ∙ get_or-set_same s.words (8 * p + 16) 1 0 (omega arith),
               ap (get_elem? (set s.homes p none)) t.0 ∙ set_here s.homes p none (omega arith),
             ))
             (λ (t : (q ≢ p) × (get_elem? r.holders q ≡ some (some j))). let h = r.out q j t.1 in
-            (get_or-set_other s.words (p + 2) (q + 2) 1 0 (λ z. t.0 (omega arith)) ∙ h.0, set_else s.homes p q none t.0 ∙ h.1))
+            (get_or-set_other s.words (8 * p + 16) (8 * q + 16) 1 0 (λ z. t.0 (omega arith)) ∙ h.0, set_else s.homes p q none t.0 ∙ h.1))
             (at_set r.holders p q (some id) (some j) e);
         held = λ q j e. ⊎_elim
             (λ (t : (q ≡ p) × (some id ≡ some j)).
@@ -157,7 +157,7 @@ module _ {P M E T : Type 0} (machine : P → Machine M E) (meaning : T → M) (l
             (λ (t : (j ≢ id) × (get_elem? s.views j ≡ some v)). let o = r.marked j v t.1 z h in
             (set_else r.holders p z.place (some id) (other z.place j o.0) ∙ o.0, o.1))
             (at_set s.views id j w v e);
-        clock = get_or-set_other s.words (p + 2) 0 1 0 (λ z. omega arith) ∙ r.clock;
+        clock = get_or-set_other s.words (8 * p + 16) 0 1 0 (λ z. omega arith) ∙ r.clock;
         knows = still_knows s r id me.0 w at same;
         each_once = same_total s r id me.0 w at same;
         bound = r.bound;
@@ -167,19 +167,19 @@ module _ {P M E T : Type 0} (machine : P → Machine M E) (meaning : T → M) (l
         sound = r.sound;
         in_logs = r.in_logs;
         in_one_log = r.in_one_log;
-        stops = stop_set (get_or s.words 1 0) (get_or (set s.words (p + 2) 1) 1 0) s.views id me.0 w (get_or-set_other s.words (p + 2) 1 1 0 (λ z. omega arith)) at same.raised same.knows r.stops;
+        stops = stop_set (get_or s.words 8 0) (get_or (set s.words (8 * p + 16) 1) 8 0) s.views id me.0 w (get_or-set_other s.words (8 * p + 16) 8 1 0 (λ z. omega arith)) at same.raised same.knows r.stops;
         about = still_about s r id me.0 w at same;
       }
 
   -- a free place has the lock word 0, and a marked one has not
-  free_if : (s : St) (r : Rule s) (p : ℕ) → p < length s.homes → get_or s.words (p + 2) 0 ≡ 0 → get_elem? r.holders p ≡ some none
+  free_if : (s : St) (r : Rule s) (p : ℕ) → p < length s.homes → get_or s.words (8 * p + 16) 0 ≡ 0 → get_elem? r.holders p ≡ some none
   free_if s r p h zero_word = let long = r.long in let t = there r.holders p (omega arith) in
       by_option (λ o. get_elem? r.holders p ≡ some o → get_elem? r.holders p ≡ some none) (λ e. e) (λ id e. let o = r.out p id e in absurd (omega arith)) t.0 t.1
 
-  pub tries_keep : (slots id : ℕ) (me : Own) (p : ℕ) → p < slots → Allows Rule slots id me (p + 2) (λ n. either (eqb n 0) 1 n) (tries meaning log (step slots (p + 2) 0 1 none) me)
+  tries_keep : (slots id : ℕ) (me : Own) (p : ℕ) → p < slots → Allows Rule slots id me (8 * p + 16) (λ n. either (eqb n 0) 1 n) (tries meaning log (step slots (8 * p + 16) 0 1 none) me)
   tries_keep slots id me p fits s r count at _ =
-      let n : ℕ = get_or s.words (p + 2) 0 in
-      let back : p ≡ (p + 2) - 2 = omega arith in
+      let n : ℕ = get_or s.words (8 * p + 16) 0 in
+      let back : p ≡ ((8 * p + 16) - 16) / 8 = omega arith in
       let now : List M = leads x a.opening r.history in
       dite (ℕ_discrete n 0)
       (λ hit.
@@ -190,7 +190,7 @@ module _ {P M E T : Type 0} (machine : P → Machine M E) (meaning : T → M) (l
         marking me.0 mk,
         takes p (Some y),
         h.1,
-        subst (λ b. Rule (stepped s (p + 2) (either b 1 n) id me.1 (marking me.0 mk) (takes p (Some y)))) (sym (eq-eqb n 0 hit)) (takes_it s r p id me y at free h.1 (h.2, h.3)),
+        subst (λ b. Rule (stepped s (8 * p + 16) (either b 1 n) id me.1 (marking me.0 mk) (takes p (Some y)))) (sym (eq-eqb n 0 hit)) (takes_it s r p id me y at free h.1 (h.2, h.3)),
         (
           (λ _. (y, ap (λ (k : ℕ). (k, Some y) ∷ me.1) back, ap (λ (k : ℕ). marking me.0 (mark k (meaning y) (log y))) back)),
           λ no. absurd (no hit),
@@ -200,13 +200,16 @@ module _ {P M E T : Type 0} (machine : P → Machine M E) (meaning : T → M) (l
         missing me.0 p,
         keeps,
         tt,
-        subst (λ b. Rule (stepped s (p + 2) (either b 1 n) id me.1 (missing me.0 p) keeps)) (sym (ne_eqb n 0 miss)) (unmoved s r (p + 2) id me (missing me.0 p) at record { about = refl; seen = refl; own = refl; ended = refl; raised = refl; knows = refl } refl),
+        subst (λ b. Rule (stepped s (8 * p + 16) (either b 1 n) id me.1 (missing me.0 p) keeps)) (sym (ne_eqb n 0 miss)) (unmoved s r (8 * p + 16) id me (missing me.0 p) at record { about = refl; seen = refl; own = refl; ended = refl; raised = refl; knows = refl } refl),
         ((λ hit. absurd (miss hit)), λ _. (refl, ap (missing me.0) back)),
       ))
 
+  pub tries_keep_at : (slots id : ℕ) (me : Own) (p word : ℕ) → word ≡ 8 * p + 16 → p < slots → Allows Rule slots id me word (λ n. either (eqb n 0) 1 n) (tries meaning log (step slots word 0 1 none) me)
+  tries_keep_at slots id me p word is fits = subst (λ (w : ℕ). Allows Rule slots id me w (λ n. either (eqb n 0) 1 n) (tries meaning log (step slots w 0 1 none) me)) (sym is) (tries_keep slots id me p fits)
+
   -- the seat id gives back the place that it marked last
   lets_it_go : (s : St) (r : Rule s) (p id : ℕ) (me : Own) (y : T) (carried : List (ℕ × Option T)) (init : List (Mark M E)) → get_elem? s.views id ≡ some me.0
-      → me.0.marks ≡ init ++ mark p (meaning y) (log y) ∷ [] → ((z : Mark M E) → Has init z → z.place ≢ p) → Rule (stepped s (p + 2) 0 id ((p, Some y) ∷ carried) (letting_go me.0) gives)
+      → me.0.marks ≡ init ++ mark p (meaning y) (log y) ∷ [] → ((z : Mark M E) → Has init z → z.place ≢ p) → Rule (stepped s (8 * p + 16) 0 id ((p, Some y) ∷ carried) (letting_go me.0) gives)
   lets_it_go s r p id me y carried init at is apart =
       let long = r.long in
       let wide = r.wide in
@@ -222,20 +225,20 @@ module _ {P M E T : Type 0} (machine : P → Machine M E) (meaning : T → M) (l
         history = r.history;
         holders = set r.holders p none;
         logs = r.logs;
-        wide = length-set s.words (p + 2) 0 ∙ (wide ∙ ap (λ (n : ℕ). n + 2) (sym homes_long));
+        wide = length-set s.words (8 * p + 16) 0 ∙ (wide ∙ ap (λ (n : ℕ). 8 * n + 16) (sym homes_long));
         long = length-set r.holders p none ∙ (long ∙ sym homes_long);
         all = all ∙ sym homes_long;
         all_logs = r.all_logs ∙ sym homes_long;
         home = λ q e. ⊎_elim
-            (λ (t : (q ≡ p) × (none ≡ none)). subst (λ (k : ℕ). (get_or (set s.words (p + 2) 0) (k + 2) 0 ≡ 0) × AtHome meaning log now r.logs (set s.homes p (some (Some y))) k) (sym t.0)
-            (get_or-set_same s.words (p + 2) 0 0 (omega arith), (y, set_here s.homes p (some (Some y)) (omega arith), mine.1.0, mine.1.1)))
+            (λ (t : (q ≡ p) × (none ≡ none)). subst (λ (k : ℕ). (get_or (set s.words (8 * p + 16) 0) (8 * k + 16) 0 ≡ 0) × AtHome meaning log now r.logs (set s.homes p (some (Some y))) k) (sym t.0)
+            (get_or-set_same s.words (8 * p + 16) 0 0 (omega arith), (y, set_here s.homes p (some (Some y)) (omega arith), mine.1.0, mine.1.1)))
             (λ (t : (q ≢ p) × (get_elem? r.holders q ≡ some none)). let h = r.home q t.1 in
-            (get_or-set_other s.words (p + 2) (q + 2) 0 0 (λ z. t.0 (omega arith)) ∙ h.0, (h.1.0, set_else s.homes p q (some (Some y)) t.0 ∙ h.1.1, h.1.2, h.1.3)))
+            (get_or-set_other s.words (8 * p + 16) (8 * q + 16) 0 0 (λ z. t.0 (omega arith)) ∙ h.0, (h.1.0, set_else s.homes p q (some (Some y)) t.0 ∙ h.1.1, h.1.2, h.1.3)))
             (at_set r.holders p q none none e);
         out = λ q j e. ⊎_elim
             (λ (t : (q ≡ p) × (none ≡ some j)). absurd (some-ne-none j (sym t.1)))
             (λ (t : (q ≢ p) × (get_elem? r.holders q ≡ some (some j))). let h = r.out q j t.1 in
-            (get_or-set_other s.words (p + 2) (q + 2) 0 0 (λ z. t.0 (omega arith)) ∙ h.0, set_else s.homes p q (some (Some y)) t.0 ∙ h.1))
+            (get_or-set_other s.words (8 * p + 16) (8 * q + 16) 0 0 (λ z. t.0 (omega arith)) ∙ h.0, set_else s.homes p q (some (Some y)) t.0 ∙ h.1))
             (at_set r.holders p q none (some j) e);
         held = λ q j e. ⊎_elim
             (λ (t : (q ≡ p) × (none ≡ some j)). absurd (some-ne-none j (sym t.1)))
@@ -251,7 +254,7 @@ module _ {P M E T : Type 0} (machine : P → Machine M E) (meaning : T → M) (l
             (λ (t : (j ≢ id) × (get_elem? s.views j ≡ some v)). let o = r.marked j v t.1 z h in
             (set_else r.holders p z.place none (λ here. t.0 (some-injective j id (some-injective (some j) (some id) (sym o.0 ∙ (ap (get_elem? r.holders) here ∙ mine.0))))) ∙ o.0, o.1))
             (at_set s.views id j w v e);
-        clock = get_or-set_other s.words (p + 2) 0 0 0 (λ z. omega arith) ∙ r.clock;
+        clock = get_or-set_other s.words (8 * p + 16) 0 0 0 (λ z. omega arith) ∙ r.clock;
         knows = still_knows s r id me.0 w at same;
         each_once = same_total s r id me.0 w at same;
         bound = r.bound;
@@ -261,19 +264,24 @@ module _ {P M E T : Type 0} (machine : P → Machine M E) (meaning : T → M) (l
         sound = r.sound;
         in_logs = r.in_logs;
         in_one_log = r.in_one_log;
-        stops = stop_set (get_or s.words 1 0) (get_or (set s.words (p + 2) 0) 1 0) s.views id me.0 w (get_or-set_other s.words (p + 2) 1 0 0 (λ z. omega arith)) at same.raised same.knows r.stops;
+        stops = stop_set (get_or s.words 8 0) (get_or (set s.words (8 * p + 16) 0) 8 0) s.views id me.0 w (get_or-set_other s.words (8 * p + 16) 8 0 0 (λ z. omega arith)) at same.raised same.knows r.stops;
         about = still_about s r id me.0 w at same;
       }
 
-  pub lets_go_keeps : (slots id : ℕ) (me : Own) (p : ℕ) (y : T) (carried : List (ℕ × Option T)) (init : List (Mark M E)) → me.1 ≡ (p, Some y) ∷ carried → me.0.marks ≡ init ++ mark p (meaning y) (log y) ∷ []
-      → ((z : Mark M E) → Has init z → z.place ≢ p) → Allows Rule slots id me (p + 2) (λ _. 0) (λ _. lets_go (step slots (p + 2) 0 0 none) me 0)
+  lets_go_keeps : (slots id : ℕ) (me : Own) (p : ℕ) (y : T) (carried : List (ℕ × Option T)) (init : List (Mark M E)) → me.1 ≡ (p, Some y) ∷ carried → me.0.marks ≡ init ++ mark p (meaning y) (log y) ∷ []
+      → ((z : Mark M E) → Has init z → z.place ≢ p) → Allows Rule slots id me (8 * p + 16) (λ _. 0) (λ _. lets_go (step slots (8 * p + 16) 0 0 none) me 0)
   lets_go_keeps slots id me p y carried init out is apart s r _ at _ = (
     letting_go me.0,
     gives,
     tt,
-    subst (λ (c : List (ℕ × Option T)). Rule (stepped s (p + 2) 0 id c (letting_go me.0) gives)) (sym out) (lets_it_go s r p id me y carried init at is apart),
+    subst (λ (c : List (ℕ × Option T)). Rule (stepped s (8 * p + 16) 0 id c (letting_go me.0) gives)) (sym out) (lets_it_go s r p id me y carried init at is apart),
     (refl, refl),
   )
+
+  pub lets_go_keeps_at : (slots id : ℕ) (me : Own) (p word : ℕ) (y : T) (carried : List (ℕ × Option T)) (init : List (Mark M E)) → word ≡ 8 * p + 16 → me.1 ≡ (p, Some y) ∷ carried → me.0.marks ≡ init ++ mark p (meaning y) (log y) ∷ []
+      → ((z : Mark M E) → Has init z → z.place ≢ p) → Allows Rule slots id me word (λ _. 0) (λ _. lets_go (step slots word 0 0 none) me 0)
+  lets_go_keeps_at slots id me p word y carried init is out marks apart =
+      subst (λ (w : ℕ). Allows Rule slots id me w (λ _. 0) (λ _. lets_go (step slots w 0 0 none) me 0)) (sym is) (lets_go_keeps slots id me p y carried init out marks apart)
 
   -- what the history so far tells a view
   unfoldable pub sees : (s : St) (r : Rule s) (slots id : ℕ) (v : V) → get_elem? s.views id ≡ some v → length s.homes ≡ slots → Sees machine slots a (get_or s.words 0 0) v
@@ -306,5 +314,20 @@ module _ {P M E T : Type 0} (machine : P → Machine M E) (meaning : T → M) (l
     (
       refl,
       λ b about_b. let same : b ≡ a = r.about id me.0 b at about_b in subst (λ (z : About P M). Sees machine slots z (get_or s.words 0 0) me.0) (sym same) (sees s r slots id me.0 at count),
+    ),
+  )
+
+  pub glances_keeps : (slots id : ℕ) (me : Own) → Allows Rule slots id me 8 (λ n. n) (glances machine (step slots 8 0 0 none) me)
+  glances_keeps slots id me s r count at _ = (
+    me.0,
+    keeps,
+    tt,
+    unmoved s r 8 id me me.0 at record { about = refl; seen = refl; own = refl; ended = refl; raised = refl; knows = refl } refl,
+    (
+      refl,
+      λ b about_b. (
+        get_or s.words 0 0,
+        let same : b ≡ a = r.about id me.0 b at about_b in subst (λ (z : About P M). Sees machine slots z (get_or s.words 0 0) me.0) (sym same) (sees s r slots id me.0 at count),
+      ),
     ),
   )

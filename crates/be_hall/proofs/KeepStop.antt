@@ -1,5 +1,5 @@
 -- Raising stop, and asking for it, keep the rule.
-use Rattle.std.proofs.Common.{◌≡◌, ℕ, ◌+◌, ◌≤◌, ◌≢◌, ◌⊎◌, inl, inr, Bool, true, false, List, [], ◌∷◌, length, get_or, set, Option, sym, refl, ap, ◌∙◌, subst, ⊎_elim, arith, length-set, get_or-set_other, get_or-set_same}
+use Rattle.std.proofs.Common.{◌≡◌, ℕ, ◌+◌, ◌*◌, ◌≤◌, ◌≢◌, ◌⊎◌, inl, inr, Bool, true, false, List, [], ◌∷◌, length, get_or, set, Option, sym, refl, ap, ◌∙◌, subst, ⊎_elim, arith, length-set, get_or-set_other, get_or-set_same}
 use mathlib.Core.Option.{none, some}
 use lib.ListN.{get_elem?}
 use Rattle.atomic_table.specs.Table.{State, Me, step, keeps, stepped, Allows}
@@ -46,7 +46,7 @@ module _ {P M E T : Type 0} (machine : P → Machine M E) (meaning : T → M) (l
     pub ended : w.ended ≡ v.ended
     pub marks : w.marks ≡ v.marks
 
-  rung : (s : St) (r : Rule s) (n id : ℕ) (me : Own) (w : V) → get_elem? s.views id ≡ some me.0 → Near me.0 w → Stops (get_or (set s.words 1 n) 1 0) (set s.views id w) → Rule (stepped s 1 n id me.1 w keeps)
+  rung : (s : St) (r : Rule s) (n id : ℕ) (me : Own) (w : V) → get_elem? s.views id ≡ some me.0 → Near me.0 w → Stops (get_or (set s.words 8 n) 8 0) (set s.views id w) → Rule (stepped s 8 n id me.1 w keeps)
   rung s r n id me w at near stops =
       let wide = r.wide in
       let by : (Q : ℕ → V → Type 0) → Q id w → ((j : ℕ) (u : V) → get_elem? s.views j ≡ some u → Q j u) → (j : ℕ) (u : V) → get_elem? (set s.views id w) j ≡ some u → Q j u = λ Q mine rest j u e. ⊎_elim
@@ -58,15 +58,15 @@ module _ {P M E T : Type 0} (machine : P → Machine M E) (meaning : T → M) (l
         history = r.history;
         holders = r.holders;
         logs = r.logs;
-        wide = length-set s.words 1 n ∙ wide;
+        wide = length-set s.words 8 n ∙ wide;
         long = r.long;
         all = r.all;
         all_logs = r.all_logs;
-        home = λ p e. let h = r.home p e in (get_or-set_other s.words 1 (p + 2) n 0 (λ z. omega arith) ∙ h.0, h.1);
-        out = λ p j e. let h = r.out p j e in (get_or-set_other s.words 1 (p + 2) n 0 (λ z. omega arith) ∙ h.0, h.1);
+        home = λ p e. let h = r.home p e in (get_or-set_other s.words 8 (8 * p + 16) n 0 (λ z. omega arith) ∙ h.0, h.1);
+        out = λ p j e. let h = r.out p j e in (get_or-set_other s.words 8 (8 * p + 16) n 0 (λ z. omega arith) ∙ h.0, h.1);
         held = λ p j e. held_renewed s.views id me.0 w p j at (subst (λ (l : List (Mark M E)). HasPlace l p) (sym near.marks)) (r.held p j e);
         marked = by (λ j u. (y : Mark M E) → Has u.marks y → (get_elem? r.holders y.place ≡ some (some j)) × Tied (leads x a.opening r.history) r.logs y) (λ y h. r.marked id me.0 at y (subst (λ (l : List (Mark M E)). Has l y) near.marks h)) r.marked;
-        clock = get_or-set_other s.words 1 0 n 0 (λ z. omega arith) ∙ r.clock;
+        clock = get_or-set_other s.words 8 0 n 0 (λ z. omega arith) ∙ r.clock;
         knows = by (λ j u. Knows x a.opening r.history u) (
           subst (λ (z : ℕ). z ≤ length r.history) (sym near.seen) k.0,
           subst (AllStand x a.opening r.history) (sym near.own) k.1,
@@ -86,34 +86,34 @@ module _ {P M E T : Type 0} (machine : P → Machine M E) (meaning : T → M) (l
         about = λ j u b e. by (λ i v. v.about ≡ b ∷ [] → b ≡ a) (λ is. r.about id me.0 b at (sym near.about ∙ is)) (λ i v. r.about i v b) j u e;
       }
 
-  pub raises_keep : (slots id : ℕ) (me : Own) → Allows Rule slots id me 1 (λ _. 1) (λ _. raises (step slots 1 1 0 none) me 1)
+  pub raises_keep : (slots id : ℕ) (me : Own) → Allows Rule slots id me 8 (λ _. 1) (λ _. raises (step slots 8 1 0 none) me 1)
   raises_keep slots id me s r _ at _ = let wide = r.wide in (
     raising me.0,
     keeps,
     tt,
-    rung s r 1 id me (raising me.0) at record { about = refl; seen = refl; own = refl; ended = refl; marks = refl } (stop_raised (get_or s.words 1 0) (get_or (set s.words 1 1) 1 0) s.views id me.0 (get_or-set_same s.words 1 1 0 (omega arith)) at),
+    rung s r 1 id me (raising me.0) at record { about = refl; seen = refl; own = refl; ended = refl; marks = refl } (stop_raised (get_or s.words 8 0) (get_or (set s.words 8 1) 8 0) s.views id me.0 (get_or-set_same s.words 8 1 0 (omega arith)) at),
     (refl, refl),
   )
 
-  pub asks_keep : (slots id : ℕ) (me : Own) → Allows Rule slots id me 1 (λ n. n) (asks (step slots 1 0 0 none) me)
+  pub asks_keep : (slots id : ℕ) (me : Own) → Allows Rule slots id me 8 (λ n. n) (asks (step slots 8 0 0 none) me)
   asks_keep slots id me s r _ at _ =
       let wide = r.wide in
-      let n : ℕ = get_or s.words 1 0 in
-      let same : get_or (set s.words 1 n) 1 0 ≡ n = get_or-set_same s.words 1 n 0 (omega arith) in
+      let n : ℕ = get_or s.words 8 0 in
+      let same : get_or (set s.words 8 n) 8 0 ≡ n = get_or-set_same s.words 8 n 0 (omega arith) in
       ⊎_elim
       (λ (z : n ≡ 0).
       let silent : (me.0.raised ≡ true) ⊎ (me.0.knows ≡ true) → ⊥ = λ says. let one = r.stops.told id me.0 at says in absurd (omega arith) in (
         unheard me.0,
         keeps,
         tt,
-        rung s r n id me (unheard me.0) at record { about = refl; seen = refl; own = refl; ended = refl; marks = refl } (stop_set n (get_or (set s.words 1 n) 1 0) s.views id me.0 (unheard me.0) same at refl refl r.stops),
+        rung s r n id me (unheard me.0) at record { about = refl; seen = refl; own = refl; ended = refl; marks = refl } (stop_set n (get_or (set s.words 8 n) 8 0) s.views id me.0 (unheard me.0) same at refl refl r.stops),
         (refl, inr (z, ⊎_elim (λ k. absurd (silent (inr k))) (λ k. k) (bool_cases me.0.knows), ⊎_elim (λ k. absurd (silent (inl k))) (λ k. k) (bool_cases me.0.raised), refl)),
       ))
       (λ (one : n ≡ 1). (
         hearing me.0,
         keeps,
         tt,
-        rung s r n id me (hearing me.0) at record { about = refl; seen = refl; own = refl; ended = refl; marks = refl } (stop_heard n (get_or (set s.words 1 n) 1 0) s.views id me.0 same one at r.stops),
+        rung s r n id me (hearing me.0) at record { about = refl; seen = refl; own = refl; ended = refl; marks = refl } (stop_heard n (get_or (set s.words 8 n) 8 0) s.views id me.0 same one at r.stops),
         (refl, inl (one, refl)),
       ))
       r.stops.bit

@@ -1,5 +1,6 @@
--- The rule between any two steps. Word 0 is the clock, word 1 the stop word, and word p + 2 the lock of the place p.
-use Rattle.std.specs.Prelude.{◌≡◌, ℕ, ◌+◌, ◌≤◌, List, [], ◌∷◌, length, slice_index, Option, Some}
+-- The rule between any two steps. Word 0 is the clock, word 8 the stop word, and word 8 * p + 16 the lock of the
+-- place p: each eighth word is used, so that no two of them share a line of 64 bytes.
+use Rattle.std.specs.Prelude.{◌≡◌, ℕ, ◌+◌, ◌*◌, ◌≤◌, List, [], ◌∷◌, length, slice_index, Option, Some}
 use mathlib.Core.Option.{none, some}
 use mathlib.Core.Option as opt
 use lib.ListN.{get_elem?}
@@ -33,14 +34,14 @@ module _ {P M E T : Type 0} (machine : P → Machine M E) (meaning : T → M) (l
     pub history : List E
     pub holders : List (opt.Option ℕ)
     pub logs : List (List (ℕ × E))
-    pub wide : length s.words ≡ length s.homes + 2
+    pub wide : length s.words ≡ 8 * length s.homes + 16
     pub long : length holders ≡ length s.homes
     pub all : length (leads (machine a.rules) a.opening history) ≡ length s.homes
     pub all_logs : length logs ≡ length s.homes
     -- a place that isn't marked: its lock word is 0, and its part is at home
-    pub home : (p : ℕ) → get_elem? holders p ≡ some none → (slice_index s.words (p + 2) ≡ 0) × AtHome meaning log (leads (machine a.rules) a.opening history) logs s.homes p
+    pub home : (p : ℕ) → get_elem? holders p ≡ some none → (slice_index s.words (8 * p + 16) ≡ 0) × AtHome meaning log (leads (machine a.rules) a.opening history) logs s.homes p
     -- a marked place: its lock word is 1, its slot is out, and the view that holds it has its mark
-    pub out : (p id : ℕ) → get_elem? holders p ≡ some (some id) → (slice_index s.words (p + 2) ≡ 1) × (get_elem? s.homes p ≡ some none)
+    pub out : (p id : ℕ) → get_elem? holders p ≡ some (some id) → (slice_index s.words (8 * p + 16) ≡ 1) × (get_elem? s.homes p ≡ some none)
     pub held : (p id : ℕ) → get_elem? holders p ≡ some (some id) → HoldsMark s.views id p
     -- no other view has it marked, and the mark keeps what the history gives
     pub marked : (id : ℕ) (v : View P M E) → get_elem? s.views id ≡ some v → (y : Mark M E) → Has v.marks y → (get_elem? holders y.place ≡ some (some id)) × Tied (leads (machine a.rules) a.opening history) logs y
@@ -57,6 +58,6 @@ module _ {P M E T : Type 0} (machine : P → Machine M E) (meaning : T → M) (l
     -- each entry stands in one log
     pub in_logs : (p : ℕ) (l : List (ℕ × E)) → get_elem? logs p ≡ some l → InHistory history l
     pub in_one_log : (n : ℕ) → total (logged n) logs ≡ once (length history) n
-    pub stops : Stops (slice_index s.words 1) s.views
+    pub stops : Stops (slice_index s.words 8) s.views
     -- what the hall is about
     pub about : (id : ℕ) (v : View P M E) (b : About P M) → get_elem? s.views id ≡ some v → v.about ≡ b ∷ [] → b ≡ a

@@ -1,5 +1,5 @@
 -- What each step tells the pass that makes it.
-use Rattle.std.specs.Prelude.{◌≡◌, ◌≢◌, ℕ, ◌+◌, ◌-◌, ◌<◌, ◌≤◌, ◌⊎◌, List, [], ◌∷◌, map, length, Option, Some, false}
+use Rattle.std.specs.Prelude.{◌≡◌, ◌≢◌, ℕ, ◌+◌, ◌-◌, ◌/◌, ◌<◌, ◌≤◌, ◌⊎◌, List, [], ◌∷◌, map, length, Option, Some, false}
 use mathlib.Core.Option.{some}
 use lib.ListN.{get_elem?}
 use Rattle.atomic_table.specs.Table.{Me, Step, rest}
@@ -16,8 +16,8 @@ module _ {P M E : Type 0} where
   -- the place is marked where its lock word was 0, and else missed
   abbrev pub tries : {T : Type 0} → (T → M) → (T → List (ℕ × E)) → Step (Option T) → Me (Option T) (View P M E) → ℕ → Me (Option T) (View P M E) → Type 0
   tries {T} meaning log st m r m' =
-      (r ≡ 0 → (x : T) × (m'.1 ≡ (st.word - 2, Some x) ∷ m.1) × (m'.0 ≡ marking m.0 (mark (st.word - 2) (meaning x) (log x))))
-      × (r ≢ 0 → (m'.1 ≡ m.1) × (m'.0 ≡ missing m.0 (st.word - 2)))
+      (r ≡ 0 → (x : T) × (m'.1 ≡ ((st.word - 16) / 8, Some x) ∷ m.1) × (m'.0 ≡ marking m.0 (mark ((st.word - 16) / 8) (meaning x) (log x))))
+      × (r ≢ 0 → (m'.1 ≡ m.1) × (m'.0 ≡ missing m.0 ((st.word - 16) / 8)))
 
   -- the place that was marked last goes back
   abbrev pub lets_go : {T : Type 0} → Step (Option T) → Me (Option T) (View P M E) → ℕ → Me (Option T) (View P M E) → Type 0
@@ -51,6 +51,10 @@ module _ {P M E : Type 0} where
     -- a look at the clock changes nothing
     abbrev pub looks : {T : Type 0} → Step (Option T) → Me (Option T) (View P M E) → ℕ → Me (Option T) (View P M E) → Type 0
     looks st m r m' = (m' ≡ m) × ((a : About P M) → m.0.about ≡ a ∷ [] → Sees st.slots a r m.0)
+
+    -- a look at another word changes nothing either, and tells as much, but not how many entries there are
+    abbrev pub glances : {T : Type 0} → Step (Option T) → Me (Option T) (View P M E) → ℕ → Me (Option T) (View P M E) → Type 0
+    glances st m r m' = (m' ≡ m) × ((a : About P M) → m.0.about ≡ a ∷ [] → (n : ℕ) × Sees st.slots a n m.0)
 
     -- after an entry of number r + 1: the marked parts are those after it
     pub record Committed (slots : ℕ) (a : About P M) (e : E) (r : ℕ) (v w : View P M E) : Type 0 where

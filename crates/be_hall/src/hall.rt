@@ -1,5 +1,5 @@
 //! The hall: a lock word and a slot for each place, a clock, and a stop word.
-ghost use Rattle.std.specs.Prelude.{◌≡◌, ◌≢◌, ℕ, ◌+◌, ◌^◌, ◌<◌, ◌≤◌, [], ◌∷◌, length, IfOk};
+ghost use Rattle.std.specs.Prelude.{◌≡◌, ◌≢◌, ℕ, ◌+◌, ◌*◌, ◌^◌, ◌<◌, ◌≤◌, [], ◌∷◌, length, IfOk};
 ghost use Rattle.atomic_table.specs.Table.{step};
 ghost use mathlib.Core.Option.{none};
 ghost use Rattle.be_hall.specs.declared.view.About.{About};
@@ -13,7 +13,8 @@ ghost use Rattle.be_hall.specs.Passes.{IsOf, Makes, about_of};
 use crate::held::Held;
 use crate::parts::{Parts, Verdict};
 use crate::pass::{Pass, Place};
-use crate::view::{Aim, Commits, Joining, Key, Law, Looks, Parting, View};
+use crate::view::{Aim, Commits, Glances, Joining, Key, Law, Looks, Parting, View};
+use crate::words::{CLOCK, STOP};
 use atomic_table::Table;
 use be_geom::NoMemory;
 use std::alloc::Global;
@@ -33,7 +34,7 @@ pub struct Hall<P: Parts + Drop> {
     pub(crate) rules: P,
     pub(crate) alloc: Global,
     ghost same_rules: { table.shared.key.rules.value ≡ rules },
-    ghost sized: { (table.shared.table_id.slots ≡ places) × (table.shared.table_id.words ≡ places + 2) },
+    ghost sized: { (table.shared.table_id.slots ≡ places) × (table.shared.table_id.words ≡ 8 * places + 16) },
 }
 
 impl<P: Parts + Drop> Hall<P> {
@@ -98,7 +99,17 @@ impl<P: Parts + Drop> Hall<P> {
         ensures same { (seat.new.table_id ≡ seat.old.table_id) × (seat.new.id ≡ seat.old.id) × (seat.new.me ≡ seat.old.me) }
         ensures sees { (a : About P P.Meaning) → seat.old.me.0.about ≡ a ∷ [] → Sees P.machine self.now.places a result seat.old.me.0 }
     {
-        self.table.shared.load::<Looks<P>>(seat, 0)
+        self.table.shared.load::<Looks<P>>(seat, CLOCK)
+    }
+
+    // The history so far, which the clauses see. The stop word is one that no commit changes, so this
+    // costs no thread anything while others commit.
+    pub(crate) fn glance(&self, seat: &mut Place<P>)
+        requires { seat.old.table_id ≡ self.now.table.shared.table_id }
+        ensures same { (seat.new.table_id ≡ seat.old.table_id) × (seat.new.id ≡ seat.old.id) × (seat.new.me ≡ seat.old.me) }
+        ensures sees { (a : About P P.Meaning) → seat.old.me.0.about ≡ a ∷ [] → (n : ℕ) × Sees P.machine self.now.places a n seat.old.me.0 }
+    {
+        self.table.shared.load::<Glances<P>>(seat, STOP);
     }
 
     /// Asks the rules what becomes of an entry with the parts in hand.
@@ -114,7 +125,7 @@ impl<P: Parts + Drop> Hall<P> {
         ensures logs { meant P.log pass.new.held.parts ≡ meant P.log pass.old.held.parts }
         ensures answer { IfOk result (Answers (P.machine self.now.rules) (meant P.meaning pass.new.held.parts) (meant P.spare pass.new.held.parts) P.entry_of P.seen_by entry.now) }
     {
-        self.look(&mut pass.seat);
+        self.glance(&mut pass.seat);
         self.rules.prepare(&mut pass.held, entry)
     }
 
@@ -126,7 +137,7 @@ impl<P: Parts + Drop> Hall<P> {
         ensures seat { (seat.new.table_id ≡ seat.old.table_id) × (seat.new.id ≡ seat.old.id) }
         ensures told { commits P.machine (P.entry_of ready.now ∷ []) (step self.now.table.shared.table_id.slots 0 1 0 none) seat.old.me result seat.new.me }
     {
-        self.table.shared.fetch_add::<Commits<P, J>>(seat, 0, 1)
+        self.table.shared.fetch_add::<Commits<P, J>>(seat, CLOCK, 1)
     }
 
     /// Makes one entry with the parts in hand, and answers its number, counted from 1.

@@ -11,6 +11,7 @@ mod pass;
 mod places;
 mod stop;
 mod view;
+mod words;
 
 pub use close::Closed;
 pub use fault::CloseFault;

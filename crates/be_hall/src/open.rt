@@ -10,6 +10,7 @@ use crate::held::Held;
 use crate::parts::Parts;
 use crate::pass::Pass;
 use crate::view::Key;
+use crate::words::lock_of;
 use atomic_table::{Refused, Table};
 use be_geom::NoMemory;
 use std::alloc::Global;
@@ -39,7 +40,7 @@ impl<P: Parts + Drop> Hall<P> {
         };
         let places = rules.places();
         let held = Held::with_room(alloc, places as usize)?;
-        let words = zeros(alloc, places as usize + 2)?;
+        let words = zeros(alloc, lock_of(places))?;
         let slots = wrapped(alloc, parts)?;
         match Table::new(alloc, words.as_slice(), slots, &key) {
             Ok((table, seat)) => {

@@ -10,6 +10,7 @@ use crate::hall::Hall;
 use crate::parts::Parts;
 use crate::pass::{Pass, Place};
 use crate::view::{Marks, Unmarks};
+use crate::words::lock_of;
 use std::sync::Wait;
 use thiserror::Error;
 
@@ -30,7 +31,7 @@ impl<P: Parts + Drop> Hall<P> {
     {
         self.table
             .shared
-            .compare_exchange::<Marks<P>>(seat, place as usize + 2, 0, 1)
+            .compare_exchange::<Marks<P>>(seat, lock_of(place), 0, 1)
             == 0
     }
 
@@ -69,7 +70,7 @@ impl<P: Parts + Drop> Hall<P> {
             if self.try_one(pass, place) {
                 return;
             }
-            self.table.shared.park(rt, place as usize + 2, 1);
+            self.table.shared.park(rt, lock_of(place), 1);
         }
         unreachable!()
     }
@@ -120,7 +121,7 @@ impl<P: Parts + Drop> Hall<P> {
         ensures same { (pass.new.seat.me.0 ≡ pass.old.seat.me.0) × (pass.new.held ≡ pass.old.held) }
         ensures gives { Gives P.machine P.meaning (about_of P.meaning self.now.table.shared.key) pass.new.seat.me.0 pass.new.held.parts }
     {
-        self.look(&mut pass.seat);
+        self.glance(&mut pass.seat);
     }
 
     /// Gives all parts in hand back.
@@ -159,7 +160,7 @@ impl<P: Parts + Drop> Hall<P> {
     {
         let shared = &self.table.shared;
         drop(shared.exchange(seat, place as usize, Some(part)));
-        shared.store::<Unmarks<P>>(seat, place as usize + 2, 0);
-        shared.wake_one(place as usize + 2);
+        shared.store::<Unmarks<P>>(seat, lock_of(place), 0);
+        shared.wake_one(lock_of(place));
     }
 }

@@ -7,6 +7,7 @@ use crate::hall::Hall;
 use crate::parts::Parts;
 use crate::pass::{Pass, Place};
 use crate::view::{Asks, Raises};
+use crate::words::STOP;
 
 impl<P: Parts + Drop> Hall<P> {
     /// Tells all passes to stop.
@@ -24,7 +25,7 @@ impl<P: Parts + Drop> Hall<P> {
         ensures same { (seat.new.table_id ≡ seat.old.table_id) × (seat.new.id ≡ seat.old.id) × (seat.new.me.1 ≡ seat.old.me.1) }
         ensures raised { seat.new.me.0 ≡ raising seat.old.me.0 }
     {
-        self.table.shared.store::<Raises>(seat, 1, 1);
+        self.table.shared.store::<Raises>(seat, STOP, 1);
     }
 
     /// Whether a pass has raised stop.
@@ -44,6 +45,6 @@ impl<P: Parts + Drop> Hall<P> {
         ensures stopped { result ≡ true → seat.new.me.0 ≡ hearing seat.old.me.0 }
         ensures quiet { result ≡ false → (seat.old.me.0.knows ≡ false) × (seat.old.me.0.raised ≡ false) × (seat.new.me.0 ≡ unheard seat.old.me.0) }
     {
-        self.table.shared.load::<Asks>(seat, 1) == 1
+        self.table.shared.load::<Asks>(seat, STOP) == 1
     }
 }

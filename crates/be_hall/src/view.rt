@@ -137,6 +137,16 @@ impl<P: Parts> Play<Option<P::Part>, View<P, P::Meaning, P::Entry>> for Looks<P>
     ghost then = { looks P.machine };
 }
 
+pub struct Glances<P> {
+    parts: PhantomData<P>,
+}
+
+impl<P: Parts> Play<Option<P::Part>, View<P, P::Meaning, P::Entry>> for Glances<P> {
+    ghost use Rattle.be_hall.specs.Steps.{glances};
+
+    ghost then = { glances P.machine };
+}
+
 pub struct Raises;
 
 impl<T, P, M, E> Play<Option<T>, View<P, M, E>> for Raises {

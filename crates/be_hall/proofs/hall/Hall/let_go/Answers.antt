@@ -1,10 +1,10 @@
 use Rattle.std.proofs.Common.{rules, ap, ◌∙◌}
-use Rattle.be_hall.proofs.KeepPlaces.{lets_go_keeps}
+use Rattle.be_hall.proofs.KeepPlaces.{lets_go_keeps_at}
 use Rattle.be_hall.proofs.hall.Hall.let_go.Goals as goal
 
 pub store-requires : goal.store-requires
 store-requires g c = (
   search rules,
   search rules,
-  lets_go_keeps _ _ _ _ _ _ _ _ c.args.part _ c.requires.marked.0 (ap (λ m. m.1) c.exchange.ensures.3) (ap (λ m. m.0.marks) c.exchange.ensures.3 ∙ c.requires.marked.1) c.requires.marked.2,
+  lets_go_keeps_at _ _ _ _ _ _ _ _ _ c.args.part _ c.requires.marked.0 c.lock_of.ensures (ap (λ m. m.1) c.exchange.ensures.3) (ap (λ m. m.0.marks) c.exchange.ensures.3 ∙ c.requires.marked.1) c.requires.marked.2,
 )

@@ -1,4 +1,4 @@
-use Rattle.std.proofs.Common.{sym, ap, ◌∙◌, subst, map, length, Some, ◌≤◌, ◌+◌, ◌≡◌}
+use Rattle.std.proofs.Common.{sym, ap, ◌∙◌, subst, map, length, Some, ◌≤◌, ◌+◌, ◌*◌, ◌≡◌}
 use Rattle.atomic_table.specs.Table.{opening}
 use Rattle.be_hall.specs.Numbers.{total}
 use Rattle.be_hall.specs.Machine.{AllFit}
@@ -17,7 +17,7 @@ new-requires g c =
     let is : a.opening ≡ map g.P.Parts.meaning parts = λ i. map g.P.Parts.meaning (parts_are i).items in
     let count = c.places-places.ensures ∙ (sym ((g.met.P.Parts.lawful c.args.rules).as_many _ c.requires.sound) ∙ map_long g.P.Parts.meaning parts) in
     subst (λ xs. Kept g.P.Parts.machine g.P.Parts.meaning g.P.Parts.log a (opening c.as_slice.result.now xs (blank a))) (sym c.in_ok-slots.ensures)
-    (opens g.P.Parts.machine g.P.Parts.meaning g.P.Parts.log a c.as_slice.result.now parts (c.as_slice.ensures.value ∙ (c.in_ok-words.ensures ∙ ap (λ n. zeros_of (n + 2)) count)) is
+    (opens g.P.Parts.machine g.P.Parts.meaning g.P.Parts.log a c.as_slice.result.now parts (c.as_slice.ensures.value ∙ (c.in_ok-words.ensures ∙ ap zeros_of (c.lock_of.ensures ∙ ap (λ n. 8 * n + 16) count))) is
     (subst (λ r. (g.P.Parts.machine r).sound a.opening) (sym rules_are) (subst (λ l. (g.P.Parts.machine c.args.rules).sound l) (sym is) c.requires.sound))
     (subst (λ r. total (g.P.Parts.machine r).budget a.opening ≤ c.args.limit) (sym rules_are) (subst (λ l. total (g.P.Parts.machine c.args.rules).budget l ≤ c.args.limit) (sym is) c.requires.budgets))
     c.requires.limit
@@ -32,5 +32,5 @@ invariant_of-hall g c =
     let count = sym many ∙ ((g.met.P.Parts.lawful c.args.rules).as_many _ c.requires.sound ∙ sym c.places-places.ensures) in
     record {
       same_rules = ap (λ k. k.rules.value) ok.5 ∙ c.of.ensures;
-      sized = (ok.1 ∙ (ap length c.in_ok-slots.ensures ∙ (map_long Some parts ∙ count)), ok.0 ∙ (ap length (c.as_slice.ensures.value ∙ c.in_ok-words.ensures) ∙ zeros_long (c.places-places.result + 2)));
+      sized = (ok.1 ∙ (ap length c.in_ok-slots.ensures ∙ (map_long Some parts ∙ count)), ok.0 ∙ (ap length (c.as_slice.ensures.value ∙ c.in_ok-words.ensures) ∙ (zeros_long c.lock_of.result ∙ c.lock_of.ensures)));
     }

@@ -9,7 +9,7 @@ pub prepare-requires : goal.prepare-requires
 prepare-requires g c =
     let it = c.args.pass.now in
     let a = about_of g.P.Parts.meaning c.args.self.now.table.shared.key in
-    let s = shows g.P.Parts.machine g.P.Parts.meaning g.P.Parts.log a _ _ it.seat.me.0 it.held.parts it.tied (c.look.ensures.sees a c.requires.1) in
+    let s = shows g.P.Parts.machine g.P.Parts.meaning g.P.Parts.log a _ _ it.seat.me.0 it.held.parts it.tied (c.glance.ensures.sees a c.requires.1).1 in
     record {
       fitting = some_fits g.P.Parts.machine g.P.Parts.meaning g.P.Parts.log a _ it.seat.me.0 it.held.parts c.args.self.now.rules c.args.self.now.same_rules s;
       fits = fit_all g.P.Parts.machine g.P.Parts.meaning g.P.Parts.log a _ it.seat.me.0 it.held.parts c.args.self.now.rules c.args.self.now.same_rules (g.met.P.Parts.lawful _) s;
@@ -20,7 +20,7 @@ invariant_of-pass g c =
     let it = c.args.pass.now in
     let old = it.held.parts in
     let new = c.prepare.new.held.parts in
-    let same = c.look.ensures.same in
+    let same = c.glance.ensures.same in
     let places = still_places g.P.Parts.meaning g.P.Parts.log old new c.prepare.ensures.same in
     record {
       tied = ap (λ m. m.0.marks) same.2 ∙ (it.tied ∙ still_marks g.P.Parts.meaning g.P.Parts.log old new c.prepare.ensures.same c.prepare.ensures.logs);

@@ -7,5 +7,5 @@ pub returns-clause-gives : goal.returns-clause-gives
 returns-clause-gives g c =
     let it = c.args.pass.now in
     let a = about_of g.P.Parts.meaning c.args.self.now.table.shared.key in
-    let s = shows g.P.Parts.machine g.P.Parts.meaning g.P.Parts.log a _ _ it.seat.me.0 it.held.parts it.tied (c.look.ensures.sees a c.requires.1) in
-    subst (λ v. Gives g.P.Parts.machine g.P.Parts.meaning a v it.held.parts) (ap (λ m. m.0) (sym c.look.ensures.same.2)) (gives_these g.P.Parts.machine g.P.Parts.meaning g.P.Parts.log a _ it.seat.me.0 it.held.parts s)
+    let s = shows g.P.Parts.machine g.P.Parts.meaning g.P.Parts.log a _ _ it.seat.me.0 it.held.parts it.tied (c.glance.ensures.sees a c.requires.1).1 in
+    subst (λ v. Gives g.P.Parts.machine g.P.Parts.meaning a v it.held.parts) (ap (λ m. m.0) (sym c.glance.ensures.same.2)) (gives_these g.P.Parts.machine g.P.Parts.meaning g.P.Parts.log a _ it.seat.me.0 it.held.parts s)
