@@ -115,7 +115,7 @@ module _ {P M E T : Type 0} (machine : P → Machine M E) (meaning : T → M) (l
         all_logs = t.as_many ∙ r.all_logs;
         home = λ p free. let k = r.home p free in let same = mine_not p free in
             (get_or-set_other s.words 0 (8 * p + 16) n 0 (λ z. omega arith) ∙ k.0, (k.1.0, k.1.1, ap (λ (l : List M). get_elem? l p) lead ∙ (same.0 ∙ k.1.2), same.1 ∙ k.1.3));
-        out = λ p j taken. let k = r.out p j taken in (get_or-set_other s.words 0 (8 * p + 16) n 0 (λ z. omega arith) ∙ k.0, k.1);
+        out = λ p j taken. let k = r.out p j taken in (subst (λ (m : ℕ). 0 < m) (sym (get_or-set_other s.words 0 (8 * p + 16) n 0 (λ z. omega arith))) k.0, k.1);
         held = λ p j taken. held_renewed s.views id me.0 w p j at (has_by_places me.0.marks t.zs p t.same_places) (r.held p j taken);
         marked = λ j v there_v y has. ⊎_elim
             (λ (q : (j ≡ id) × (w ≡ v)). let k = t.ties y (subst (λ (u : V). Has u.marks y) (sym q.1) has) in

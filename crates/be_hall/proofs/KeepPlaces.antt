@@ -109,10 +109,10 @@ module _ {P M E T : Type 0} (machine : P → Machine M E) (meaning : T → M) (l
     about = still_about s r id me.0 w at same;
   }
 
-  -- the place p, which was free, goes to the seat id
-  takes_it : (s : St) (r : Rule s) (p id : ℕ) (me : Own) (y : T) → get_elem? s.views id ≡ some me.0 → get_elem? r.holders p ≡ some none → get_elem? s.homes p ≡ some (some (Some y))
-      → Tied (leads x a.opening r.history) r.logs (mark p (meaning y) (log y)) → Rule (stepped s (8 * p + 16) 1 id me.1 (marking me.0 (mark p (meaning y) (log y))) (takes p (Some y)))
-  takes_it s r p id me y at free here tied =
+  -- the place p, which was free, goes to the seat id, and its lock word is b
+  takes_it : (s : St) (r : Rule s) (p b id : ℕ) (me : Own) (y : T) → 0 < b → get_elem? s.views id ≡ some me.0 → get_elem? r.holders p ≡ some none → get_elem? s.homes p ≡ some (some (Some y))
+      → Tied (leads x a.opening r.history) r.logs (mark p (meaning y) (log y)) → Rule (stepped s (8 * p + 16) b id me.1 (marking me.0 (mark p (meaning y) (log y))) (takes p (Some y)))
+  takes_it s r p b id me y above at free here tied =
       let long = r.long in
       let wide = r.wide in
       let w : V = marking me.0 (mark p (meaning y) (log y)) in
@@ -124,22 +124,22 @@ module _ {P M E T : Type 0} (machine : P → Machine M E) (meaning : T → M) (l
         history = r.history;
         holders = set r.holders p (some id);
         logs = r.logs;
-        wide = length-set s.words (8 * p + 16) 1 ∙ (wide ∙ ap (λ (n : ℕ). 8 * n + 16) (sym homes_long));
+        wide = length-set s.words (8 * p + 16) b ∙ (wide ∙ ap (λ (n : ℕ). 8 * n + 16) (sym homes_long));
         long = length-set r.holders p (some id) ∙ (long ∙ sym homes_long);
         all = r.all ∙ sym homes_long;
         all_logs = r.all_logs ∙ sym homes_long;
         home = λ q e. ⊎_elim
             (λ (t : (q ≡ p) × (some id ≡ none)). absurd (some-ne-none id t.1))
             (λ (t : (q ≢ p) × (get_elem? r.holders q ≡ some none)). let h = r.home q t.1 in
-            (get_or-set_other s.words (8 * p + 16) (8 * q + 16) 1 0 (λ z. t.0 (omega arith)) ∙ h.0, (h.1.0, set_else s.homes p q none t.0 ∙ h.1.1, h.1.2, h.1.3)))
+            (get_or-set_other s.words (8 * p + 16) (8 * q + 16) b 0 (λ z. t.0 (omega arith)) ∙ h.0, (h.1.0, set_else s.homes p q none t.0 ∙ h.1.1, h.1.2, h.1.3)))
             (at_set r.holders p q (some id) none e);
         out = λ q j e. ⊎_elim
             (λ (t : (q ≡ p) × (some id ≡ some j)). (
-              ap (λ (n : ℕ). get_or (set s.words (8 * p + 16) 1) (8 * n + 16) 0) t.0 ∙ get_or-set_same s.words (8 * p + 16) 1 0 (omega arith),
+              subst (λ (n : ℕ). 0 < n) (sym (ap (λ (n : ℕ). get_or (set s.words (8 * p + 16) b) (8 * n + 16) 0) t.0 ∙ get_or-set_same s.words (8 * p + 16) b 0 (omega arith))) above,
               ap (get_elem? (set s.homes p none)) t.0 ∙ set_here s.homes p none (omega arith),
             ))
             (λ (t : (q ≢ p) × (get_elem? r.holders q ≡ some (some j))). let h = r.out q j t.1 in
-            (get_or-set_other s.words (8 * p + 16) (8 * q + 16) 1 0 (λ z. t.0 (omega arith)) ∙ h.0, set_else s.homes p q none t.0 ∙ h.1))
+            (subst (λ (n : ℕ). 0 < n) (sym (get_or-set_other s.words (8 * p + 16) (8 * q + 16) b 0 (λ z. t.0 (omega arith)))) h.0, set_else s.homes p q none t.0 ∙ h.1))
             (at_set r.holders p q (some id) (some j) e);
         held = λ q j e. ⊎_elim
             (λ (t : (q ≡ p) × (some id ≡ some j)).
@@ -157,7 +157,7 @@ module _ {P M E T : Type 0} (machine : P → Machine M E) (meaning : T → M) (l
             (λ (t : (j ≢ id) × (get_elem? s.views j ≡ some v)). let o = r.marked j v t.1 z h in
             (set_else r.holders p z.place (some id) (other z.place j o.0) ∙ o.0, o.1))
             (at_set s.views id j w v e);
-        clock = get_or-set_other s.words (8 * p + 16) 0 1 0 (λ z. omega arith) ∙ r.clock;
+        clock = get_or-set_other s.words (8 * p + 16) 0 b 0 (λ z. omega arith) ∙ r.clock;
         knows = still_knows s r id me.0 w at same;
         each_once = same_total s r id me.0 w at same;
         bound = r.bound;
@@ -167,7 +167,45 @@ module _ {P M E T : Type 0} (machine : P → Machine M E) (meaning : T → M) (l
         sound = r.sound;
         in_logs = r.in_logs;
         in_one_log = r.in_one_log;
-        stops = stop_set (get_or s.words 8 0) (get_or (set s.words (8 * p + 16) 1) 8 0) s.views id me.0 w (get_or-set_other s.words (8 * p + 16) 8 1 0 (λ z. omega arith)) at same.raised same.knows r.stops;
+        stops = stop_set (get_or s.words 8 0) (get_or (set s.words (8 * p + 16) b) 8 0) s.views id me.0 w (get_or-set_other s.words (8 * p + 16) 8 b 0 (λ z. omega arith)) at same.raised same.knows r.stops;
+        about = still_about s r id me.0 w at same;
+      }
+
+  -- a marked place stays so, and its lock word is b
+  slept : (s : St) (r : Rule s) (p b id : ℕ) (me : Own) (w : V) → 0 < b → p < length s.homes → 0 < get_or s.words (8 * p + 16) 0 → get_elem? s.views id ≡ some me.0 → Alike me.0 w → w.marks ≡ me.0.marks
+      → Rule (stepped s (8 * p + 16) b id me.1 w keeps)
+  slept s r p b id me w above inn busy at same marks =
+      let wide = r.wide in
+      record {
+        history = r.history;
+        holders = r.holders;
+        logs = r.logs;
+        wide = length-set s.words (8 * p + 16) b ∙ wide;
+        long = r.long;
+        all = r.all;
+        all_logs = r.all_logs;
+        home = λ q e. let h = r.home q e in
+            (get_or-set_other s.words (8 * p + 16) (8 * q + 16) b 0 (λ z. let same : p ≡ q = omega arith in let zero_word : get_or s.words (8 * p + 16) 0 ≡ 0 = ap (λ (n : ℕ). get_or s.words (8 * n + 16) 0) same ∙ h.0 in absurd (omega arith)) ∙ h.0, h.1);
+        out = λ q j e. let h = r.out q j e in
+            (dite (ℕ_discrete q p)
+            (λ here. subst (λ (n : ℕ). 0 < n) (sym (ap (λ (n : ℕ). get_or (set s.words (8 * p + 16) b) (8 * n + 16) 0) here ∙ get_or-set_same s.words (8 * p + 16) b 0 (omega arith))) above)
+            (λ else. subst (λ (n : ℕ). 0 < n) (sym (get_or-set_other s.words (8 * p + 16) (8 * q + 16) b 0 (λ z. else (omega arith)))) h.0), h.1);
+        held = λ q j e. held_renewed s.views id me.0 w q j at (subst (λ (l : List (Mark M E)). HasPlace l q) (sym marks)) (r.held q j e);
+        marked = λ j v e y h. ⊎_elim
+            (λ (t : (j ≡ id) × (w ≡ v)). r.marked j me.0 (ap (get_elem? s.views) t.0 ∙ at) y (subst (λ (l : List (Mark M E)). Has l y) (ap (λ (u : V). u.marks) (sym t.1) ∙ marks) h))
+            (λ (t : (j ≢ id) × (get_elem? s.views j ≡ some v)). r.marked j v t.1 y h)
+            (at_set s.views id j w v e);
+        clock = get_or-set_other s.words (8 * p + 16) 0 b 0 (λ z. omega arith) ∙ r.clock;
+        knows = still_knows s r id me.0 w at same;
+        each_once = same_total s r id me.0 w at same;
+        bound = r.bound;
+        room = r.room;
+        legal = r.legal;
+        fit = r.fit;
+        sound = r.sound;
+        in_logs = r.in_logs;
+        in_one_log = r.in_one_log;
+        stops = stop_set (get_or s.words 8 0) (get_or (set s.words (8 * p + 16) b) 8 0) s.views id me.0 w (get_or-set_other s.words (8 * p + 16) 8 b 0 (λ z. omega arith)) at same.raised same.knows r.stops;
         about = still_about s r id me.0 w at same;
       }
 
@@ -190,7 +228,7 @@ module _ {P M E T : Type 0} (machine : P → Machine M E) (meaning : T → M) (l
         marking me.0 mk,
         takes p (Some y),
         h.1,
-        subst (λ b. Rule (stepped s (8 * p + 16) (either b 1 n) id me.1 (marking me.0 mk) (takes p (Some y)))) (sym (eq-eqb n 0 hit)) (takes_it s r p id me y at free h.1 (h.2, h.3)),
+        subst (λ b. Rule (stepped s (8 * p + 16) (either b 1 n) id me.1 (marking me.0 mk) (takes p (Some y)))) (sym (eq-eqb n 0 hit)) (takes_it s r p 1 id me y (omega arith) at free h.1 (h.2, h.3)),
         (
           (λ _. (y, ap (λ (k : ℕ). (k, Some y) ∷ me.1) back, ap (λ (k : ℕ). marking me.0 (mark k (meaning y) (log y))) back)),
           λ no. absurd (no hit),
@@ -206,6 +244,37 @@ module _ {P M E T : Type 0} (machine : P → Machine M E) (meaning : T → M) (l
 
   pub tries_keep_at : (slots id : ℕ) (me : Own) (p word : ℕ) → word ≡ 8 * p + 16 → p < slots → Allows Rule slots id me word (λ n. either (eqb n 0) 1 n) (tries meaning log (step slots word 0 1 none) me)
   tries_keep_at slots id me p word is fits = subst (λ (w : ℕ). Allows Rule slots id me w (λ n. either (eqb n 0) 1 n) (tries meaning log (step slots w 0 1 none) me)) (sym is) (tries_keep slots id me p fits)
+
+  -- the same where the lock word becomes 2 in any case
+  waits_keep : (slots id : ℕ) (me : Own) (p : ℕ) → p < slots → Allows Rule slots id me (8 * p + 16) (λ _. 2) (tries meaning log (step slots (8 * p + 16) 2 0 none) me)
+  waits_keep slots id me p fits s r count at _ =
+      let n : ℕ = get_or s.words (8 * p + 16) 0 in
+      let back : p ≡ ((8 * p + 16) - 16) / 8 = omega arith in
+      dite (ℕ_discrete n 0)
+      (λ hit.
+      let free = free_if s r p (omega arith) hit in
+      let h = (r.home p free).1 in
+      let y : T = h.0 in
+      let mk : Mark M E = mark p (meaning y) (log y) in (
+        marking me.0 mk,
+        takes p (Some y),
+        h.1,
+        takes_it s r p 2 id me y (omega arith) at free h.1 (h.2, h.3),
+        (
+          (λ _. (y, ap (λ (k : ℕ). (k, Some y) ∷ me.1) back, ap (λ (k : ℕ). marking me.0 (mark k (meaning y) (log y))) back)),
+          λ no. absurd (no hit),
+        ),
+      ))
+      (λ miss. (
+        missing me.0 p,
+        keeps,
+        tt,
+        slept s r p 2 id me (missing me.0 p) (omega arith) (omega arith) (omega arith) at record { about = refl; seen = refl; own = refl; ended = refl; raised = refl; knows = refl } refl,
+        ((λ hit. absurd (miss hit)), λ _. (refl, ap (missing me.0) back)),
+      ))
+
+  pub waits_keep_at : (slots id : ℕ) (me : Own) (p word : ℕ) → word ≡ 8 * p + 16 → p < slots → Allows Rule slots id me word (λ _. 2) (tries meaning log (step slots word 2 0 none) me)
+  waits_keep_at slots id me p word is fits = subst (λ (w : ℕ). Allows Rule slots id me w (λ _. 2) (tries meaning log (step slots w 2 0 none) me)) (sym is) (waits_keep slots id me p fits)
 
   -- the seat id gives back the place that it marked last
   lets_it_go : (s : St) (r : Rule s) (p id : ℕ) (me : Own) (y : T) (carried : List (ℕ × Option T)) (init : List (Mark M E)) → get_elem? s.views id ≡ some me.0
@@ -238,7 +307,7 @@ module _ {P M E T : Type 0} (machine : P → Machine M E) (meaning : T → M) (l
         out = λ q j e. ⊎_elim
             (λ (t : (q ≡ p) × (none ≡ some j)). absurd (some-ne-none j (sym t.1)))
             (λ (t : (q ≢ p) × (get_elem? r.holders q ≡ some (some j))). let h = r.out q j t.1 in
-            (get_or-set_other s.words (8 * p + 16) (8 * q + 16) 0 0 (λ z. t.0 (omega arith)) ∙ h.0, set_else s.homes p q (some (Some y)) t.0 ∙ h.1))
+            (subst (λ (n : ℕ). 0 < n) (sym (get_or-set_other s.words (8 * p + 16) (8 * q + 16) 0 0 (λ z. t.0 (omega arith)))) h.0, set_else s.homes p q (some (Some y)) t.0 ∙ h.1))
             (at_set r.holders p q none (some j) e);
         held = λ q j e. ⊎_elim
             (λ (t : (q ≡ p) × (none ≡ some j)). absurd (some-ne-none j (sym t.1)))
@@ -269,7 +338,7 @@ module _ {P M E T : Type 0} (machine : P → Machine M E) (meaning : T → M) (l
       }
 
   lets_go_keeps : (slots id : ℕ) (me : Own) (p : ℕ) (y : T) (carried : List (ℕ × Option T)) (init : List (Mark M E)) → me.1 ≡ (p, Some y) ∷ carried → me.0.marks ≡ init ++ mark p (meaning y) (log y) ∷ []
-      → ((z : Mark M E) → Has init z → z.place ≢ p) → Allows Rule slots id me (8 * p + 16) (λ _. 0) (λ _. lets_go (step slots (8 * p + 16) 0 0 none) me 0)
+      → ((z : Mark M E) → Has init z → z.place ≢ p) → Allows Rule slots id me (8 * p + 16) (λ _. 0) (lets_go (step slots (8 * p + 16) 0 0 none) me)
   lets_go_keeps slots id me p y carried init out is apart s r _ at _ = (
     letting_go me.0,
     gives,
@@ -279,9 +348,9 @@ module _ {P M E T : Type 0} (machine : P → Machine M E) (meaning : T → M) (l
   )
 
   pub lets_go_keeps_at : (slots id : ℕ) (me : Own) (p word : ℕ) (y : T) (carried : List (ℕ × Option T)) (init : List (Mark M E)) → word ≡ 8 * p + 16 → me.1 ≡ (p, Some y) ∷ carried → me.0.marks ≡ init ++ mark p (meaning y) (log y) ∷ []
-      → ((z : Mark M E) → Has init z → z.place ≢ p) → Allows Rule slots id me word (λ _. 0) (λ _. lets_go (step slots word 0 0 none) me 0)
+      → ((z : Mark M E) → Has init z → z.place ≢ p) → Allows Rule slots id me word (λ _. 0) (lets_go (step slots word 0 0 none) me)
   lets_go_keeps_at slots id me p word y carried init is out marks apart =
-      subst (λ (w : ℕ). Allows Rule slots id me w (λ _. 0) (λ _. lets_go (step slots w 0 0 none) me 0)) (sym is) (lets_go_keeps slots id me p y carried init out marks apart)
+      subst (λ (w : ℕ). Allows Rule slots id me w (λ _. 0) (lets_go (step slots w 0 0 none) me)) (sym is) (lets_go_keeps slots id me p y carried init out marks apart)
 
   -- what the history so far tells a view
   unfoldable pub sees : (s : St) (r : Rule s) (slots id : ℕ) (v : V) → get_elem? s.views id ≡ some v → length s.homes ≡ slots → Sees machine slots a (get_or s.words 0 0) v

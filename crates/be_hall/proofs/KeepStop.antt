@@ -1,5 +1,5 @@
 -- Raising stop, and asking for it, keep the rule.
-use Rattle.std.proofs.Common.{◌≡◌, ℕ, ◌+◌, ◌*◌, ◌≤◌, ◌≢◌, ◌⊎◌, inl, inr, Bool, true, false, List, [], ◌∷◌, length, get_or, set, Option, sym, refl, ap, ◌∙◌, subst, ⊎_elim, arith, length-set, get_or-set_other, get_or-set_same}
+use Rattle.std.proofs.Common.{◌≡◌, ℕ, ◌+◌, ◌*◌, ◌<◌, ◌≤◌, ◌≢◌, ◌⊎◌, inl, inr, Bool, true, false, List, [], ◌∷◌, length, get_or, set, Option, sym, refl, ap, ◌∙◌, subst, ⊎_elim, arith, length-set, get_or-set_other, get_or-set_same}
 use mathlib.Core.Option.{none, some}
 use lib.ListN.{get_elem?}
 use Rattle.atomic_table.specs.Table.{State, Me, step, keeps, stepped, Allows}
@@ -63,7 +63,7 @@ module _ {P M E T : Type 0} (machine : P → Machine M E) (meaning : T → M) (l
         all = r.all;
         all_logs = r.all_logs;
         home = λ p e. let h = r.home p e in (get_or-set_other s.words 8 (8 * p + 16) n 0 (λ z. omega arith) ∙ h.0, h.1);
-        out = λ p j e. let h = r.out p j e in (get_or-set_other s.words 8 (8 * p + 16) n 0 (λ z. omega arith) ∙ h.0, h.1);
+        out = λ p j e. let h = r.out p j e in (subst (λ (k : ℕ). 0 < k) (sym (get_or-set_other s.words 8 (8 * p + 16) n 0 (λ z. omega arith))) h.0, h.1);
         held = λ p j e. held_renewed s.views id me.0 w p j at (subst (λ (l : List (Mark M E)). HasPlace l p) (sym near.marks)) (r.held p j e);
         marked = by (λ j u. (y : Mark M E) → Has u.marks y → (get_elem? r.holders y.place ≡ some (some j)) × Tied (leads x a.opening r.history) r.logs y) (λ y h. r.marked id me.0 at y (subst (λ (l : List (Mark M E)). Has l y) near.marks h)) r.marked;
         clock = get_or-set_other s.words 8 0 n 0 (λ z. omega arith) ∙ r.clock;

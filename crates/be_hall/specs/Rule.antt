@@ -1,6 +1,6 @@
 -- The rule between any two steps. Word 0 is the clock, word 8 the stop word, and word 8 * p + 16 the lock of the
 -- place p: each eighth word is used, so that no two of them share a line of 64 bytes.
-use Rattle.std.specs.Prelude.{◌≡◌, ℕ, ◌+◌, ◌*◌, ◌≤◌, List, [], ◌∷◌, length, slice_index, Option, Some}
+use Rattle.std.specs.Prelude.{◌≡◌, ℕ, ◌+◌, ◌*◌, ◌<◌, ◌≤◌, List, [], ◌∷◌, length, slice_index, Option, Some}
 use mathlib.Core.Option.{none, some}
 use mathlib.Core.Option as opt
 use lib.ListN.{get_elem?}
@@ -40,8 +40,8 @@ module _ {P M E T : Type 0} (machine : P → Machine M E) (meaning : T → M) (l
     pub all_logs : length logs ≡ length s.homes
     -- a place that isn't marked: its lock word is 0, and its part is at home
     pub home : (p : ℕ) → get_elem? holders p ≡ some none → (slice_index s.words (8 * p + 16) ≡ 0) × AtHome meaning log (leads (machine a.rules) a.opening history) logs s.homes p
-    -- a marked place: its lock word is 1, its slot is out, and the view that holds it has its mark
-    pub out : (p id : ℕ) → get_elem? holders p ≡ some (some id) → (slice_index s.words (8 * p + 16) ≡ 1) × (get_elem? s.homes p ≡ some none)
+    -- a marked place: its lock word isn't 0, its slot is out, and the view that holds it has its mark
+    pub out : (p id : ℕ) → get_elem? holders p ≡ some (some id) → (0 < slice_index s.words (8 * p + 16)) × (get_elem? s.homes p ≡ some none)
     pub held : (p id : ℕ) → get_elem? holders p ≡ some (some id) → HoldsMark s.views id p
     -- no other view has it marked, and the mark keeps what the history gives
     pub marked : (id : ℕ) (v : View P M E) → get_elem? s.views id ≡ some v → (y : Mark M E) → Has v.marks y → (get_elem? holders y.place ≡ some (some id)) × Tied (leads (machine a.rules) a.opening history) logs y

@@ -21,22 +21,33 @@ pub struct Busy {
     pub place: u32,
 }
 
+// How a pass asks for a place.
+#[derive(Clone, Copy)]
+enum Knock {
+    Once,
+    // It sleeps where another pass has the place, so the one that gives it back has to wake it.
+    ToSleep,
+}
+
 impl<P: Parts + Drop> Hall<P> {
     // Tries to mark a place. Where it does, the part is in the seat's slot.
-    fn mark(&self, seat: &mut Place<P>, place: u32) -> bool
+    fn mark(&self, seat: &mut Place<P>, place: u32, knock: Knock) -> bool
         requires { (seat.old.table_id ≡ self.now.table.shared.table_id) × (place < self.now.places) }
         ensures seat { (seat.new.table_id ≡ seat.old.table_id) × (seat.new.id ≡ seat.old.id) }
         ensures marked { result ≡ true → (x : P.Part) × (seat.new.me.1 ≡ (place, Some x) ∷ seat.old.me.1) × (seat.new.me.0 ≡ marking seat.old.me.0 (mark place (P.meaning x) (P.log x))) }
         ensures missed { result ≡ false → (seat.new.me.1 ≡ seat.old.me.1) × (seat.new.me.0 ≡ missing seat.old.me.0 place) }
     {
-        self.table
-            .shared
-            .compare_exchange::<Marks<P>>(seat, lock_of(place), 0, 1)
-            == 0
+        let shared = &self.table.shared;
+        let word = lock_of(place);
+        let found = match knock {
+            Knock::Once => shared.compare_exchange::<Marks<P>>(seat, word, 0, 1),
+            Knock::ToSleep => shared.swap::<Marks<P>>(seat, word, 2),
+        };
+        found == 0
     }
 
     // Takes the part at a place, where no other pass has it.
-    fn try_one(&self, pass: &mut Pass<P>, place: u32) -> bool
+    fn try_one(&self, pass: &mut Pass<P>, place: u32, knock: Knock) -> bool
         requires hall { IsOf P.meaning self.now.table.shared.table_id self.now.table.shared.key pass.old.seat }
         requires place { place < self.now.places }
         requires above { rises_from 0 (places_of pass.old.held.parts ++ place ∷ []) ≡ true }
@@ -45,7 +56,7 @@ impl<P: Parts + Drop> Hall<P> {
         ensures taken { result ≡ true → (places_of pass.new.held.parts ≡ places_of pass.old.held.parts ++ place ∷ []) × (pass.new.seat.me.0.missed ≡ pass.old.seat.me.0.missed) }
         ensures missed { result ≡ false → (pass.new.held ≡ pass.old.held) × (pass.new.seat.me.0.missed ≡ pass.old.seat.me.0.missed ++ place ∷ []) }
     {
-        if !self.mark(&mut pass.seat, place) {
+        if !self.mark(&mut pass.seat, place, knock) {
             return false;
         }
         let part = self
@@ -66,11 +77,14 @@ impl<P: Parts + Drop> Hall<P> {
         ensures known { IsAlike pass.old.seat.me.0 pass.new.seat.me.0 }
         ensures taken { places_of pass.new.held.parts ≡ places_of pass.old.held.parts ++ place ∷ [] }
     {
+        if self.try_one(pass, place, Knock::Once) {
+            return;
+        }
         for _ in rt.forever() {
-            if self.try_one(pass, place) {
+            if self.try_one(pass, place, Knock::ToSleep) {
                 return;
             }
-            self.table.shared.park(rt, lock_of(place), 1);
+            self.table.shared.park(rt, lock_of(place), 2);
         }
         unreachable!()
     }
@@ -105,7 +119,7 @@ impl<P: Parts + Drop> Hall<P> {
         ensures busy { IfErr result (λ b. (pass.new.held.parts ≡ []) × (pass.new.seat.me.0.missed ≡ pass.old.seat.me.0.missed ++ b.place ∷ []) × Contains places.now b.place) }
     {
         for i in 0..places.len() {
-            if !self.try_one(pass, places[i]) {
+            if !self.try_one(pass, places[i], Knock::Once) {
                 self.give(pass);
                 return Err(Busy { place: places[i] });
             }
@@ -160,7 +174,9 @@ impl<P: Parts + Drop> Hall<P> {
     {
         let shared = &self.table.shared;
         drop(shared.exchange(seat, place as usize, Some(part)));
-        shared.store::<Unmarks<P>>(seat, lock_of(place), 0);
-        shared.wake_one(lock_of(place));
+        let word = lock_of(place);
+        if shared.swap::<Unmarks<P>>(seat, word, 0) == 2 {
+            shared.wake_one(word);
+        }
     }
 }

@@ -11,7 +11,7 @@ pub(crate) const CLOCK: usize = 0;
 /// 1 once a pass has raised stop.
 pub(crate) const STOP: usize = 8;
 
-/// The lock of a place: 1 while a pass has it, else 0.
+/// The lock of a place: 0 while it is free, 1 while a pass has it, and 2 while another may sleep for it.
 pub(crate) fn lock_of(place: u32) -> usize
     ensures { result ≡ 8 * place + 16 }
 {
