@@ -186,10 +186,12 @@ module _ {P M E T : Type 0} (machine : P → Machine M E) (meaning : T → M) (l
         all_logs = r.all_logs;
         home = λ q e. let h = r.home q e in
             (get_or-set_other s.words (8 * p + 16) (8 * q + 16) b 0 (λ z. let same : p ≡ q = omega arith in let zero_word : get_or s.words (8 * p + 16) 0 ≡ 0 = ap (λ (n : ℕ). get_or s.words (8 * n + 16) 0) same ∙ h.0 in absurd (omega arith)) ∙ h.0, h.1);
-        out = λ q j e. let h = r.out q j e in
-            (dite (ℕ_discrete q p)
-            (λ here. subst (λ (n : ℕ). 0 < n) (sym (ap (λ (n : ℕ). get_or (set s.words (8 * p + 16) b) (8 * n + 16) 0) here ∙ get_or-set_same s.words (8 * p + 16) b 0 (omega arith))) above)
-            (λ else. subst (λ (n : ℕ). 0 < n) (sym (get_or-set_other s.words (8 * p + 16) (8 * q + 16) b 0 (λ z. else (omega arith)))) h.0), h.1);
+        out = λ q j e. let h = r.out q j e in (
+          dite (ℕ_discrete q p)
+              (λ here. subst (λ (n : ℕ). 0 < n) (sym (ap (λ (n : ℕ). get_or (set s.words (8 * p + 16) b) (8 * n + 16) 0) here ∙ get_or-set_same s.words (8 * p + 16) b 0 (omega arith))) above)
+              (λ else. subst (λ (n : ℕ). 0 < n) (sym (get_or-set_other s.words (8 * p + 16) (8 * q + 16) b 0 (λ z. else (omega arith)))) h.0),
+          h.1,
+        );
         held = λ q j e. held_renewed s.views id me.0 w q j at (subst (λ (l : List (Mark M E)). HasPlace l q) (sym marks)) (r.held q j e);
         marked = λ j v e y h. ⊎_elim
             (λ (t : (j ≡ id) × (w ≡ v)). r.marked j me.0 (ap (get_elem? s.views) t.0 ∙ at) y (subst (λ (l : List (Mark M E)). Has l y) (ap (λ (u : V). u.marks) (sym t.1) ∙ marks) h))

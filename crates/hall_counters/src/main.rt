@@ -35,7 +35,7 @@ fn main(rt: HostRuntime) -> io::Result<ExitCode> {
         eprintln!(rt; "{USAGE}")?;
         return Ok(ExitCode::from(2));
     };
-    let rules = Counters { places: 9, rounds };
+    let rules = Counters { places: 12, rounds };
     match time(
         &rt,
         rt.alloc(),

@@ -162,7 +162,9 @@ pub fn run<R: Threads + Wait + Sync>(
     finish(rt, alloc, hall, pass, passes, rules.places)
 }
 
-/// So many threads of at most four, each with counters of its own or all with one in common.
+/// So many threads of at most four, each with counters of its own or all with one in common. Between the
+/// counters of two threads one is left alone: the slots of a hall lie side by side, and two that share a
+/// line of the processor's cache make their threads wait for each other.
 pub fn time<R: Threads + Wait + Sync>(
     rt: &R,
     alloc: Global,
@@ -171,14 +173,14 @@ pub fn time<R: Threads + Wait + Sync>(
     own: bool,
     commits: u32,
 ) -> Result<usize, NoMemory>
-    requires { rules.places ≡ 9 }
+    requires { rules.places ≡ 12 }
 {
     let most = threads.min(4);
     let mut transfers = Vec::with_capacity(alloc, most)?;
     for i in 0..most {
         let place = i as u32;
         let (source, target) = if own {
-            (2 * place, 2 * place + 1)
+            (3 * place, 3 * place + 1)
         } else {
             (0, place + 1)
         };
