@@ -5,4 +5,5 @@ pub mod LimitLemmas
 pub mod OpenLemmas
 pub mod OrderLemmas
 pub mod ReadLemmas
+pub mod VisibleLemmas
 pub mod WholeLemmas

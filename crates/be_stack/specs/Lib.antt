@@ -1,5 +1,6 @@
 pub mod Windows
 pub mod Owner
+pub mod Visible
 pub mod Order
 pub mod Limits
 pub mod Changes

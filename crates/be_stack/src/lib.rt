@@ -2,8 +2,9 @@
 //! which of them is active.
 //!
 //! A screen has at most 32 windows, closed ones among them. Every call looks at each of them a constant
-//! number of times at most, and none goes pixel by pixel. `add` and `copy` alone take memory: a change of a
-//! window never does.
+//! number of times at most, and none goes pixel by pixel. `visible` takes each shown window in front off
+//! its region, at the cost of the rectangles that are left there. `add`, `copy` and `visible` alone take
+//! memory: a change of a window never does.
 #![tactic(auto)]
 
 mod fault;
@@ -12,6 +13,7 @@ mod frame;
 mod law;
 mod order;
 mod stack;
+mod visible;
 mod window;
 
 pub use fault::{ChangeFault, StackFault};

@@ -1,6 +1,7 @@
 ghost use Rattle.std.specs.Prelude.{◌≡◌, ◌<◌, ◌≤◌, ◌↔◌, true, false, length, find, slice_get, option_map, vec_len, vec_capacity, IsTrue, IsNone, IfOk, OnOk, OnErr, MatchResult};
 ghost use Rattle.be_stack.specs.Windows.{is_open, is_shown, is_shown_window, empty_windows, is_window_frame, with_new_window, with_window};
 ghost use Rattle.be_stack.specs.Owner.{is_on_screen, covers, owner_at};
+ghost use Rattle.be_stack.specs.Visible.{IsVisible};
 ghost use Rattle.be_stack.specs.Limits.{is_within_limits, is_named_there};
 ghost use Rattle.be_stack.specs.Changes.{is_gone, windows_after, changed, active_without, hidden, activated, sent_behind, closed};
 ghost use Rattle.be_stack.specs.Whole.{IsWhole};
@@ -8,9 +9,11 @@ ghost use Rattle.be_stack.specs.Whole.{IsWhole};
 use crate::fault::{ChangeFault, StackFault};
 use crate::flags::WindowFlags;
 use crate::frame::{is_window_frame, moved_by, moved_to, resized_to};
-use crate::order::{go_behind, go_to_front, leave};
+use crate::order::{go_behind, go_to_front, leave, place_of};
+use crate::visible::{on_screen, shown_frame, uncover};
 use crate::window::Window;
 use be_geom::{Change, NoMemory, Rect};
+use be_region::Region;
 use std::alloc::Global;
 use std::marker::Model;
 
@@ -141,6 +144,23 @@ impl Stack {
             return None;
         }
         first_cover(&self.order, &self.windows, x, y)
+    }
+
+    /// The pixels of the screen that belong to a window, in screen coordinates: none where it isn't
+    /// shown, or where there is no such window.
+    pub fn visible(&self, w: u16) -> Result<Region, NoMemory>
+        ensures { IfOk result (λ region. IsVisible region self.now w) }
+    {
+        let alloc = *self.order.allocator();
+        let Some(place) = place_of(&self.order, w) else {
+            return Ok(Region::empty(alloc));
+        };
+        let Some(frame) = shown_frame(&self.windows, w) else {
+            return Ok(Region::empty(alloc));
+        };
+        let mut region = Region::from_rect(alloc, on_screen(frame, self.width, self.height))?;
+        uncover(alloc, &mut region, &self.windows, &self.order[..place])?;
+        Ok(region)
     }
 
     /// The same windows, on the same allocator.

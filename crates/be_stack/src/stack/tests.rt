@@ -400,3 +400,130 @@ fn owns_the_only_pixel(rt: HostRuntime) -> Result<(), Fail> {
     assert_eq!(rt; stack.owner_at(0, 1), None);
     Ok(())
 }
+
+fn rect(left: i16, top: i16, right: i16, bottom: i16) -> Rect {
+    Rect {
+        left,
+        top,
+        right,
+        bottom,
+    }
+}
+
+fn has_rects(region: &Region, rects: &[Rect]) -> bool {
+    let same = rects
+        .iter()
+        .enumerate()
+        .all(|(place, rect)| region.rect_at(place) == Some(*rect));
+    same && region.count() == rects.len()
+}
+
+/// Whether the regions of the windows tell of each pixel who owns it, on the screen and beside it.
+fn owners_agree(stack: &Stack, regions: &[Region]) -> bool {
+    for y in -1..4 {
+        for x in -1..5 {
+            let owner = stack.owner_at(x, y);
+            for (w, region) in regions.iter().enumerate() {
+                if region.contains(x, y) != (owner.map(usize::from) == Some(w)) {
+                    return false;
+                }
+            }
+        }
+    }
+    true
+}
+
+#[test]
+fn sees_what_no_window_covers(rt: HostRuntime) -> Result<(), Fail> {
+    let mut stack = three(rt.alloc())?;
+    let none = [].as_slice();
+    let on_screen = rect(2, 1, 3, 2);
+    for (w, change, of_whole, of_corner, of_pixel) in [
+        (0, Change::Show, [WHOLE].as_slice(), none, none),
+        (
+            2,
+            Change::Show,
+            [
+                rect(0, 0, 3, 0),
+                rect(0, 1, 0, 1),
+                rect(2, 1, 3, 1),
+                rect(0, 2, 3, 2),
+            ]
+            .as_slice(),
+            none,
+            [PIXEL].as_slice(),
+        ),
+        (
+            1,
+            Change::Show,
+            [rect(0, 0, 3, 0), rect(0, 1, 0, 1), rect(0, 2, 1, 2)].as_slice(),
+            [on_screen].as_slice(),
+            [PIXEL].as_slice(),
+        ),
+        (
+            1,
+            Change::MoveBy(-4, -3),
+            [rect(2, 0, 3, 1), rect(0, 2, 3, 2)].as_slice(),
+            [rect(0, 0, 1, 0), rect(0, 1, 0, 1)].as_slice(),
+            [PIXEL].as_slice(),
+        ),
+        (0, Change::Activate, [WHOLE].as_slice(), none, none),
+        (
+            0,
+            Change::Close,
+            none,
+            [rect(0, 0, 1, 0), rect(0, 1, 0, 1)].as_slice(),
+            [PIXEL].as_slice(),
+        ),
+    ] {
+        applied(&rt, &mut stack, w, change)?;
+        let regions = [stack.visible(0)?, stack.visible(1)?, stack.visible(2)?];
+        assert!(rt; has_rects(&regions[0], of_whole), "{change:?} of {w}");
+        assert!(rt; has_rects(&regions[1], of_corner), "{change:?} of {w}");
+        assert!(rt; has_rects(&regions[2], of_pixel), "{change:?} of {w}");
+        assert!(rt; owners_agree(&stack, &regions), "{change:?} of {w}");
+    }
+    assert!(rt; has_rects(&stack.visible(3)?, none));
+    Ok(())
+}
+
+#[test]
+fn sees_the_part_on_the_screen(rt: HostRuntime) -> Result<(), Fail> {
+    let none = [].as_slice();
+    for (width, height, frame, seen) in [
+        (4, 1, rect(1, 0, 2, 0), [rect(1, 0, 2, 0)].as_slice()),
+        (4, 1, rect(-9, -9, 0, 9), [rect(0, 0, 0, 0)].as_slice()),
+        (4, 1, rect(4, 0, 9, 0), none),
+        (0, 1, rect(0, 0, 9, 0), none),
+        (1, 0, rect(0, 0, 9, 0), none),
+        (
+            65535,
+            32768,
+            rect(0, 0, 32767, 32767),
+            [rect(0, 0, 32767, 32767)].as_slice(),
+        ),
+    ] {
+        let mut stack = Stack::new(rt.alloc(), width, height);
+        let w = stack.add(frame, WindowFlags::empty())?;
+        assert!(rt; has_rects(&stack.visible(w)?, none), "{frame:?}");
+        applied(&rt, &mut stack, w, Change::Show)?;
+        assert!(rt; has_rects(&stack.visible(w)?, seen), "{frame:?}");
+    }
+    Ok(())
+}
+
+#[test]
+fn sees_the_window_in_front(rt: HostRuntime) -> Result<(), Fail> {
+    let only = rect(0, 0, 0, 0);
+    let mut stack = Stack::new(rt.alloc(), 1, 1);
+    for w in 0..2 {
+        stack.add(only, WindowFlags::empty())?;
+        applied(&rt, &mut stack, w, Change::Show)?;
+    }
+    assert!(rt; has_rects(&stack.visible(0)?, [].as_slice()));
+    assert!(rt; has_rects(&stack.visible(1)?, [only].as_slice()));
+    applied(&rt, &mut stack, 1, Change::Behind(0))?;
+    assert!(rt; has_rects(&stack.visible(0)?, [only].as_slice()));
+    assert!(rt; has_rects(&stack.visible(1)?, [].as_slice()));
+    Ok(())
+}
