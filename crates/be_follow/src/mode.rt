@@ -10,7 +10,8 @@ pub enum Across {
     Right,
     /// `B_FOLLOW_LEFT_RIGHT`: the left edge stays, the right one goes with the parent's.
     LeftRight,
-    /// `B_FOLLOW_H_CENTER`: both edges go with the parent's middle.
+    /// `B_FOLLOW_H_CENTER`: both edges go with the parent's middle, half its width. Half a column is
+    /// rounded down, also below 0: half of 5 is 2, half of -5 is -3.
     Center,
 }
 
@@ -23,7 +24,8 @@ pub enum Down {
     Bottom,
     /// `B_FOLLOW_TOP_BOTTOM`: the top edge stays, the bottom one goes with the parent's.
     TopBottom,
-    /// `B_FOLLOW_V_CENTER`: both edges go with the parent's middle.
+    /// `B_FOLLOW_V_CENTER`: both edges go with the parent's middle, half its height. Half a row is
+    /// rounded down, also below 0.
     Center,
 }
 

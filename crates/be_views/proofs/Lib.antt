@@ -1,2 +1,3 @@
 pub mod ChildLemmas
 pub mod PlaceLemmas
+pub mod TreeLemmas

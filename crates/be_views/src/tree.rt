@@ -1,5 +1,5 @@
 ghost use Rattle.be_geom.specs.Rects.{rect_has};
-ghost use Rattle.std.specs.Prelude.{◌≡◌, ◌<◌, ◌≤◌, ◌↔◌, ℕ, true, pos, ◌-ℤ◌, ◌≤ℤ◌, ◌∷◌, [], length, slice_get, option_map, option_and_then, vec_len, vec_capacity, IfOk, IfSome, OnOk, OnErr, IsNone};
+ghost use Rattle.std.specs.Prelude.{◌≡◌, ◌<◌, ◌≤◌, ◌↔◌, ◌⊎◌, ℕ, true, pos, ◌-ℤ◌, ◌≤ℤ◌, ◌∷◌, [], length, slice_get, option_map, option_and_then, vec_len, vec_capacity, IfOk, IfSome, OnOk, OnErr, IsNone};
 ghost use Rattle.be_views.specs.Trees.{parent_of, place_of, place_from};
 ghost use Rattle.be_views.specs.Pixels.{view_at, view_below};
 ghost use Rattle.be_views.specs.Whole.{IsTree, root_view, with_view, depth_from, depth_of};
@@ -114,15 +114,18 @@ impl ViewTree {
     /// The view in which a view lies: `BView::Parent`. None for the root, and where there is no such
     /// view.
     pub fn parent(&self, view: u16) -> Option<u16>
-        ensures { result ≡ parent_of self.now view }
+        ensures none { IsNone result ↔ ((view ≡ 0) ⊎ (length self.now ≤ view)) }
+        ensures parent { result ≡ parent_of self.now view }
+        ensures below { IfSome result (λ parent. parent < view) }
     {
-        self.views.get(usize::from(view))?.parent
+        parent_of(&self.views, view)
     }
 
     /// A view's left top within the window: `BView::ConvertToParent` up to the window. None where there is
     /// no such view.
     pub fn place_of(&self, view: u16) -> Option<(i32, i32)>
-        ensures { result ≡ option_map pair_of (place_of self.now view) }
+        ensures none { IsNone result ↔ (length self.now ≤ view) }
+        ensures place { result ≡ option_map pair_of (place_of self.now view) }
     {
         place_from(self.views.len(), &self.views, view)
     }
@@ -175,6 +178,13 @@ fn make_room(views: &mut Vec<View>) -> Result<(), NoMemory>
 {
     views.reserve(1)?;
     Ok(())
+}
+
+/// The view in which a view lies.
+fn parent_of(views: &[View], v: u16) -> Option<u16>
+    ensures { result ≡ parent_of views.now v }
+{
+    views.get(usize::from(v))?.parent
 }
 
 /// A view's left top within the window, in so many steps at most.
