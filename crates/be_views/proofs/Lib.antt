@@ -1,3 +1,5 @@
 pub mod ChildLemmas
 pub mod PlaceLemmas
 pub mod TreeLemmas
+pub mod ResizeLemmas
+pub mod WayLemmas

@@ -1,20 +1,19 @@
 ghost use Rattle.be_geom.specs.Rects.{rect_has};
-ghost use Rattle.std.specs.Prelude.{◌≡◌, ◌<◌, ◌≤◌, ◌↔◌, ◌⊎◌, ℕ, true, pos, ◌-ℤ◌, ◌≤ℤ◌, ◌∷◌, [], length, slice_get, option_map, option_and_then, vec_len, vec_capacity, IfOk, IfSome, OnOk, OnErr, IsNone};
+ghost use Rattle.std.specs.Prelude.{◌≡◌, ◌<◌, ◌≤◌, ◌↔◌, ◌⊎◌, ℕ, true, pos, ◌-ℤ◌, ◌≤ℤ◌, ◌∷◌, [], length, slice_get, option_map, option_and_then, vec_len, vec_capacity, IfOk, IfSome, OnOk, OnErr, IsNone, IsErr};
 ghost use Rattle.be_views.specs.Trees.{parent_of, place_of, place_from};
 ghost use Rattle.be_views.specs.Pixels.{view_at, view_below};
+ghost use Rattle.be_views.specs.Resizing.{resized};
 ghost use Rattle.be_views.specs.Whole.{IsTree, root_view, with_view, depth_from, depth_of};
 ghost use Rattle.be_views.specs.Places.{pair_of, IsNear};
 
 use crate::children::{has_pixel, last_child_at};
 use crate::fault::ViewFault;
+use crate::resize::{MAX_VIEWS, frames_after, root_frame, set_frames};
 use crate::view::View;
 use be_follow::{Across, Down, Follow};
-use be_geom::{NoMemory, Rect};
+use be_geom::{NoMemory, OutOfRange, Rect};
 use std::alloc::Global;
 use std::marker::Model;
-
-/// How many views a window may have, the root among them.
-const MAX_VIEWS: usize = 32;
 
 /// How deep a view may be, where the root is at depth 1.
 const MAX_DEPTH: usize = 8;
@@ -28,6 +27,7 @@ pub struct ViewTree {
 
 impl Model for ViewTree {
     ghost use Rattle.be_views.specs.Trees.{Tree};
+    ghost use Rattle.be_views.specs.Resizing.{resized};
     ghost use Rattle.be_views.specs.Whole.{IsTree};
 
     ghost Value = { Tree };
@@ -142,6 +142,20 @@ impl ViewTree {
         }
     }
 
+    /// The views after their window's resize, which gives the size as `new` takes it: the frame of each
+    /// view but the root follows its parent's.
+    pub fn resize(&mut self, width: i16, height: i16) -> Result<(), OutOfRange>
+        requires across { pos 0 ≤ℤ width }
+        requires down { pos 0 ≤ℤ height }
+        ensures resized { OnOk result (resized self.old width height ≡ Some self.new) }
+        ensures out { IsErr result ↔ (resized self.old width height ≡ None) }
+        ensures err { OnErr result (self.new ≡ self.old) }
+    {
+        let frames = frames_after(&self.views, width, height)?;
+        set_frames(&mut self.views, &frames);
+        Ok(())
+    }
+
     /// The same views, on the same allocator.
     pub fn copy(&self) -> Result<ViewTree, NoMemory>
         ensures { IfOk result (λ tree. tree ≡ self.now) }
@@ -158,12 +172,7 @@ fn root(width: i16, height: i16) -> View
 {
     View {
         parent: None,
-        frame: Rect {
-            left: 0,
-            top: 0,
-            right: width,
-            bottom: height,
-        },
+        frame: root_frame(width, height),
         mode: Follow {
             across: Across::Left,
             down: Down::Top,

@@ -1,7 +1,7 @@
 use super::ViewTree;
 use crate::fault::ViewFault;
 use be_follow::{Across, Down, Follow};
-use be_geom::Rect;
+use be_geom::{OutOfRange, Rect};
 use std::test::Fail;
 
 const FIXED: Follow = Follow {
@@ -85,5 +85,46 @@ fn refuses_views(rt: HostRuntime) -> Result<(), Fail> {
         Err(ViewFault::TooDeep)
     );
     assert_eq!(rt; tree.len(), 32);
+    Ok(())
+}
+
+#[test]
+fn follows_its_window(rt: HostRuntime) -> Result<(), Fail> {
+    let right = Follow {
+        across: Across::Right,
+        down: Down::Top,
+    };
+    let grows = Follow {
+        across: Across::LeftRight,
+        down: Down::Center,
+    };
+    let mut tree = ViewTree::new(rt.alloc(), 4, 0)?;
+    tree.add(0, rect(1, 0, 2, 0), grows)?;
+    tree.add(1, rect(1, 0, 1, 0), right)?;
+    for (width, height, first, second) in [
+        (7, 0, rect(1, 0, 5, 0), rect(4, 0, 4, 0)),
+        (0, 3, rect(1, 2, -2, 2), rect(-3, 0, -3, 0)),
+        (4, 0, rect(1, 0, 2, 0), rect(1, 0, 1, 0)),
+    ] {
+        assert_eq!(rt; tree.resize(width, height), Ok(()));
+        assert_eq!(rt; tree.frame_of(0), Some(rect(0, 0, width, height)));
+        assert_eq!(rt; tree.frame_of(1), Some(first), "at {width}");
+        assert_eq!(rt; tree.frame_of(2), Some(second), "at {width}");
+    }
+    Ok(())
+}
+
+#[test]
+fn stays_where_a_view_would_leave_the_range(rt: HostRuntime) -> Result<(), Fail> {
+    let right = Follow {
+        across: Across::Right,
+        down: Down::Top,
+    };
+    let mut tree = ViewTree::new(rt.alloc(), 0, 0)?;
+    tree.add(0, rect(0, 0, 0, 0), right)?;
+    tree.add(0, rect(32000, 0, 32767, 0), right)?;
+    assert_eq!(rt; tree.resize(32767, 0), Err(OutOfRange));
+    assert_eq!(rt; tree.frame_of(0), Some(rect(0, 0, 0, 0)));
+    assert_eq!(rt; tree.frame_of(1), Some(rect(0, 0, 0, 0)));
     Ok(())
 }
