@@ -1,0 +1,9 @@
+pub mod Lines
+pub mod Words
+pub mod Numbers
+pub mod Names
+pub mod Hex
+pub mod Colors
+pub mod Patterns
+pub mod Modes
+pub mod Codes

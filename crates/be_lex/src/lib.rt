@@ -1,0 +1,29 @@
+//! The words of a text: lines, words, numbers, names, colours, patterns, modes and four-letter codes.
+//!
+//! A text is cut into lines by `Lines`, and a line into words by `Words`, each from the front and once.
+//! A word is then read as what it has to be: the answer `None` says that it has the wrong form. A
+//! `Number` is a word of the right form, of any length; whether it lies in a range is asked afterwards.
+//! Nothing here knows a statement.
+//!
+//! A reader looks at each byte of its word a fixed number of times and takes no memory. What is
+//! written is put behind the bytes of a list, or that list stays as it was.
+#![tactic(auto)]
+
+mod code;
+mod color;
+mod hex_word;
+mod line;
+mod mode;
+mod name;
+mod number;
+mod pattern;
+mod word;
+
+pub use code::{is_reserved_code, read_code, write_code};
+pub use color::{read_color, read_pixel, read_rgb, write_color, write_rgb};
+pub use line::{Line, Lines, is_printable};
+pub use mode::{read_mode, write_mode};
+pub use name::{is_field_name, is_name, is_reserved_name};
+pub use number::{Number, write_natural, write_number};
+pub use pattern::{read_pattern, write_pattern};
+pub use word::{Words, cut_at, is_passed_over};
