@@ -4,3 +4,7 @@ pub mod WordLemmas
 pub mod Ranges
 pub mod LineLemmas
 pub mod CutLemmas
+pub mod Spelling
+pub mod NumberSpelling
+pub mod HexSpelling
+pub mod ValueSpelling

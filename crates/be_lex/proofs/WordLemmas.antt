@@ -1,5 +1,5 @@
 -- The words of a text, from its front.
-use Rattle.std.proofs.Common.{◌≡◌, ℕ, zero, suc, ◌≢◌, ◌+◌, ◌-◌, length-drop, inl, inr, Bool, true, false, cond, not, eqb, List, [], ◌∷◌, length, get_or, take, drop, refl, sym, ap, ◌∙◌, arith}
+use Rattle.std.proofs.Common.{◌≡◌, ℕ, zero, suc, ◌≢◌, ◌+◌, ◌-◌, ◌<◌, ◌≤◌, length-drop, inl, inr, Bool, true, false, cond, not, eqb, List, [], ◌∷◌, length, get_or, take, drop, refl, sym, ap, ◌∙◌, arith}
 use Rattle.std.specs.List.{slice_split, onto_first, position_or_len, filter}
 use Rattle.std.proofs.lemmas.Bool.{ne_eqb}
 use Rattle.std.proofs.lemmas.List.{take_all}
@@ -13,7 +13,7 @@ words_in-some : (piece : List ℕ) (pieces : List (List ℕ)) → is_empty piece
 words_in-some piece pieces h = rw h refl
 
 -- a space in front is passed over
-words_of-behind : (b : ℕ) (text : List ℕ) → is_space b ≡ true → words_of (b ∷ text) ≡ words_of text
+pub words_of-behind : (b : ℕ) (text : List ℕ) → is_space b ≡ true → words_of (b ∷ text) ≡ words_of text
 unfolding words_of
 words_of-behind b text h = ap (λ v. words_in (cond v ([] ∷ slice_split is_space text) (onto_first b (slice_split is_space text)))) h
 
@@ -66,3 +66,11 @@ pub words_of-none : (text : List ℕ) → length text ≡ 0 → words_of text �
 unfolding words_of
 words_of-none [] h = refl
 words_of-none (b ∷ text) h = absurd (omega arith)
+
+-- and isn't empty
+pub first_word_some : (text : List ℕ) (n : ℕ) → get_or text 0 0 ≢ 32 → eqb (length text) 0 ≡ false → n ≡ position_or_len is_space text → 0 < n
+first_word_some [] n h some e = absurd cc
+first_word_some (c ∷ text) n h some e = let e' = rw (ne_eqb c 32 h) at e in omega arith
+
+pub length-from_first : (text : List ℕ) → length (from_first no_space text) ≤ length text
+length-from_first text = rw (length-drop (position_or_len no_space text) text) (omega arith)

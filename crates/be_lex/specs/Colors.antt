@@ -1,11 +1,11 @@
 -- Colours as words (this project's own).
-use Rattle.std.specs.Prelude.{ℕ, List, [], ◌∷◌, slice_index, codes, if◌then◌else◌, Option, Some}
+use Rattle.std.specs.Prelude.{ℕ, Bool, true, List, [], ◌∷◌, slice_index, codes, if◌then◌else◌, Option, Some}
 use Rattle.std.specs.Option.{option_map}
 use Rattle.std.specs.Str.{bytes_eq}
 use Rattle.be_color.specs.declared.colors.Color.{Color}
 use Rattle.be_color.specs.declared.colors.Color.TheVariants.{Solid, Clear}
 use Rattle.be_color.specs.declared.colors.Rgb.{Rgb}
-use Rattle.be_lex.specs.Hex.{hex_bytes, hex_text}
+use Rattle.be_lex.specs.Hex.{hex_bytes, hex_text, are_bytes}
 
 -- three bytes: red, green and blue
 abbrev pub rgb_from : List ℕ → Rgb
@@ -30,3 +30,8 @@ pixel_of word = if bytes_eq word (codes "------") then Some Clear else option_ma
 unfoldable pub color_text : Color → List ℕ
 color_text (Solid rgb) = rgb_text rgb
 color_text Clear = codes "clear"
+
+-- its components are bytes, as those of every colour that the code has
+abbrev pub is_color : Color → Bool
+is_color (Solid rgb) = are_bytes (rgb.red ∷ rgb.green ∷ rgb.blue ∷ [])
+is_color Clear = true

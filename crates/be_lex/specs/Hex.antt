@@ -1,5 +1,5 @@
 -- Bytes written as hexadecimal digits, the letters in lower case (this project's own).
-use Rattle.std.specs.Prelude.{ℕ, Bool, ◌||◌, List, Option, None, if◌then◌else◌}
+use Rattle.std.specs.Prelude.{ℕ, Bool, ◌||◌, nat_lt, List, Option, None, if◌then◌else◌}
 use Rattle.std.specs.List.{list_all}
 use Rattle.std.specs.Char.{is_ascii_digit}
 use Rattle.std.specs.Int.{is_in_range}
@@ -17,3 +17,7 @@ hex_bytes count word = if list_all is_hex_digit word then result_ok (decode_size
 -- the digits of some bytes
 abbrev pub hex_text : List ℕ → List ℕ
 hex_text bytes = encode_lower bytes
+
+-- each is a byte
+abbrev pub are_bytes : List ℕ → Bool
+are_bytes bytes = list_all (λ b. nat_lt b 256) bytes

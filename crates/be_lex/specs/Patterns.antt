@@ -1,9 +1,9 @@
 -- Patterns as words (the three patterns with names are The Be Book's, the words this project's own).
-use Rattle.std.specs.Prelude.{ℕ, List, [], ◌∷◌, codes, if◌then◌else◌, Option, Some}
+use Rattle.std.specs.Prelude.{ℕ, Bool, ◌==◌, ◌&&◌, length, List, [], ◌∷◌, codes, if◌then◌else◌, Option, Some}
 use Rattle.std.specs.Option.{option_map}
 use Rattle.std.specs.Str.{bytes_eq}
 use Rattle.be_color.specs.declared.patterns.Pattern.{Pattern}
-use Rattle.be_lex.specs.Hex.{hex_bytes, hex_text}
+use Rattle.be_lex.specs.Hex.{hex_bytes, hex_text, are_bytes}
 
 abbrev pub high_rows : List ℕ
 high_rows = 0xff ∷ 0xff ∷ 0xff ∷ 0xff ∷ 0xff ∷ 0xff ∷ 0xff ∷ 0xff ∷ []
@@ -32,3 +32,7 @@ pattern_text pattern =
     else if bytes_eq pattern.rows low_rows then codes "low"
     else if bytes_eq pattern.rows mixed_rows then codes "mixed"
     else hex_text pattern.rows
+
+-- its eight rows are bytes, as those of every pattern that the code has
+abbrev pub is_pattern : Pattern → Bool
+is_pattern pattern = (length pattern.rows == 8) && are_bytes pattern.rows

@@ -43,3 +43,8 @@ is_passed_over text = begins_comment (words_of text)
 abbrev pub cut_at : ℕ → List ℕ → Option (List ℕ × List ℕ)
 cut_at byte word =
     if list_any (λ b. b == byte) word then Some (before_first (λ b. b == byte) word, after_first (λ b. b == byte) word) else None
+
+-- what may stand behind a word: nothing, or a space first
+abbrev pub ends_word : List ℕ → Bool
+ends_word [] = true
+ends_word (b ∷ bytes) = is_space b

@@ -12,6 +12,7 @@
 mod code;
 mod color;
 mod hex_word;
+mod laws;
 mod line;
 mod mode;
 mod name;
@@ -21,6 +22,11 @@ mod word;
 
 pub use code::{is_reserved_code, read_code, write_code};
 pub use color::{read_color, read_pixel, read_rgb, write_color, write_rgb};
+pub use laws::{
+    a_color_has_one_word, a_color_is_read_back, a_mode_has_one_word, a_mode_is_read_back,
+    a_name_is_a_word, a_number_has_one_word, a_number_is_read_back, a_pattern_is_read_back,
+    a_space_in_front_is_passed_over, a_word_in_front_is_read,
+};
 pub use line::{Line, Lines, is_printable};
 pub use mode::{read_mode, write_mode};
 pub use name::{is_field_name, is_name, is_reserved_name};

@@ -1,4 +1,4 @@
-ghost use Rattle.std.specs.Prelude.{◌≡◌, ◌==◌, ◌≤◌, ◌∷◌, [], length, not, MatchOption, OnSome, IfNone};
+ghost use Rattle.std.specs.Prelude.{◌≡◌, ◌==◌, ◌≤◌, ◌<◌, ◌∷◌, [], length, not, MatchOption, OnSome, IfNone};
 ghost use Rattle.std.specs.Option.{option_map};
 ghost use Rattle.std.specs.List.{position_or_len};
 ghost use Rattle.be_lex.specs.Words.{is_space, words_of, from_first, behind_word, is_passed_over, cut_at};
@@ -39,6 +39,7 @@ impl<'a> Words<'a> {
         ensures words { MatchOption result (words_of self.old ≡ [])
             (λ word. words_of self.old ≡ word.now ∷ words_of self.new) }
         ensures behind { OnSome result (self.new ≡ behind_word self.old) }
+        ensures shorter { OnSome result (length self.new < length self.old) }
         ensures none { IfNone result (self.new ≡ self.old) }
     {
         let text = without_spaces(self.rest);

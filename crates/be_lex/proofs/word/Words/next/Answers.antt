@@ -1,7 +1,7 @@
-use Rattle.std.proofs.Common.{◌≢◌, get_or, refl, sym, ap, ◌∙◌}
+use Rattle.std.proofs.Common.{◌≢◌, ◌≤◌, length, get_or, refl, sym, ap, ◌∙◌, arith}
 use Rattle.std.proofs.lemmas.Bool.{eqb-true}
 use Rattle.be_lex.specs.Words.{words_of, behind_word}
-use Rattle.be_lex.proofs.WordLemmas.{words_of-from_first, from_first-head, words_of-word, words_of-none}
+use Rattle.be_lex.proofs.WordLemmas.{words_of-from_first, from_first-head, words_of-word, words_of-none, first_word_some, length-from_first}
 use Rattle.be_lex.proofs.word.Words.next.Goals as goal
 
 pub returns-then-is_empty-clause-words : goal.returns-then-is_empty-clause-words
@@ -20,3 +20,12 @@ returns-clause-words c =
 pub returns-clause-behind : goal.returns-clause-behind
 unfolding behind_word
 returns-clause-behind c = c.split_at.ensures.back ∙ rw (c.place_of.ensures.place, c.without_spaces-text.ensures, c.self.view_is) refl
+
+pub returns-clause-shorter : goal.returns-clause-shorter
+returns-clause-shorter c =
+    let text = c.without_spaces-text in
+    let first : get_or text.result.now 0 0 ≢ 32 = rw text.ensures (from_first-head c.self.inside.rest.now) in
+    let some = first_word_some text.result.now c.place_of.result first (sym c.is_empty.ensures ∙ c.if-is_empty.false) c.place_of.ensures.place in
+    let short : length text.result.now ≤ length c.args.self.now = rw (text.ensures, sym c.self.view_is) (length-from_first c.self.inside.rest.now) in
+    let behind = c.split_at.ensures.back_len in
+    omega arith
