@@ -8,3 +8,4 @@ pub mod Spelling
 pub mod NumberSpelling
 pub mod HexSpelling
 pub mod ValueSpelling
+pub mod CodeSpelling

@@ -1,9 +1,12 @@
 -- The first line of some bytes.
-use Rattle.std.proofs.Common.{◌≡◌, ℕ, Bool, true, false, eqb, ◌-◌, ◌<◌, ◌≤◌, List, [], ◌∷◌, length, take, drop, refl, sym, ap, ◌∙◌, inl, inr, arith}
+use Rattle.std.proofs.Common.{◌≡◌, ℕ, Bool, true, false, eqb, ◌-◌, ◌<◌, ◌≤◌, List, [], ◌∷◌, ◌++◌, ◌≢◌, length, take, drop, refl, sym, ap, ◌∙◌, inl, inr, arith}
 use Rattle.std.specs.List.{slice_split, position_or_len}
-use Rattle.std.proofs.lemmas.List.{take_all}
-use Rattle.be_lex.specs.Lines.{lines_from, lines_of}
+use Rattle.std.proofs.lemmas.Bool.{ne_eqb}
+use Rattle.std.proofs.Math.Seq.{drop-length, take-length}
+use Rattle.std.proofs.lemmas.List.{take_all, append-nil}
+use Rattle.be_lex.specs.Lines.{lines_from, lines_of, is_line}
 use Rattle.be_lex.proofs.Cuts.{split_cut, split_pieces}
+use Rattle.be_lex.proofs.Spelling.{first_behind, take_front, drop_front}
 
 abbrev is_line_end : ℕ → Bool
 is_line_end b = eqb b 10
@@ -48,3 +51,15 @@ pub lines_of-whole : (bytes : List ℕ) (n : ℕ) → eqb (length bytes) 0 ≡ f
     → lines_of bytes ≡ record { bytes = line; ended = false } ∷ lines_of behind
 lines_of-whole bytes n some e line [] line-is behind-is lt = rw (line-is, lines_of-none [] refl) (lines_of-last bytes n some e (sym behind-is))
 lines_of-whole bytes n some e line (x ∷ rest) line-is behind-is lt = absurd (omega arith)
+
+-- ---- a line in front
+
+pub lines_of-ended : (line rest : List ℕ) → is_line line ≡ true → lines_of (line ++ 10 ∷ rest) ≡ record { bytes = line; ended = true } ∷ lines_of rest
+lines_of-ended line rest h =
+    lines_of-first (line ++ 10 ∷ rest) (length line) (sym (first_behind is_line_end line (10 ∷ rest) h refl)) 10 rest (drop_front line (10 ∷ rest)) ∙ rw (take_front line (10 ∷ rest)) refl
+
+pub lines_of-last_line : (line : List ℕ) → is_line line ≡ true → line ≢ [] → lines_of line ≡ record { bytes = line; ended = false } ∷ []
+lines_of-last_line [] h some = absurd (some refl)
+lines_of-last_line (b ∷ line) h some =
+    let place : length (b ∷ line) ≡ position_or_len is_line_end (b ∷ line) = sym (first_behind is_line_end (b ∷ line) [] h refl) ∙ ap (position_or_len is_line_end) (append-nil (b ∷ line)) in
+    lines_of-last (b ∷ line) (length (b ∷ line)) (ne_eqb (length (b ∷ line)) 0 (λ z. absurd (omega arith))) place (drop-length (b ∷ line)) ∙ rw (take-length (b ∷ line)) refl

@@ -43,19 +43,26 @@ not_true : (b : Bool) → not b ≡ true → b ≡ false
 not_true true h = absurd cc
 not_true false h = refl
 
--- the first space behind a word stands where the word ends
-pub first_space : (word rest : List ℕ) → spaceless word ≡ true → ends_word rest ≡ true → position_or_len is_space (word ++ rest) ≡ length word
-first_space [] [] h e = refl
-first_space [] (b ∷ rest) h e = rw e refl
-first_space (c ∷ word) rest h e =
-    let parts = and_parts (not (is_space c)) (spaceless word) h in
-    rw (not_true (is_space c) parts.0, first_space word rest parts.1 e) (omega arith)
+-- the first that passes stands behind those that don't
+pub first_behind : (test : ℕ → Bool) (front back : List ℕ) (none : list_all (λ b. not (test b)) front ≡ true) → position_or_len test back ≡ 0 → position_or_len test (front ++ back) ≡ length front
+first_behind test [] back h e = e
+first_behind test (c ∷ front) back h e =
+    let parts = and_parts (not (test c)) (list_all (λ b. not (test b)) front) h in
+    rw (not_true (test c) parts.0, first_behind test front back parts.1 e) (omega arith)
 
-take_front : (front back : List ℕ) → take (length front) (front ++ back) ≡ front
+-- so that a space behind a word stands where the word ends
+at_once : (rest : List ℕ) → ends_word rest ≡ true → position_or_len is_space rest ≡ 0
+at_once [] e = refl
+at_once (b ∷ rest) e = rw e refl
+
+first_space : (word rest : List ℕ) → spaceless word ≡ true → ends_word rest ≡ true → position_or_len is_space (word ++ rest) ≡ length word
+first_space word rest h e = first_behind is_space word rest h (at_once rest e)
+
+pub take_front : (front back : List ℕ) → take (length front) (front ++ back) ≡ front
 take_front [] back = refl
 take_front (x ∷ front) back = ap (λ xs. x ∷ xs) (take_front front back)
 
-drop_front : (front back : List ℕ) → drop (length front) (front ++ back) ≡ back
+pub drop_front : (front back : List ℕ) → drop (length front) (front ++ back) ≡ back
 drop_front [] back = refl
 drop_front (x ∷ front) back = drop_front front back
 

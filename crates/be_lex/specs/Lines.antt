@@ -1,5 +1,5 @@
 -- What lines a text is cut into (this project's own).
-use Rattle.std.specs.Prelude.{ℕ, ◌-◌, Bool, true, false, ◌==◌, ◌&&◌, nat_le, if◌then◌else◌, List, [], ◌∷◌, length, take, slice_index}
+use Rattle.std.specs.Prelude.{ℕ, ◌-◌, Bool, true, false, not, ◌==◌, ◌&&◌, nat_le, if◌then◌else◌, List, [], ◌∷◌, length, take, slice_index}
 use Rattle.std.specs.List.{slice_split, list_all}
 use Rattle.be_lex.specs.Words.{is_empty}
 
@@ -17,6 +17,10 @@ lines_from (piece ∷ next ∷ pieces) = record { bytes = piece; ended = true } 
 -- the lines of a text
 unfoldable pub lines_of : List ℕ → List Line
 lines_of bytes = lines_from (slice_split (λ b. b == 10) bytes)
+
+-- bytes with no line feed among them
+abbrev pub is_line : List ℕ → Bool
+is_line bytes = list_all (λ b. not (b == 10)) bytes
 
 -- a carriage return stands directly before the line feed
 abbrev pub has_return : Line → Bool

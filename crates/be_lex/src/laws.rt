@@ -1,14 +1,25 @@
-ghost use Rattle.std.specs.Prelude.{◌≡◌, ◌∷◌, ◌++◌, ◌<◌, ◌^◌, ℕ, List, Some, IsTrue, unsigned_abs};
+ghost use Rattle.std.specs.Prelude.{◌≡◌, ◌≢◌, [], true, false, ◌∷◌, ◌++◌, ◌<◌, ◌^◌, ℕ, List, Some, IsTrue, unsigned_abs};
 ghost use Rattle.std.specs.Fmt.{signed_decimal};
 ghost use Rattle.be_color.specs.declared.colors.Color.{Color};
 ghost use Rattle.be_color.specs.declared.modes.Mode.{Mode};
 ghost use Rattle.be_color.specs.declared.patterns.Pattern.{Pattern};
+ghost use Rattle.be_lex.specs.Lines.{lines_of, Line, is_line};
 ghost use Rattle.be_lex.specs.Words.{words_of, is_word, behind_word, ends_word};
 ghost use Rattle.be_lex.specs.Numbers.{is_number, number_of};
 ghost use Rattle.be_lex.specs.Names.{is_name_within};
 ghost use Rattle.be_lex.specs.Colors.{color_of, color_text, is_color};
 ghost use Rattle.be_lex.specs.Patterns.{pattern_of, pattern_text, is_pattern};
 ghost use Rattle.be_lex.specs.Modes.{mode_of, mode_text};
+ghost use Rattle.be_lex.specs.Codes.{code_of, code_text};
+
+/// Bytes without a line feed are a line, with a line feed behind them or as the last.
+pub fn a_line_in_front_is_read()
+    ensures ended { (line rest : List ℕ) → IsTrue (is_line line)
+        → lines_of (line ++ 10 ∷ rest) ≡ record { bytes = line; ended = true } ∷ lines_of rest }
+    ensures last { (line : List ℕ) → IsTrue (is_line line) → line ≢ []
+        → lines_of line ≡ record { bytes = line; ended = false } ∷ [] }
+    ensures none { lines_of [] ≡ [] }
+{}
 
 /// A word that stands in front of a text is its first word, and what stands behind is left.
 pub fn a_word_in_front_is_read()
@@ -26,7 +37,8 @@ pub fn a_space_in_front_is_passed_over()
 
 /// A name is one word.
 pub fn a_name_is_a_word()
-    ensures { (most : ℕ) (word : List ℕ) → IsTrue (is_name_within most word) → IsTrue (is_word word) }
+    ensures { (most : ℕ) (word : List ℕ) → IsTrue (is_name_within most word)
+        → IsTrue (is_word word) }
 {}
 
 /// A number is read back from what is written of it, which is one word.
@@ -44,20 +56,23 @@ pub fn a_number_has_one_word()
 
 /// A colour is read back from its word.
 pub fn a_color_is_read_back()
-    ensures value { (color : Color) → IsTrue (is_color color) → color_of (color_text color) ≡ Some color }
+    ensures value { (color : Color) → IsTrue (is_color color)
+        → color_of (color_text color) ≡ Some color }
     ensures word { (color : Color) → IsTrue (is_color color) → IsTrue (is_word (color_text color)) }
 {}
 
 /// No other word is that colour.
 pub fn a_color_has_one_word()
-    ensures { (word : List ℕ) (color : Color) → color_of word ≡ Some color → color_text color ≡ word }
+    ensures { (word : List ℕ) (color : Color) → color_of word ≡ Some color
+        → color_text color ≡ word }
 {}
 
 /// A pattern is read back from its canonical word.
 pub fn a_pattern_is_read_back()
     ensures value { (pattern : Pattern) → IsTrue (is_pattern pattern)
         → pattern_of (pattern_text pattern) ≡ Some pattern }
-    ensures word { (pattern : Pattern) → IsTrue (is_pattern pattern) → IsTrue (is_word (pattern_text pattern)) }
+    ensures word { (pattern : Pattern) → IsTrue (is_pattern pattern)
+        → IsTrue (is_word (pattern_text pattern)) }
 {}
 
 /// A mode is read back from its word.
@@ -69,4 +84,9 @@ pub fn a_mode_is_read_back()
 /// No other word is that mode.
 pub fn a_mode_has_one_word()
     ensures { (word : List ℕ) (mode : Mode) → mode_of word ≡ Some mode → mode_text mode ≡ word }
+{}
+
+/// A code is written as the word that it was read from.
+pub fn a_code_has_one_word()
+    ensures { (word : List ℕ) (code : ℕ) → code_of word ≡ Some code → code_text code ≡ word }
 {}

@@ -69,7 +69,8 @@ impl<'a> Number<'a> {
 
     /// The number, where it is neither below 0 nor above `high`.
     pub fn up_to(&self, high: u64) -> Option<u64>
-        ensures { SomeIff result (IsTrue (between (pos 0) self.now (pos high))) (unsigned_abs self.now) }
+        ensures { SomeIff result (IsTrue (between (pos 0) self.now (pos high)))
+            (unsigned_abs self.now) }
     {
         if self.is_negative {
             return None;
@@ -91,7 +92,8 @@ impl<'a> Number<'a> {
     }
 }
 
-/// Appends a number's digits, `-` before those of a negative one. Without memory nothing is appended.
+/// Appends a number's digits, `-` before those of a negative one. Without memory nothing is
+/// appended.
 pub fn write_number(out: &mut Vec<u8>, number: i64) -> Result<(), NoMemory>
     ensures { out.new.items
         ≡ (if is_ok result then out.old.items ++ signed_decimal number else out.old.items) }
