@@ -1,0 +1,9 @@
+pub mod BetweenLemmas
+pub mod ShareLemmas
+pub mod PointLemmas
+pub mod RowLemmas
+pub mod WayLemmas
+pub mod SweepLemmas
+pub mod LineLemmas
+pub mod FrameLemmas
+pub mod RasterLemmas
