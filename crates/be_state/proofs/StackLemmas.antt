@@ -1,0 +1,74 @@
+-- Layers that are turned round: what all clips hold, and what all origins add up to.
+use Rattle.std.proofs.Common.{◌≡◌, ℕ, ◌+◌, ◌<◌, length, get_or, take, ℤ, ◌+ℤ◌, Bool, true, false, ◌&&◌, List, [], ◌∷◌, ◌++◌, map, reverse, fold, refl, sym, ap, ◌∙◌, arith}
+use Rattle.std.specs.Int.{int_min}
+use Rattle.std.specs.List.{list_all}
+use Rattle.std.proofs.lemmas.Int.{ints}
+use Rattle.std.proofs.lemmas.Bool.{and_left}
+use Rattle.std.proofs.lemmas.List.{map-append}
+use Rattle.std.proofs.lemmas.List.Folds.{list_all-append}
+use Rattle.std.proofs.lemmas.Grind.{fold-append, reverse_onto, take_at_read}
+use Rattle.be_geom.specs.declared.point.Point.{Point}
+use Rattle.be_geom.specs.Places.{sum_of}
+use Rattle.be_state.specs.Stacks.{Layer, Stack, base_of, allows, clip_has, origin_point}
+use Rattle.be_state.specs.Parts.{IsPart}
+use Rattle.be_state.proofs.PartLemmas.{both_part, no_part, same_part}
+
+all_again : (a b c : Bool) → a ≡ c → (a && (b && true)) ≡ (b && c)
+all_again a b c e = grind arith
+
+list_all-reverse : {X : Type 0} (p : X → Bool) (xs : List X) → list_all p (reverse xs) ≡ list_all p xs
+list_all-reverse p [] = refl
+list_all-reverse p (x ∷ xs) =
+    ap (list_all p) (reverse_onto xs x []) ∙ list_all-append p (reverse xs) (x ∷ []) ∙ all_again (list_all p (reverse xs)) (p x) (list_all p xs) (list_all-reverse p xs)
+
+-- a stack with the same saved layers
+pub viewed : (s : Stack) (top : Layer) (items saved : List Layer) → items ≡ saved → record { top = top; saved = reverse saved } ≡ s → record { top = top; saved = reverse items } ≡ s
+viewed s top items saved e k =
+    let with_saved : List Layer → Stack = λ t. record { top = top; saved = reverse t } in
+    ap with_saved e ∙ k
+
+-- what a stack allows
+pub allows_is : (s : Stack) (top : Layer) (items : List Layer) (x y : ℤ) → record { top = top; saved = reverse items } ≡ s → (clip_has top.clip x y && list_all (λ l. clip_has l.clip x y) items) ≡ allows s x y
+unfolding allows
+allows_is s top items x y e =
+    ap (λ t. clip_has top.clip x y && t) (sym (list_all-reverse (λ l. clip_has l.clip x y) items)) ∙ ap (λ t. list_all (λ l. clip_has l.clip x y) (t.top ∷ t.saved)) e
+
+-- where the clip in force doesn't hold the pixel
+pub top_fails : (s : Stack) (top : Layer) (items : List Layer) (x y last : ℤ) → record { top = top; saved = reverse items } ≡ s → IsPart (λ z. clip_has top.clip z y) x last → clip_has top.clip x y ≡ false → IsPart (λ z. allows s z y) x last
+top_fails s top items x y last e part fails =
+    no_part (λ z. clip_has top.clip z y) (λ z. allows s z y) x last part fails (λ z k. sym (allows_is s top items z y e) ∙ and_left (clip_has top.clip z y) (list_all (λ l. clip_has l.clip z y) items) k)
+
+-- where it does
+pub stack_part : (s : Stack) (top : Layer) (items : List Layer) (x y m n last : ℤ) → record { top = top; saved = reverse items } ≡ s → IsPart (λ z. clip_has top.clip z y) x m → IsPart (λ z. list_all (λ l. clip_has l.clip z y) items) x n → last ≡ int_min m n → IsPart (λ z. allows s z y) x last
+stack_part s top items x y m n last e a b k =
+    same_part (λ z. clip_has top.clip z y && list_all (λ l. clip_has l.clip z y) items) (λ z. allows s z y) x last (λ z. allows_is s top items z y e) (both_part (λ z. clip_has top.clip z y) (λ z. list_all (λ l. clip_has l.clip z y) items) x m n last a b k)
+
+sum_swap : (p q r : Point) → sum_of (sum_of p q) r ≡ sum_of (sum_of p r) q
+sum_swap p q r =
+    let across : (p.x +ℤ q.x) +ℤ r.x ≡ (p.x +ℤ r.x) +ℤ q.x = omega (arith, ints) in
+    let down : (p.y +ℤ q.y) +ℤ r.y ≡ (p.y +ℤ r.y) +ℤ q.y = omega (arith, ints) in
+    let at : ℤ → ℤ → Point = λ x y. record { x = x; y = y } in
+    ap (λ (x : ℤ). at x ((p.y +ℤ q.y) +ℤ r.y)) across ∙ ap (λ (y : ℤ). at ((p.x +ℤ r.x) +ℤ q.x) y) down
+
+fold_shift : (xs : List Point) (p q : Point) → fold sum_of (sum_of p q) xs ≡ sum_of (fold sum_of p xs) q
+fold_shift [] p q = refl
+fold_shift (x ∷ xs) p q = ap (λ t. fold sum_of t xs) (sum_swap p q x) ∙ fold_shift xs (sum_of p x) q
+
+abbrev origins : List Layer → List Point
+origins layers = map (λ l. l.state.origin) layers
+
+fold-reverse : (xs : List Layer) (p : Point) → fold sum_of p (origins (reverse xs)) ≡ fold sum_of p (origins xs)
+fold-reverse [] p = refl
+fold-reverse (x ∷ xs) p =
+    ap (λ t. fold sum_of p (origins t)) (reverse_onto xs x []) ∙ ap (fold sum_of p) (map-append (λ l. l.state.origin) (reverse xs) (x ∷ [])) ∙ fold-append sum_of p (origins (reverse xs)) (x.state.origin ∷ []) ∙ ap (λ t. sum_of t x.state.origin) (fold-reverse xs p) ∙ sym (fold_shift (origins xs) p x.state.origin)
+
+-- what all origins of a stack add up to
+pub base_is : (s : Stack) (top : Layer) (items : List Layer) → record { top = top; saved = reverse items } ≡ s → base_of s ≡ sum_of (fold sum_of origin_point (map (λ l. l.state.origin) items)) top.state.origin
+unfolding base_of
+base_is s top items e =
+    ap (λ t. fold sum_of origin_point (map (λ l. l.state.origin) (t.top ∷ t.saved))) (sym e) ∙ fold_shift (origins (reverse items)) origin_point top.state.origin ∙ ap (λ t. sum_of t top.state.origin) (fold-reverse items origin_point)
+
+-- one more origin
+pub next_sum : (xs : List Layer) (i : ℕ) (item : Layer) → i < length xs → item ≡ get_or xs i item → fold sum_of origin_point (map (λ l. l.state.origin) (take (i + 1) xs)) ≡ sum_of (fold sum_of origin_point (map (λ l. l.state.origin) (take i xs))) item.state.origin
+next_sum xs i item h is =
+    ap (λ t. fold sum_of origin_point (origins t)) (take_at_read xs i item h).1 ∙ ap (fold sum_of origin_point) (map-append (λ l. l.state.origin) (take i xs) (get_or xs i item ∷ [])) ∙ fold-append sum_of origin_point (origins (take i xs)) ((get_or xs i item).state.origin ∷ []) ∙ ap (λ (l : Layer). sum_of (fold sum_of origin_point (origins (take i xs))) l.state.origin) (sym is)

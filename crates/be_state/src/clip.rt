@@ -1,0 +1,106 @@
+ghost use Rattle.std.specs.Prelude.{◌≡◌, pos, negsuc, ◌+ℤ◌, ◌-ℤ◌, ◌≤ℤ◌, ◌<ℤ◌, ◌⊎◌, map};
+ghost use Rattle.be_geom.specs.Rects.{moved_rect};
+ghost use Rattle.be_region.specs.Regions.{region_has};
+ghost use Rattle.be_state.specs.Parts.{IsPart};
+ghost use Rattle.be_state.specs.Limits.{IsNear};
+
+use be_geom::Rect;
+use be_region::Region;
+use std::marker::Model;
+
+/// Where no column follows.
+pub(crate) const LAST_COLUMN: i32 = 2147483647;
+
+/// A region where it lies in the view. It is kept as it was given, since its pixels may lie where no
+/// region reaches.
+#[derive(Debug, Drop)]
+pub(crate) struct Clip {
+    region: Region,
+    /// The smallest rectangle round the region as it was given; none where it is empty.
+    frame: Option<Rect>,
+    /// How far right and how far down the region lies from there.
+    place: (i32, i32),
+}
+
+impl Model for Clip {
+    ghost use Rattle.std.specs.Prelude.{List, map};
+    ghost use Rattle.be_geom.specs.declared.rect.Rect.{Rect};
+    ghost use Rattle.be_geom.specs.Rects.{moved_rect};
+    ghost use Rattle.be_state.specs.Clips.{IsFramed};
+    ghost use Rattle.be_state.specs.Limits.{IsNear};
+
+    ghost Value = { List Rect };
+
+    ghost view = { λ c. map (λ r. moved_rect r c.place.0 c.place.1) c.region };
+
+    ghost invariant = { λ c. IsFramed c.region c.frame × IsNear 17 c.place.0 × IsNear 17 c.place.1 };
+}
+
+impl Clip {
+    /// The region, so far right and so far down.
+    pub(crate) fn new(region: Region, place: (i32, i32)) -> Clip
+        requires across { IsNear 17 place.0 }
+        requires down { IsNear 17 place.1 }
+        ensures { result ≡ map (λ r. moved_rect r place.0 place.1) region }
+    {
+        let frame = region.frame();
+        Clip {
+            region,
+            frame,
+            place,
+        }
+    }
+
+    /// Whether the clip holds the pixel, and a column up to which that stays so along the row.
+    pub(crate) fn part_at(&self, x: i32, y: i32) -> (bool, i32)
+        ensures answer { result.0 ≡ region_has self.now x y }
+        ensures part { IsPart (λ z. region_has self.now z y) x result.1 }
+    {
+        let Some(frame) = self.frame else {
+            return (false, LAST_COLUMN);
+        };
+        let (dx, dy) = self.place;
+        let left = moved(frame.left, dx);
+        let right = moved(frame.right, dx);
+        if y < moved(frame.top, dy) || moved(frame.bottom, dy) < y || right < x {
+            return (false, LAST_COLUMN);
+        }
+        if x < left {
+            return (false, left - 1);
+        }
+        let (inside, last) = self.region.run_at(moved_back(x, dx), moved_back(y, dy));
+        (inside, end_of(last, dx, right))
+    }
+}
+
+/// A coordinate of the region as it was given, where it lies.
+fn moved(edge: i16, by: i32) -> i32
+    requires { IsNear 17 by }
+    ensures moved { result ≡ edge +ℤ by }
+    ensures low { (by -ℤ pos 32768) ≤ℤ result }
+    ensures high { result ≤ℤ (by +ℤ pos 32767) }
+{
+    i32::from(edge) + by
+}
+
+/// A coordinate where the region lies, as it was given.
+fn moved_back(z: i32, by: i32) -> i32
+    requires near { IsNear 17 by }
+    requires low { (by -ℤ pos 32768) ≤ℤ z }
+    requires high { z ≤ℤ (by +ℤ pos 32767) }
+    ensures { result ≡ z -ℤ by }
+{
+    z - by
+}
+
+/// The last column of a run of the region, where it lies, up to the column `right`.
+fn end_of(last: i32, by: i32, right: i32) -> i32
+    requires near { IsNear 17 by }
+    requires last { negsuc 32767 ≤ℤ last }
+    requires low { (by -ℤ pos 32768) ≤ℤ right }
+    requires high { right ≤ℤ (by +ℤ pos 32767) }
+    ensures { ((result ≡ last +ℤ by) × (result <ℤ right))
+        ⊎ ((result ≡ right) × (right ≤ℤ (last +ℤ by))) }
+{
+    if last < right - by { last + by } else { right }
+}

@@ -1,0 +1,99 @@
+ghost use Rattle.std.specs.Prelude.{◌≡◌, map};
+ghost use Rattle.std.specs.Option.{option_map};
+ghost use Rattle.be_geom.specs.Rects.{moved_rect};
+ghost use Rattle.be_state.specs.Stacks.{clip_has, next_layer, first_stack};
+ghost use Rattle.be_state.specs.Parts.{IsPart};
+ghost use Rattle.be_state.specs.Limits.{IsNear, IsPenSize};
+
+use crate::State;
+use crate::clip::{Clip, LAST_COLUMN};
+use be_color::{Color, Mode, Rgb};
+use be_geom::Point;
+use be_region::Region;
+use std::marker::Model;
+
+const ORIGIN: Point = Point { x: 0, y: 0 };
+
+/// A state, and its clip if it has one.
+#[derive(Debug, Drop)]
+pub(crate) struct Layer {
+    state: State,
+    clip: Option<Clip>,
+}
+
+impl Model for Layer {
+    ghost use Rattle.be_state.specs.Stacks as stacks;
+    ghost use Rattle.be_state.specs.Limits.{IsPenSize};
+
+    ghost Value = { stacks.Layer };
+
+    ghost view = { λ l. record { state = l.state; clip = l.clip } };
+
+    ghost invariant = { λ l. IsPenSize l.state.pen_size };
+}
+
+impl Layer {
+    /// How every view draws at first, without a clip.
+    pub(crate) fn first() -> Layer
+        ensures { result ≡ first_stack.top }
+    {
+        Layer {
+            state: State {
+                high: Color::Solid(Rgb::BLACK),
+                low: Color::Solid(Rgb::WHITE),
+                mode: Mode::Copy,
+                pen_size: 1,
+                pen: ORIGIN,
+                origin: ORIGIN,
+            },
+            clip: None,
+        }
+    }
+
+    /// What is in force once this layer is saved.
+    pub(crate) fn next(&self) -> Layer
+        ensures { result ≡ next_layer self.now }
+    {
+        let mut state = self.state;
+        state.origin = ORIGIN;
+        Layer { state, clip: None }
+    }
+
+    pub(crate) fn state(&self) -> &State
+        ensures state { result.now ≡ self.now.state }
+        ensures pen { IsPenSize result.now.pen_size }
+    {
+        &self.state
+    }
+
+    pub(crate) fn set_state(&mut self, state: State)
+        requires { IsPenSize state.pen_size }
+        ensures { self.new ≡ record { state = state; clip = self.old.clip } }
+    {
+        self.state = state;
+    }
+
+    /// Takes another clip, which lies so far right and so far down.
+    pub(crate) fn set_clip(&mut self, clip: Option<Region>, place: (i32, i32))
+        requires across { IsNear 17 place.0 }
+        requires down { IsNear 17 place.1 }
+        ensures state { self.new.state ≡ self.old.state }
+        ensures clip { self.new.clip ≡ option_map (map (λ r. moved_rect r place.0 place.1)) clip }
+    {
+        self.clip = match clip {
+            Some(region) => Some(Clip::new(region, place)),
+            None => None,
+        };
+    }
+
+    /// Whether the clip holds the pixel, and a column up to which that stays so along the row.
+    pub(crate) fn part_at(&self, x: i32, y: i32) -> (bool, i32)
+        ensures answer { result.0 ≡ clip_has self.now.clip x y }
+        ensures part { IsPart (λ z. clip_has self.now.clip z y) x result.1 }
+    {
+        match &self.clip {
+            Some(clip) => clip.part_at(x, y),
+            None => (true, LAST_COLUMN),
+        }
+    }
+}
