@@ -49,7 +49,7 @@ child_more tree i v x y d h =
     ap (λ l. find p (reverse (children_from 0 v l))) (take_more tree i d h) ∙ ap (λ l. find p (reverse l)) (children-push 0 v (take i tree) w) ∙ ap (λ k. find p (reverse (children_from 0 v (take i tree) ++ one_child (is_number v w.parent) k w))) n ∙ last-push p (is_number v w.parent) (children_from 0 v (take i tree)) i w
 
 -- a child's number and its frame
-abbrev framed : ℕ × View → ℕ × Rect
+abbrev pub framed : ℕ × View → ℕ × Rect
 framed child = (child.0, child.1.frame)
 
 -- what is known of the last child found so far
@@ -89,7 +89,7 @@ pub below_none : (n : ℕ) (tree : Tree) (v : ℕ) (x y : ℤ) → None ≡ opti
 below_none zero tree v x y h = refl
 below_none (suc n) tree v x y h = stays (view_below n tree) v x y (last_child_at tree v x y) h
 
-below_some : (n : ℕ) (tree : Tree) (v : ℕ) (x y : ℤ) (child : ℕ × Rect) → 0 < n → Some child ≡ option_map framed (last_child_at tree v x y) → view_below n tree v x y ≡ view_below (n - 1) tree child.0 (x -ℤ child.1.left) (y -ℤ child.1.top)
+pub below_some : (n : ℕ) (tree : Tree) (v : ℕ) (x y : ℤ) (child : ℕ × Rect) → 0 < n → Some child ≡ option_map framed (last_child_at tree v x y) → view_below n tree v x y ≡ view_below (n - 1) tree child.0 (x -ℤ child.1.left) (y -ℤ child.1.top)
 below_some zero tree v x y child k h = absurd (omega arith)
 below_some (suc n) tree v x y child k h = goes_down (view_below n tree) v x y child (last_child_at tree v x y) h ∙ ap (λ m. view_below m tree child.0 (x -ℤ child.1.left) (y -ℤ child.1.top)) (omega arith)
 

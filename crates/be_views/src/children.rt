@@ -1,4 +1,4 @@
-ghost use Rattle.std.specs.Prelude.{◌≡◌, ◌<◌, ◌&&◌, true, length, option_map, IfSome};
+ghost use Rattle.std.specs.Prelude.{◌≡◌, ◌<◌, ◌&&◌, true, ◌-ℤ◌, length, option_map, IfSome};
 ghost use Rattle.be_geom.specs.Points.{between};
 ghost use Rattle.be_geom.specs.Rects.{rect_has};
 ghost use Rattle.be_geom.specs.Numbers.{is_number};
@@ -30,7 +30,7 @@ fn is_child_at(view: View, v: u16, x: i32, y: i32) -> bool
     lies_in(view.parent, v) && has_pixel(view.frame, x, y)
 }
 
-fn lies_in(parent: Option<u16>, v: u16) -> bool
+pub(crate) fn lies_in(parent: Option<u16>, v: u16) -> bool
     ensures { result ≡ is_number v parent }
 {
     match parent {
@@ -46,8 +46,20 @@ pub(crate) fn has_pixel(frame: Rect, x: i32, y: i32) -> bool
     is_between(frame.left, x, frame.right) && is_between(frame.top, y, frame.bottom)
 }
 
-fn is_between(low: i16, z: i32, high: i16) -> bool
+pub(crate) fn is_between(low: i16, z: i32, high: i16) -> bool
     ensures { result ≡ between low z high }
 {
     i32::from(low) <= z && z <= i32::from(high)
+}
+
+/// A pixel of a frame, from the frame's left top on.
+pub(crate) fn within(place: (i32, i32), frame: Rect) -> (i32, i32)
+    requires { rect_has frame place.0 place.1 ≡ true }
+    ensures across { result.0 ≡ place.0 -ℤ frame.left }
+    ensures down { result.1 ≡ place.1 -ℤ frame.top }
+{
+    (
+        place.0 - i32::from(frame.left),
+        place.1 - i32::from(frame.top),
+    )
 }

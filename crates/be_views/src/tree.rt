@@ -2,18 +2,23 @@ ghost use Rattle.be_geom.specs.Rects.{rect_has};
 ghost use Rattle.std.specs.Prelude.{◌≡◌, ◌<◌, ◌≤◌, ◌↔◌, ◌⊎◌, ℕ, true, pos, ◌-ℤ◌, ◌≤ℤ◌, ◌∷◌, [], length, slice_get, option_map, option_and_then, vec_len, vec_capacity, IfOk, IfSome, OnOk, OnErr, IsNone, IsErr};
 ghost use Rattle.be_views.specs.Trees.{parent_of, place_of, place_from};
 ghost use Rattle.be_views.specs.Pixels.{view_at, view_below};
+ghost use Rattle.be_region.specs.Runs.{IsRun};
 ghost use Rattle.be_views.specs.Resizing.{resized};
 ghost use Rattle.be_views.specs.Whole.{IsTree, root_view, with_view, depth_from, depth_of};
 ghost use Rattle.be_views.specs.Places.{pair_of, IsNear};
 
-use crate::children::{has_pixel, last_child_at};
+use crate::children::{has_pixel, last_child_at, within};
 use crate::fault::ViewFault;
 use crate::resize::{MAX_VIEWS, frames_after, root_frame, set_frames};
+use crate::run::{frame_gap_end, run_below};
 use crate::view::View;
 use be_follow::{Across, Down, Follow};
 use be_geom::{NoMemory, OutOfRange, Rect};
 use std::alloc::Global;
 use std::marker::Model;
+
+/// Where no column follows.
+const LAST_COLUMN: i32 = 2147483647;
 
 /// How deep a view may be, where the root is at depth 1.
 const MAX_DEPTH: usize = 8;
@@ -27,6 +32,7 @@ pub struct ViewTree {
 
 impl Model for ViewTree {
     ghost use Rattle.be_views.specs.Trees.{Tree};
+    ghost use Rattle.be_region.specs.Runs.{IsRun};
     ghost use Rattle.be_views.specs.Resizing.{resized};
     ghost use Rattle.be_views.specs.Whole.{IsTree};
 
@@ -139,6 +145,21 @@ impl ViewTree {
             Some(view_below(&self.views, x, y))
         } else {
             None
+        }
+    }
+
+    /// The view at a pixel of the window, and the last column up to which that stays so along the row.
+    pub fn run_at(&self, x: i32, y: i32) -> (Option<u16>, i32)
+        ensures answer { result.0 ≡ view_at self.now x y }
+        ensures run { IsRun (λ z. view_at self.now z y) x result.1 }
+    {
+        let root = self.views[0].frame;
+        if has_pixel(root, x, y) {
+            let end = i32::from(root.right);
+            let (view, last) = run_below(self.views.len(), &self.views, 0, (x, y), end);
+            (Some(view), last)
+        } else {
+            (None, frame_gap_end(root, (x, y), LAST_COLUMN))
         }
     }
 
@@ -259,18 +280,6 @@ fn view_below(views: &[View], x: i32, y: i32) -> u16
         }
     }
     view
-}
-
-/// A pixel of a frame, from the frame's left top on.
-fn within(place: (i32, i32), frame: Rect) -> (i32, i32)
-    requires { rect_has frame place.0 place.1 ≡ true }
-    ensures across { result.0 ≡ place.0 -ℤ frame.left }
-    ensures down { result.1 ≡ place.1 -ℤ frame.top }
-{
-    (
-        place.0 - i32::from(frame.left),
-        place.1 - i32::from(frame.top),
-    )
 }
 
 #[cfg(test)]

@@ -2,6 +2,7 @@ use super::ViewTree;
 use crate::fault::ViewFault;
 use be_follow::{Across, Down, Follow};
 use be_geom::{OutOfRange, Rect};
+use std::alloc::Global;
 use std::test::Fail;
 
 const FIXED: Follow = Follow {
@@ -85,6 +86,38 @@ fn refuses_views(rt: HostRuntime) -> Result<(), Fail> {
         Err(ViewFault::TooDeep)
     );
     assert_eq!(rt; tree.len(), 32);
+    Ok(())
+}
+
+/// A root with two children that overlap, each with a child.
+fn five_views(alloc: Global) -> Result<ViewTree, Fail> {
+    let mut tree = ViewTree::new(alloc, 9, 9)?;
+    tree.add(0, rect(1, 1, 5, 5), FIXED)?;
+    tree.add(0, rect(3, 3, 7, 7), FIXED)?;
+    tree.add(1, rect(0, 0, 0, 0), FIXED)?;
+    tree.add(2, rect(1, 1, 20, 1), FIXED)?;
+    Ok(tree)
+}
+
+#[test]
+fn goes_along_a_row(rt: HostRuntime) -> Result<(), Fail> {
+    let tree = five_views(rt.alloc())?;
+    for (x, y, run) in [
+        (-5, 4, (None, -1)),
+        (0, 4, (Some(0), 0)),
+        (1, 4, (Some(1), 2)),
+        (3, 4, (Some(2), 3)),
+        (4, 4, (Some(4), 7)),
+        (5, 4, (Some(4), 7)),
+        (8, 4, (Some(0), 9)),
+        (10, 4, (None, 2147483647)),
+        (0, 10, (None, 2147483647)),
+        (1, 1, (Some(3), 1)),
+        (2, 1, (Some(1), 5)),
+        (0, 9, (Some(0), 9)),
+    ] {
+        assert_eq!(rt; tree.run_at(x, y), run, "at {x}, {y}");
+    }
     Ok(())
 }
 

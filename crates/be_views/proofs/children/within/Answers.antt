@@ -1,7 +1,7 @@
 use Rattle.std.proofs.Common.{rules, SFits, w16, arith}
 use Rattle.std.proofs.lemmas.Int.{ints}
 use Rattle.be_views.proofs.ChildLemmas.{in_frame}
-use Rattle.be_views.proofs.tree.within.Goals as goal
+use Rattle.be_views.proofs.children.within.Goals as goal
 
 pub overflow_sub-result : goal.overflow_sub-result
 overflow_sub-result c =
