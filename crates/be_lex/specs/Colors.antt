@@ -15,6 +15,7 @@ rgb_from bytes = record { red = slice_index bytes 0; green = slice_index bytes 1
 unfoldable pub rgb_of : List ℕ → Option Rgb
 rgb_of word = option_map rgb_from (hex_bytes 3 word)
 
+-- the six digits of a colour that isn't transparent
 unfoldable pub rgb_text : Rgb → List ℕ
 rgb_text rgb = hex_text (rgb.red ∷ rgb.green ∷ rgb.blue ∷ [])
 

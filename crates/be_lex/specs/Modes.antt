@@ -5,6 +5,7 @@ use Rattle.std.specs.Map.{lookup}
 use Rattle.be_color.specs.declared.modes.Mode.{Mode}
 use Rattle.be_color.specs.declared.modes.Mode.TheVariants.{Copy, Over, Erase, Invert, Add, Subtract, Blend, Min, Max, Select}
 
+-- each mode with its word
 abbrev pub mode_words : List (List ℕ × Mode)
 mode_words =
     (codes "copy", Copy)
@@ -19,6 +20,7 @@ mode_words =
     ∷ (codes "select", Select)
     ∷ []
 
+-- the mode whose word it is
 unfoldable pub mode_of : List ℕ → Option Mode
 mode_of word = lookup (bytes_eq word) mode_words
 

@@ -5,15 +5,19 @@ use Rattle.std.specs.Str.{bytes_eq}
 use Rattle.be_color.specs.declared.patterns.Pattern.{Pattern}
 use Rattle.be_lex.specs.Hex.{hex_bytes, hex_text, are_bytes}
 
+-- B_SOLID_HIGH: each bit is 1
 abbrev pub high_rows : List ℕ
 high_rows = 0xff ∷ 0xff ∷ 0xff ∷ 0xff ∷ 0xff ∷ 0xff ∷ 0xff ∷ 0xff ∷ []
 
+-- B_SOLID_LOW: each bit is 0
 abbrev pub low_rows : List ℕ
 low_rows = 0 ∷ 0 ∷ 0 ∷ 0 ∷ 0 ∷ 0 ∷ 0 ∷ 0 ∷ []
 
+-- B_MIXED_COLORS: a chequerboard whose left top bit is 1
 abbrev pub mixed_rows : List ℕ
 mixed_rows = 0xaa ∷ 0x55 ∷ 0xaa ∷ 0x55 ∷ 0xaa ∷ 0x55 ∷ 0xaa ∷ 0x55 ∷ []
 
+-- the pattern of eight rows, the top one first
 abbrev pub with_rows : List ℕ → Pattern
 with_rows rows = record { rows = rows }
 

@@ -2,9 +2,11 @@
 use Rattle.std.specs.Prelude.{ℕ, zero, suc, Bool, true, false, not, ◌==◌, ◌&&◌, List, [], ◌∷◌, filter, drop, slice_index, Option, Some, None, if◌then◌else◌}
 use Rattle.std.specs.List.{slice_split, list_all, list_any, position_or_len, before_first, after_first}
 
+-- what stands between words
 abbrev pub is_space : ℕ → Bool
 is_space b = b == 32
 
+-- no bytes
 abbrev pub is_empty : List ℕ → Bool
 is_empty [] = true
 is_empty (b ∷ bytes) = false
