@@ -58,7 +58,7 @@ on_row : (rs : List Rect) (r : Rect) (e a b x : ℤ) → (e ≡ a) ⊎ (e ≡ b)
 on_row rs r e a b x (inl k) old new = (old.0, rw k (has_old rs r old.0 a old.1))
 on_row rs r e a b x (inr k) old new = (x, rw k (has_new rs r x b new))
 
-corners : (r : Rect) → IsNotEmpty r → (rect_has r r.left r.top ≡ true) × (rect_has r r.right r.bottom ≡ true)
+pub corners : (r : Rect) → IsNotEmpty r → (rect_has r r.left r.top ≡ true) × (rect_has r r.right r.bottom ≡ true)
 corners r full = (grind (arith, ints, between_tells), grind (arith, ints, between_tells))
 
 pub frame_more : (f : Rect) (rs : List Rect) (r : Rect) → IsNotEmpty r → IsFrame f rs → IsFrame (outer_rect f r) (rs ++ r ∷ [])

@@ -36,7 +36,7 @@ le_along a b c h k = omega (arith, ints)
 below_self : (r q : Rect) (y : ℤ) → r ≡ q → r.bottom <ℤ y → y ≤ℤ q.bottom → ⊥
 below_self r q y e k m = let f = ap (λ (s : Rect). s.bottom) e in absurd (omega (arith, ints))
 
-same_default : (rs : List Rect) (j : ℕ) (d e : Rect) → j < length rs → get_or rs j d ≡ get_or rs j e
+pub same_default : (rs : List Rect) (j : ℕ) (d e : Rect) → j < length rs → get_or rs j d ≡ get_or rs j e
 same_default rs j d e h = get_or_default rs j d e h
 
 related : (rs : List Rect) → AllPairs IsBefore rs → (i j : ℕ) (d : Rect) → i < length rs → j < length rs → Related (get_or rs i d) (get_or rs j d)
@@ -53,7 +53,7 @@ none_any [] x y h = refl
 none_any (s ∷ rs) x y h =
     rw (All-head (λ (q : Rect). rect_has q x y ≡ false) s rs h, none_any rs x y (All-tail (λ (q : Rect). rect_has q x y ≡ false) s rs h)) refl
 
-some_any : (rs : List Rect) (i : ℕ) (d : Rect) (x y : ℤ) → i < length rs → rect_has (get_or rs i d) x y ≡ true → region_has rs x y ≡ true
+pub some_any : (rs : List Rect) (i : ℕ) (d : Rect) (x y : ℤ) → i < length rs → rect_has (get_or rs i d) x y ≡ true → region_has rs x y ≡ true
 some_any [] i d x y h e = absurd (omega arith)
 some_any (s ∷ rs) zero d x y h e = or_left (rect_has s x y) (region_has rs x y) e
 some_any (s ∷ rs) (suc i) d x y h e = or_right (rect_has s x y) (region_has rs x y) (some_any rs i d x y (omega arith) e)
@@ -156,7 +156,7 @@ tail_of S Reach r rs h =
 -- ---- the first rectangle
 
 -- the rectangle that has a pixel
-found : (P : Rect → Type 0) (rs : List Rect) (x y : ℤ) → All P rs → region_has rs x y ≡ true → (q : Rect) × ((rect_has q x y ≡ true) × P q)
+pub found : (P : Rect → Type 0) (rs : List Rect) (x y : ℤ) → All P rs → region_has rs x y ≡ true → (q : Rect) × ((rect_has q x y ≡ true) × P q)
 found P [] x y h e = absurd (true≢false (sym e))
 found P (r ∷ rs) x y h e =
     elim (or_cases (rect_has r x y) (region_has rs x y) e) [ inl k ↦ (r, (k, All-head P r rs h)) | inr k ↦ found P rs x y (All-tail P r rs h) k ]

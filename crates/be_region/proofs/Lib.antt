@@ -1,14 +1,17 @@
 pub mod BandLemmas
+pub mod CopyLemmas
 pub mod CountLemmas
 pub mod DifferLemmas
 pub mod EqLemmas
 pub mod FrameLemmas
+pub mod KeptLemmas
 pub mod LawLemmas
 pub mod LineLemmas
 pub mod MergeLemmas
 pub mod MoveLemmas
 pub mod OneLemmas
 pub mod PairLemmas
+pub mod PartLemmas
 pub mod PlaceLemmas
 pub mod RowLemmas
 pub mod SpanLemmas

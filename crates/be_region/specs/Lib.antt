@@ -6,3 +6,4 @@ pub mod Rules
 pub mod Rows
 pub mod Spans
 pub mod Places
+pub mod Parts

@@ -13,6 +13,10 @@ use Rattle.be_region.specs.Rows.{AreAbove}
 abbrev pub spans_have : List Span → ℤ → Bool
 spans_have spans x = list_any (λ s. between s.left x s.right) spans
 
+-- the columns of a rectangle
+abbrev pub span_of : Rect → Span
+span_of r = record { left = r.left; right = r.right }
+
 -- the spans lie between two columns, in order, none is empty, and no two touch
 abbrev pub AreWithin : ℤ → List Span → ℤ → Type 0
 AreWithin low [] high = low <ℤ high

@@ -5,17 +5,21 @@
 //! one another, the bands go down, and bands that touch have different spans. So a set has one list
 //! of rectangles, whatever way it was made.
 //!
-//! No call goes pixel by pixel. `include`, `exclude` and `intersect` go down the bands of both regions
-//! once, and take a few steps for each span of the bands that share rows, as much memory as the
-//! result, and a line of spans beside it. `contains` and `run_at` find their band by bisection, and
-//! `count` and `rect_at` take a constant number of steps. Every other call takes a few steps for each
-//! rectangle.
+//! No call goes pixel by pixel. `include` and `exclude` copy the bands that touch no row of the other
+//! region, which are found by bisection, and go down the other bands of both once; `intersect` goes
+//! down all. The rows are taken in strips, as far as both have the same spans, and a strip costs a few
+//! steps for each span of the two bands there. So a band of n spans that has its rows in common with m
+//! bands of the other region costs n times m steps, also where the result has few rectangles. Each
+//! takes as much memory as the result, the walked part of it once more, and two lines of spans.
+//! `contains` and `run_at` find their band by bisection, and `count` and `rect_at` take a constant
+//! number of steps. Every other call takes a few steps for each rectangle.
 #![tactic(auto)]
 
 mod bands;
 mod edges;
 mod law;
 mod line;
+mod parts;
 mod place;
 mod region;
 mod rows;

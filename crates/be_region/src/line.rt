@@ -1,4 +1,4 @@
-ghost use Rattle.std.specs.Prelude.{◌≡◌, ℤ, pos, negsuc, ◌≤ℤ◌, ◌<ℤ◌, ◌⊎◌, [], Bool, IfOk, OnOk, is_some};
+ghost use Rattle.std.specs.Prelude.{◌≡◌, ◌↔◌, IsTrue, IfSome, ℤ, pos, negsuc, ◌≤ℤ◌, ◌<ℤ◌, ◌⊎◌, [], Bool, IfOk, OnOk, is_some};
 ghost use Rattle.be_region.specs.Rules.{keeps};
 ghost use Rattle.be_region.specs.Rows.{line_has, IsLine, edge_of, IsLeftAt};
 ghost use Rattle.be_region.specs.Spans.{spans_have, AreSpans, AreColumnsBefore, BeginsBefore};
@@ -19,7 +19,65 @@ struct Line<'a> {
 }
 
 /// The spans of the columns that are kept of two lines, in place of those that were there.
-pub(crate) fn merge_lines(
+pub(crate) fn keep_columns(
+    spans: &mut Vec<Span>,
+    one: &[Rect],
+    other: &[Rect],
+    rule: Rule,
+) -> Result<(), NoMemory>
+    requires one { IsLine one.now }
+    requires other { IsLine other.now }
+    ensures apart { OnOk result (AreSpans spans.new.items) }
+    ensures columns { OnOk result ((x : ℤ) → spans_have spans.new.items x
+        ≡ keeps rule (line_has one.now x) (line_has other.now x)) }
+{
+    match lone_line(one, other, rule) {
+        Some(line) => copy_line(spans, line),
+        None => merge_lines(spans, one, other, rule),
+    }
+}
+
+/// The line that has the columns that are kept, where one of the two has none.
+fn lone_line<'a>(one: &'a [Rect], other: &'a [Rect], rule: Rule) -> Option<&'a [Rect]>
+    requires one { IsLine one.now }
+    requires other { IsLine other.now }
+    ensures line { IfSome result (λ line. IsLine line.now) }
+    ensures columns { IfSome result (λ line. (x : ℤ) → line_has line.now x
+        ≡ keeps rule (line_has one.now x) (line_has other.now x)) }
+{
+    match (has_none(one), has_none(other), rule) {
+        (true, _, Rule::Union) => Some(other),
+        (true, _, Rule::Difference | Rule::Intersection) => Some(one),
+        (false, true, Rule::Union | Rule::Difference) => Some(one),
+        (false, true, Rule::Intersection) => Some(other),
+        (false, false, _) => None,
+    }
+}
+
+fn has_none(line: &[Rect]) -> bool
+    ensures { IsTrue result ↔ (line.now ≡ []) }
+{
+    line.is_empty()
+}
+
+/// The spans of a line, in place of those that were there.
+fn copy_line(spans: &mut Vec<Span>, line: &[Rect]) -> Result<(), NoMemory>
+    requires { IsLine line.now }
+    ensures apart { OnOk result (AreSpans spans.new.items) }
+    ensures columns { OnOk result ((x : ℤ) → spans_have spans.new.items x ≡ line_has line.now x) }
+{
+    spans.clear();
+    for rect in line {
+        spans.push(Span {
+            left: rect.left,
+            right: rect.right,
+        })?;
+    }
+    Ok(())
+}
+
+/// The same, edge by edge.
+fn merge_lines(
     spans: &mut Vec<Span>,
     one: &[Rect],
     other: &[Rect],

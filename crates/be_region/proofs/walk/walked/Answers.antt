@@ -6,7 +6,7 @@ use Rattle.be_region.specs.Regions.{region_has}
 use Rattle.be_region.specs.Rules.{keeps}
 use Rattle.be_region.specs.Spans.{bands_of}
 use Rattle.be_region.proofs.WalkLemmas.{rows_first, rows_next, rows_smaller, all_made}
-use Rattle.be_region.proofs.walk.merged.Goals as goal
+use Rattle.be_region.proofs.walk.walked.Goals as goal
 
 pub walk-init : goal.walk-init
 walk-init c =
@@ -62,7 +62,7 @@ walk-preserved c =
     let pixels = simp to_z-of_z at c.in_ok-add.ensures.pixels in
     let p = simp to_z-of_z at c.below-one.ensures in
     let q = simp to_z-of_z at c.below-other.ensures in
-    simp to_z-of_z (rows_next c.args.rule c.args.one.now c.args.other.now c.walk.bands c.add.new.self c.walk.one c.walk.other c.below-one.result c.below-other.result (to_z w32 c.walk.y-bits) c.last_row_of_both-bottom.result c.merge_lines.new.spans.items c.line.result.now c.line-in-walk.result.now h b.low b.high b.one_same b.other_same c.line.ensures.columns c.line-in-walk.ensures.columns c.in_ok-merge_lines.ensures.columns c.in_ok-add.ensures.bands above pixels p.from q.from p.same q.same)
+    simp to_z-of_z (rows_next c.args.rule c.args.one.now c.args.other.now c.walk.bands c.add.new.self c.walk.one c.walk.other c.below-one.result c.below-other.result (to_z w32 c.walk.y-bits) c.last_row_of_both-bottom.result c.keep_columns.new.spans.items c.line.result.now c.line-in-walk.result.now h b.low b.high b.one_same b.other_same c.line.ensures.columns c.line-in-walk.ensures.columns c.in_ok-keep_columns.ensures.columns c.in_ok-add.ensures.bands above pixels p.from q.from p.same q.same)
 
 pub returns-clause-pixels : goal.returns-clause-pixels
 returns-clause-pixels c =

@@ -1,5 +1,5 @@
 use Rattle.be_region.proofs.WalkLemmas.{AreRowsMade, rows_left}
-use Rattle.be_region.proofs.walk.merged.Given as goal
+use Rattle.be_region.proofs.walk.walked.Given as goal
 
 abbrev pub invariant-walk : goal.invariant-walk
 invariant-walk l = AreRowsMade l.rule l.fn.one l.fn.other l.bands l.one l.other l.y
