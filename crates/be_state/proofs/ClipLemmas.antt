@@ -1,10 +1,8 @@
 -- A region where it lies in the view.
 use Rattle.std.proofs.Common.{◌≡◌, ℤ, pos, ◌+ℤ◌, ◌-ℤ◌, ◌≤ℤ◌, ◌<ℤ◌, Bool, true, false, ◌⊎◌, inl, inr, List, map, Option, Some, None, FitsSigned, to_z, of_z, w32, refl, sym, subst, ap, ◌∙◌, arith}
 use Rattle.std.proofs.lemmas.Int.{ints}
-use Rattle.std.proofs.lemmas.Bool.{true≢false}
 use Rattle.be_geom.specs.declared.rect.Rect.{Rect}
 use Rattle.be_geom.specs.Rects.{rect_has, moved_rect}
-use Rattle.be_geom.specs.Points.{between}
 use Rattle.be_geom.proofs.Between.{between_tells}
 use Rattle.be_region.specs.Regions.{region_has, HasNone}
 use Rattle.be_region.specs.Frames.{IsFrame}

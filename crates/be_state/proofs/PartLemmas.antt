@@ -1,5 +1,5 @@
 -- Answers along a row: parts, and what is made of them.
-use Rattle.std.proofs.Common.{◌≡◌, ℕ, ◌+◌, ◌-◌, ◌<◌, ◌≤◌, ℤ, pos, ◌+ℤ◌, ◌-ℤ◌, ◌≤ℤ◌, ◌<ℤ◌, List, length, get_or, take, Bool, true, false, ◌&&◌, ◌⊎◌, inl, inr, refl, sym, ap, ◌∙◌, arith}
+use Rattle.std.proofs.Common.{◌≡◌, ℕ, ◌+◌, ◌-◌, ◌<◌, ◌≤◌, ℤ, pos, ◌+ℤ◌, ◌≤ℤ◌, List, length, get_or, take, Bool, true, false, ◌&&◌, ◌⊎◌, inl, inr, sym, ap, ◌∙◌, arith}
 use borrow.Author.Differences.{up, down}
 use Rattle.std.specs.Int.{int_min}
 use Rattle.std.specs.List.{list_all}

@@ -11,8 +11,8 @@ use std::marker::Model;
 /// Where no column follows.
 pub(crate) const LAST_COLUMN: i32 = 2147483647;
 
-/// A region where it lies in the view. It is kept as it was given, since its pixels may lie where no
-/// region reaches.
+/// A region where it lies in the view. It is kept as it was given, since its pixels may lie where
+/// no region reaches.
 #[derive(Debug, Drop)]
 pub(crate) struct Clip {
     region: Region,
@@ -33,7 +33,8 @@ impl Model for Clip {
 
     ghost view = { λ c. map (λ r. moved_rect r c.place.0 c.place.1) c.region };
 
-    ghost invariant = { λ c. IsFramed c.region c.frame × IsNear 17 c.place.0 × IsNear 17 c.place.1 };
+    ghost invariant = { λ c. IsFramed c.region c.frame
+        × IsNear 17 c.place.0 × IsNear 17 c.place.1 };
 }
 
 impl Clip {

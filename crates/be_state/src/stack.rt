@@ -83,7 +83,8 @@ impl StateStack {
         self.part_at(x, y).0
     }
 
-    /// Whether every clip holds the pixel, and the last column up to which that stays so along the row.
+    /// Whether every clip holds the pixel, and the last column up to which that stays so along the
+    /// row.
     pub fn run_at(&self, x: i32, y: i32) -> (bool, i32)
         ensures answer { result.0 ≡ allows self.now x y }
         ensures run { IsRun (λ z. allows self.now z y) x result.1 }
@@ -110,8 +111,9 @@ impl StateStack {
         self.top.set_state(state);
     }
 
-    /// Gives the state in force a clip in place of its own, or none: `BView::ConstrainClippingRegion`. The
-    /// region lies where drawing goes now, and stays there when an origin changes.
+    /// Gives the state in force a clip in place of its own, or none:
+    /// `BView::ConstrainClippingRegion`. The region lies where drawing goes now, and stays there
+    /// when an origin changes.
     pub fn set_clip(&mut self, clip: Option<Region>)
         ensures { self.new ≡ with_clip self.old clip }
     {
@@ -119,7 +121,8 @@ impl StateStack {
         self.top.set_clip(clip, base);
     }
 
-    /// Saves the state in force: `BView::PushState`. The next one has its origin at (0, 0) and no clip.
+    /// Saves the state in force: `BView::PushState`. The next one has its origin at (0, 0) and no
+    /// clip.
     pub fn push(&mut self) -> Result<(), StackFull>
         ensures full { IsErr result ↔ (can_push self.old ≡ false) }
         ensures ok { OnOk result (self.new ≡ pushed self.old) }
@@ -147,7 +150,8 @@ impl StateStack {
         Ok(())
     }
 
-    /// Whether every clip holds the pixel, and a column up to which that stays so along the row.
+    /// Whether every clip holds the pixel, and a column up to which that stays so along the row;
+    /// after a yes the last one.
     fn part_at(&self, x: i32, y: i32) -> (bool, i32)
         ensures answer { result.0 ≡ allows self.now x y }
         ensures part { IsPart (λ z. allows self.now z y) x result.1 }
@@ -164,8 +168,10 @@ impl StateStack {
 /// The origins of all layers together.
 fn sum_of_origins(layers: &[Layer]) -> (i32, i32)
     requires { length layers.now ≤ 16 }
-    ensures across { result.0 ≡ (fold sum_of origin_point (map (λ l. l.state.origin) layers.now)).x }
-    ensures down { result.1 ≡ (fold sum_of origin_point (map (λ l. l.state.origin) layers.now)).y }
+    ensures across { result.0
+        ≡ (fold sum_of origin_point (map (λ l. l.state.origin) layers.now)).x }
+    ensures down { result.1
+        ≡ (fold sum_of origin_point (map (λ l. l.state.origin) layers.now)).y }
     ensures near { IsNear 16 result.0 × IsNear 16 result.1 }
 {
     let mut x = 0;
@@ -178,7 +184,8 @@ fn sum_of_origins(layers: &[Layer]) -> (i32, i32)
     (x, y)
 }
 
-/// Whether the clips of all layers hold the pixel, and a column up to which that stays so along the row.
+/// Whether the clips of all layers hold the pixel, and a column up to which that stays so along
+/// the row; after a yes the last one.
 fn part_of_all(layers: &[Layer], x: i32, y: i32) -> (bool, i32)
     ensures answer { result.0 ≡ list_all (λ l. clip_has l.clip x y) layers.now }
     ensures part { IsPart (λ z. list_all (λ l. clip_has l.clip z y) layers.now) x result.1 }

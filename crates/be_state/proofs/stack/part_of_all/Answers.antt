@@ -1,4 +1,4 @@
-use Rattle.std.proofs.Common.{◌≡◌, ℤ, FitsSigned, to_z, of_z, w32, true, false, sym, ap, ◌∙◌, arith}
+use Rattle.std.proofs.Common.{ℤ, FitsSigned, to_z, of_z, w32, sym, ap, ◌∙◌, arith}
 use Rattle.std.specs.Int.{int_min}
 use Rattle.std.proofs.lemmas.Int.{ints, to_z-of_z}
 use Rattle.be_state.specs.Stacks.{clip_has}

@@ -1,4 +1,4 @@
-use Rattle.std.proofs.Common.{◌≡◌, ap, arith}
+use Rattle.std.proofs.Common.{ap, arith}
 use Rattle.std.proofs.lemmas.Int.{ints}
 use Rattle.be_state.proofs.StackLemmas.{next_sum}
 use Rattle.be_state.proofs.stack.sum_of_origins.Goals as goal

@@ -1,8 +1,5 @@
-use Rattle.std.proofs.Common.{◌≡◌, ℤ, pos, ◌+ℤ◌, ◌-ℤ◌, ◌≤ℤ◌, ◌<ℤ◌, ◌⊎◌, inl, inr, to_z, of_z, w32, sym, ◌∙◌, ap, arith}
+use Rattle.std.proofs.Common.{◌≡◌, ℤ, ◌+ℤ◌, ◌-ℤ◌, ◌≤ℤ◌, ◌<ℤ◌, ◌⊎◌, inl, inr, to_z, of_z, w32, sym, ◌∙◌, arith}
 use Rattle.std.proofs.lemmas.Int.{ints}
-use Rattle.be_region.specs.Frames.{IsFrame}
-use Rattle.be_state.specs.Limits.{IsNear}
-use Rattle.be_state.specs.Parts.{IsPart}
 use Rattle.be_state.proofs.ClipLemmas.{framed_none, framed_some, empty_none, empty_part, outside_none, outside_part, inside_part, shown_at, difference_is, cut_is, IsOutside}
 use Rattle.be_state.proofs.clip.Clip.part_at.Goals as goal
 use Rattle.be_state.proofs.clip.Clip.part_at.Goals.{then-y-moved-via-then-y-moved, then-y-moved-via-else-y-moved+then-moved-y, then-y-moved-via-else-y-moved+else-moved-y+then-right-x}

@@ -1,4 +1,4 @@
-use Rattle.std.proofs.Common.{◌≡◌, ap, arith}
+use Rattle.std.proofs.Common.{ap, arith}
 use Rattle.std.proofs.lemmas.Int.{ints}
 use Rattle.be_state.proofs.StackLemmas.{base_is, viewed}
 use Rattle.be_state.proofs.stack.StateStack.base.Goals as goal

@@ -1,9 +1,8 @@
-use Rattle.std.proofs.Common.{◌≡◌, ◌&&◌, ℤ, List, FitsSigned, to_z, of_z, w32, reverse, sym, ap, ◌∙◌, arith}
-use Rattle.std.specs.Int.{int_min}
+use Rattle.std.proofs.Common.{◌&&◌, FitsSigned, w32, sym, ap, ◌∙◌, arith}
 use Rattle.std.specs.List.{list_all}
 use Rattle.std.proofs.lemmas.Bool.{and_left}
 use Rattle.std.proofs.lemmas.Int.{ints, to_z-of_z}
-use Rattle.be_state.specs.Stacks.{Layer, Stack, clip_has}
+use Rattle.be_state.specs.Stacks.{clip_has}
 use Rattle.be_state.proofs.StackLemmas.{allows_is, top_fails, stack_part, viewed}
 use Rattle.be_state.proofs.stack.StateStack.part_at.Goals as goal
 

@@ -1,4 +1,4 @@
-use Rattle.std.proofs.Common.{◌≡◌, ◌<◌, ℤ, pos, ◌+ℤ◌, ◌-ℤ◌, ◌≤ℤ◌, ◌<ℤ◌, to_z, of_z, w32, FitsSigned, sym, ap, ◌∙◌, arith}
+use Rattle.std.proofs.Common.{to_z, of_z, w32, FitsSigned, sym, ◌∙◌, arith}
 use Rattle.std.proofs.lemmas.Int.{ints, to_z-of_z}
 use Rattle.be_state.specs.Stacks.{allows}
 use Rattle.be_state.proofs.PartLemmas.{fewer_left, none_more, none_run}
