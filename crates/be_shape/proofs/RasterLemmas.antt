@@ -1,5 +1,5 @@
 -- From the rows and runs of a fill, a frame and a line to those of a shape.
-use Rattle.std.proofs.Common.{◌≡◌, ℕ, ℤ, pos, Bool, true, false, ◌+ℤ◌, Option, Some, None, IfSome, IfNone, sym, ◌∙◌, refl, arith}
+use Rattle.std.proofs.Common.{◌≡◌, ℕ, ℤ, pos, Bool, false, ◌+ℤ◌, Option, Some, None, IfSome, IfNone, sym, ◌∙◌, refl, arith}
 use Rattle.std.proofs.lemmas.Int.{ints}
 use Rattle.be_geom.specs.declared.point.Point.{Point}
 use Rattle.be_geom.specs.declared.rect.Rect.{Rect}
@@ -9,8 +9,8 @@ use Rattle.be_shape.specs.declared.Raster.{Raster}
 use Rattle.be_shape.specs.declared.Raster.TheVariants.{Fill, Frame, Line}
 use Rattle.be_shape.specs.declared.row.Span.{Span}
 use Rattle.be_shape.specs.Rasters.{line_has, frame_has, is_not_empty, raster_has}
-use Rattle.be_shape.specs.Runs.{HasNoPixel, AreRows, HasNoneFrom, IsNextRun, IsNearRange}
-use Rattle.be_shape.specs.Rows.{IsSpan, AreEdges, ArePenRows, IsNextSpan, NoneFrom, AreSpanRows, span_has, swept_has}
+use Rattle.be_shape.specs.Runs.{HasNoPixel, AreRows, IsNextRun}
+use Rattle.be_shape.specs.Rows.{IsSpan, AreEdges, ArePenRows, IsNextSpan, AreSpanRows, span_has, swept_has}
 use Rattle.be_shape.proofs.BetweenLemmas.{is_between, not_below, not_above}
 use Rattle.be_shape.proofs.RowLemmas.{no_rows_no_pixel}
 use Rattle.be_shape.proofs.LineLemmas.{both, second_of_both, line_in_rows, pixel_of_row}
@@ -73,13 +73,6 @@ line_rows from to size rows sound all =
           (not_below rows.first y rows.last inside, not_above rows.first y rows.last inside);
     }
 
--- ---- none or some
-
-pub some_pixel : (r : Raster) (first last : ℤ) → AreRows r first last → HasNoPixel r → false ≡ true
-some_pixel r first last rows none =
-    let pixel = rows.each first (omega (arith, ints)) rows.forward in
-    sym (none pixel.0 first) ∙ pixel.1
-
 -- ---- runs
 
 pub next_run_of : (r : Raster) (y from : ℤ) (has : ℤ → Bool) (s : Span) → ((x : ℤ) → has x ≡ raster_has r x y) → IsNextSpan has from s → IsNextRun r y from s.first s.last
@@ -91,12 +84,6 @@ next_run_of r y from has s same next =
       within = λ x h k. sym (same x) ∙ next.within x h k;
       ended = sym (same (s.last +ℤ pos 1)) ∙ next.ended;
     }
-
-pub no_run_of : (r : Raster) (y from : ℤ) (has : ℤ → Bool) → ((x : ℤ) → has x ≡ raster_has r x y) → NoneFrom has from → HasNoneFrom r y from
-no_run_of r y from has same none x h = sym (same x) ∙ none x h
-
-pub some_run : (r : Raster) (y from first last : ℤ) → IsNextRun r y from first last → HasNoneFrom r y from → false ≡ true
-some_run r y from first last run none = sym (none first run.ahead) ∙ run.within first (omega (arith, ints)) run.forward
 
 -- ---- of a shape that is known to be a fill, a frame or a line
 
@@ -130,6 +117,3 @@ frame_some shape r size (Some rows) e h = rw e (record { sound = h.sound; all = 
 
 pub line_some : (shape : Raster) (from to : Point) (size : ℕ) (rows : Span) → shape ≡ Line from to size → IsSpan rows → ((z : ℤ) → span_has rows z ≡ swept_has size from.y to.y z) → AreSpanRows shape rows
 line_some shape from to size rows e sound all = rw e (record { sound = sound; all = line_rows from to size rows sound all })
-
-pub near_range : (s : Span) → IsSpan s → IsNearRange s.first s.last
-near_range s sound = (sound.low, sound.forward, sound.high)

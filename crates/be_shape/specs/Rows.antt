@@ -9,9 +9,11 @@ use Rattle.be_shape.specs.declared.row.Row.TheVariants.{Empty, One, Two}
 use Rattle.be_shape.specs.declared.row.Span.{Span}
 use Rattle.be_shape.specs.Runs.{AreRows}
 
+-- the column, or the row, is in the span
 abbrev pub span_has : Span → ℤ → Bool
 span_has s z = between s.first z s.last
 
+-- the column is in a run of the row
 abbrev pub row_has : Row → ℤ → Bool
 row_has Empty x = false
 row_has (One run) x = span_has run x
@@ -29,6 +31,7 @@ pub record IsPair (left right : Span) : Type 0 where
   pub right_sound : IsSpan right
   pub apart : (left.last +ℤ pos 1) <ℤ right.first
 
+-- the runs of a row are spans, two of them with a gap between
 abbrev pub IsRow : Row → Type 0
 IsRow Empty = Unit {0}
 IsRow (One run) = IsSpan run
