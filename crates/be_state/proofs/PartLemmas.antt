@@ -18,10 +18,6 @@ none_part answer x last h none = record {
   ends = λ e. absurd (true≢false (sym e ∙ none x (omega (arith, ints)) h));
 }
 
--- a yes all along
-pub all_part : (answer : ℤ → Bool) (x last : ℤ) → x ≤ℤ last → last ≡ pos 2147483647 → ((z : ℤ) → answer z ≡ true) → IsPart answer x last
-all_part answer x last h e all = record { forward = h; same = λ z low high. all z ∙ sym (all x); ends = λ _. inl e }
-
 min_cases : (m n last : ℤ) → last ≡ int_min m n → ((last ≡ m) × (m ≤ℤ n)) ⊎ ((last ≡ n) × (n ≤ℤ m))
 min_cases m n last e = grind (arith, ints)
 
