@@ -7,10 +7,11 @@
 //!
 //! No call goes pixel by pixel. `include` and `exclude` copy the bands that touch no row of the other
 //! region, which are found by bisection, and go down the other bands of both once; `intersect` goes
-//! down all. The rows are taken in strips, as far as both have the same spans, and a strip costs a few
-//! steps for each span of the two bands there. So a band of n spans that has its rows in common with m
-//! bands of the other region costs n times m steps, also where the result has few rectangles. Each
-//! takes as much memory as the result, the walked part of it once more, and two lines of spans.
+//! down all. The rows are taken in strips, as far as both have the same spans. A strip costs a few
+//! steps for each span of the two bands there, or of the result alone where one of them has all columns
+//! of the other in one span. So a band of n spans that has its rows in common with m bands of the other
+//! region, which cover it in part, costs n times m steps, also where the result has few rectangles.
+//! Each takes as much memory as the result, the walked part of it once more, and two lines of spans.
 //! `contains` and `run_at` find their band by bisection, and `count` and `rect_at` take a constant
 //! number of steps. Every other call takes a few steps for each rectangle.
 #![tactic(auto)]

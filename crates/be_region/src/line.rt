@@ -1,4 +1,4 @@
-ghost use Rattle.std.specs.Prelude.{◌≡◌, ◌↔◌, IsTrue, IfSome, ℤ, pos, negsuc, ◌≤ℤ◌, ◌<ℤ◌, ◌⊎◌, [], Bool, IfOk, OnOk, is_some};
+ghost use Rattle.std.specs.Prelude.{◌≡◌, true, IfSome, ℤ, pos, negsuc, ◌≤ℤ◌, ◌<ℤ◌, ◌⊎◌, [], Bool, IfOk, OnOk, is_some};
 ghost use Rattle.be_region.specs.Rules.{keeps};
 ghost use Rattle.be_region.specs.Rows.{line_has, IsLine, edge_of, IsLeftAt};
 ghost use Rattle.be_region.specs.Spans.{spans_have, AreSpans, AreColumnsBefore, BeginsBefore};
@@ -33,11 +33,16 @@ pub(crate) fn keep_columns(
 {
     match lone_line(one, other, rule) {
         Some(line) => copy_line(spans, line),
-        None => merge_lines(spans, one, other, rule),
+        None => match rule {
+            Rule::Union => merge_lines(spans, one, other, Rule::Union),
+            Rule::Difference => merge_lines(spans, one, other, Rule::Difference),
+            Rule::Intersection => merge_lines(spans, one, other, Rule::Intersection),
+        },
     }
 }
 
-/// The line that has the columns that are kept, where one of the two has none.
+/// The line that has the columns that are kept, where one of the two has all columns of the other in
+/// one rectangle, or the other has none.
 fn lone_line<'a>(one: &'a [Rect], other: &'a [Rect], rule: Rule) -> Option<&'a [Rect]>
     requires one { IsLine one.now }
     requires other { IsLine other.now }
@@ -45,19 +50,32 @@ fn lone_line<'a>(one: &'a [Rect], other: &'a [Rect], rule: Rule) -> Option<&'a [
     ensures columns { IfSome result (λ line. (x : ℤ) → line_has line.now x
         ≡ keeps rule (line_has one.now x) (line_has other.now x)) }
 {
-    match (has_none(one), has_none(other), rule) {
-        (true, _, Rule::Union) => Some(other),
-        (true, _, Rule::Difference | Rule::Intersection) => Some(one),
-        (false, true, Rule::Union | Rule::Difference) => Some(one),
-        (false, true, Rule::Intersection) => Some(other),
-        (false, false, _) => None,
+    match rule {
+        Rule::Union if covers(one, other) => Some(one),
+        Rule::Union if covers(other, one) => Some(other),
+        Rule::Difference if covers(other, one) => Some(&one[..0]),
+        Rule::Difference if other.is_empty() => Some(one),
+        Rule::Intersection if covers(one, other) => Some(other),
+        Rule::Intersection if covers(other, one) => Some(one),
+        _ => None,
     }
 }
 
-fn has_none(line: &[Rect]) -> bool
-    ensures { IsTrue result ↔ (line.now ≡ []) }
+/// Whether the first line is one rectangle with all columns of the second, or the second has none.
+fn covers(whole: &[Rect], line: &[Rect]) -> bool
+    requires { IsLine line.now }
+    ensures { result ≡ true
+        → (x : ℤ) → line_has line.now x ≡ true → line_has whole.now x ≡ true }
 {
-    line.is_empty()
+    if line.is_empty() {
+        return true;
+    }
+    let first = line[0];
+    let last = line[line.len() - 1];
+    match whole {
+        [rect] => rect.left <= first.left && last.right <= rect.right,
+        _ => false,
+    }
 }
 
 /// The spans of a line, in place of those that were there.
@@ -76,7 +94,8 @@ fn copy_line(spans: &mut Vec<Span>, line: &[Rect]) -> Result<(), NoMemory>
     Ok(())
 }
 
-/// The same, edge by edge.
+/// The same, edge by edge. Each caller has a loop of its own, for its rule.
+#[inline(always)]
 fn merge_lines(
     spans: &mut Vec<Span>,
     one: &[Rect],
