@@ -1,9 +1,9 @@
-ghost use Rattle.std.specs.Prelude.{◌≡◌, ◌≢◌, [], true, false, ◌∷◌, ◌++◌, ◌<◌, ◌^◌, ℕ, List, Some, IsTrue, unsigned_abs};
+ghost use Rattle.std.specs.Prelude.{◌≡◌, ◌≢◌, [], true, false, ◌∷◌, ◌++◌, ◌<◌, ◌^◌, ℕ, ℤ, List, Some, IsTrue, unsigned_abs};
 ghost use Rattle.std.specs.Fmt.{signed_decimal};
 ghost use Rattle.be_color.specs.declared.colors.Color.{Color};
 ghost use Rattle.be_color.specs.declared.modes.Mode.{Mode};
 ghost use Rattle.be_color.specs.declared.patterns.Pattern.{Pattern};
-ghost use Rattle.be_lex.specs.Lines.{lines_of, Line, is_line};
+ghost use Rattle.be_lex.specs.Lines.{lines_of, is_line};
 ghost use Rattle.be_lex.specs.Words.{words_of, is_word, behind_word, ends_word};
 ghost use Rattle.be_lex.specs.Numbers.{is_number, number_of};
 ghost use Rattle.be_lex.specs.Names.{is_name_within};
@@ -42,10 +42,13 @@ pub fn a_name_is_a_word()
 {}
 
 /// A number is read back from what is written of it, which is one word.
-pub fn a_number_is_read_back(number: i64)
-    ensures form { IsTrue (is_number (signed_decimal number)) }
-    ensures value { number_of (signed_decimal number) ≡ number }
-    ensures word { IsTrue (is_word (signed_decimal number)) }
+pub fn a_number_is_read_back()
+    ensures form { (number : ℤ) → unsigned_abs number < 2 ^ 64
+        → IsTrue (is_number (signed_decimal number)) }
+    ensures value { (number : ℤ) → unsigned_abs number < 2 ^ 64
+        → number_of (signed_decimal number) ≡ number }
+    ensures word { (number : ℤ) → unsigned_abs number < 2 ^ 64
+        → IsTrue (is_word (signed_decimal number)) }
 {}
 
 /// No other word is that number.
