@@ -13,7 +13,7 @@ use Rattle.be_geom.proofs.Between.{between_tells}
 use Rattle.be_views.specs.Trees.{View, Tree, children_from}
 use Rattle.be_views.specs.Pixels.{last_child_at, descended, view_below}
 
-between_parts : (low high z : ℤ) → between low z high ≡ true → (low ≤ℤ z) × (z ≤ℤ high)
+pub between_parts : (low high z : ℤ) → between low z high ≡ true → (low ≤ℤ z) × (z ≤ℤ high)
 between_parts low high z h = grind (arith, ints, between_tells)
 
 pub in_frame : (f : Rect) (x y : ℤ) → rect_has f x y ≡ true → (f.left ≤ℤ x) × (x ≤ℤ f.right) × (f.top ≤ℤ y) × (y ≤ℤ f.bottom)

@@ -6,3 +6,4 @@ pub mod WayLemmas
 pub mod FrontLemmas
 pub mod KinLemmas
 pub mod RunLemmas
+pub mod ClipLemmas

@@ -1,5 +1,4 @@
 ghost use Rattle.std.specs.Prelude.{◌≡◌};
-ghost use Rattle.be_views.specs.declared.fault.ViewFault.TheVariants.{NoMemory};
 
 use be_geom::NoMemory;
 use thiserror::Error;
@@ -21,10 +20,33 @@ pub enum ViewFault {
     NoMemory,
 }
 
+/// Why a view has no clip.
+#[derive(Clone, Copy, Debug, PartialEq, Eq, Error)]
+pub enum ClipFault {
+    /// There is no view of that number.
+    #[error("no such view")]
+    NoView,
+    /// There was no memory left.
+    #[error("no memory")]
+    NoMemory,
+}
+
 impl From<NoMemory> for ViewFault {
+    ghost use Rattle.be_views.specs.declared.fault.ViewFault.TheVariants.{NoMemory};
+
     ghost from_gives = { λ _ fault. fault ≡ NoMemory };
 
     fn from(_error: NoMemory) -> ViewFault {
         ViewFault::NoMemory
+    }
+}
+
+impl From<NoMemory> for ClipFault {
+    ghost use Rattle.be_views.specs.declared.fault.ClipFault.TheVariants.{NoMemory};
+
+    ghost from_gives = { λ _ fault. fault ≡ NoMemory };
+
+    fn from(_error: NoMemory) -> ClipFault {
+        ClipFault::NoMemory
     }
 }

@@ -3,17 +3,20 @@ ghost use Rattle.std.specs.Prelude.{◌≡◌, ◌<◌, ◌≤◌, ◌↔◌, �
 ghost use Rattle.be_views.specs.Trees.{parent_of, place_of, place_from};
 ghost use Rattle.be_views.specs.Pixels.{view_at, view_below};
 ghost use Rattle.be_region.specs.Runs.{IsRun};
+ghost use Rattle.be_views.specs.Clips.{IsClip};
 ghost use Rattle.be_views.specs.Resizing.{resized};
 ghost use Rattle.be_views.specs.Whole.{IsTree, root_view, with_view, depth_from, depth_of};
 ghost use Rattle.be_views.specs.Places.{pair_of, IsNear};
 
 use crate::children::{has_pixel, last_child_at, within};
-use crate::fault::ViewFault;
+use crate::clip::clip_of;
+use crate::fault::{ClipFault, ViewFault};
 use crate::resize::{MAX_VIEWS, frames_after, root_frame, set_frames};
 use crate::run::{frame_gap_end, run_below};
 use crate::view::View;
 use be_follow::{Across, Down, Follow};
 use be_geom::{NoMemory, OutOfRange, Rect};
+use be_region::Region;
 use std::alloc::Global;
 use std::marker::Model;
 
@@ -33,6 +36,7 @@ pub struct ViewTree {
 impl Model for ViewTree {
     ghost use Rattle.be_views.specs.Trees.{Tree};
     ghost use Rattle.be_region.specs.Runs.{IsRun};
+    ghost use Rattle.be_views.specs.Clips.{IsClip};
     ghost use Rattle.be_views.specs.Resizing.{resized};
     ghost use Rattle.be_views.specs.Whole.{IsTree};
 
@@ -161,6 +165,19 @@ impl ViewTree {
         } else {
             (None, frame_gap_end(root, (x, y), LAST_COLUMN))
         }
+    }
+
+    /// The pixels of the window at which a view's drawing shows: its frame within those round it, without
+    /// its children and what is in front. `BView::GetClippingRegion`, in the window's coordinates.
+    pub fn clip_of(&self, view: u16) -> Result<Region, ClipFault>
+        ensures no_view { (result ≡ Err ClipFault.NoView) ↔ (length self.now ≤ view) }
+        ensures clip { IfOk result (IsClip self.now view) }
+    {
+        if usize::from(view) >= self.views.len() {
+            return Err(ClipFault::NoView);
+        }
+        let alloc = *self.views.allocator();
+        Ok(clip_of(alloc, &self.views, view)?)
     }
 
     /// The views after their window's resize, which gives the size as `new` takes it: the frame of each

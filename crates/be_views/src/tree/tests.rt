@@ -1,5 +1,5 @@
 use super::ViewTree;
-use crate::fault::ViewFault;
+use crate::fault::{ClipFault, ViewFault};
 use be_follow::{Across, Down, Follow};
 use be_geom::{OutOfRange, Rect};
 use std::alloc::Global;
@@ -97,6 +97,41 @@ fn five_views(alloc: Global) -> Result<ViewTree, Fail> {
     tree.add(1, rect(0, 0, 0, 0), FIXED)?;
     tree.add(2, rect(1, 1, 20, 1), FIXED)?;
     Ok(tree)
+}
+
+#[test]
+fn cuts_a_view_by_those_round_it_and_in_it(rt: HostRuntime) -> Result<(), Fail> {
+    let tree = five_views(rt.alloc())?;
+    for (view, rects) in [
+        (
+            1,
+            [
+                Some(rect(2, 1, 5, 1)),
+                Some(rect(1, 2, 5, 2)),
+                Some(rect(1, 3, 2, 5)),
+                None,
+            ],
+        ),
+        (
+            2,
+            [
+                Some(rect(3, 3, 7, 3)),
+                Some(rect(3, 4, 3, 4)),
+                Some(rect(3, 5, 7, 7)),
+                None,
+            ],
+        ),
+        (3, [Some(rect(1, 1, 1, 1)), None, None, None]),
+        (4, [Some(rect(4, 4, 7, 4)), None, None, None]),
+    ] {
+        let clip = tree.clip_of(view)?;
+        for (place, rect) in rects.iter().enumerate() {
+            assert_eq!(rt; clip.rect_at(place), *rect, "{place} of {view}");
+        }
+    }
+    assert_eq!(rt; tree.clip_of(0)?.frame(), Some(rect(0, 0, 9, 9)));
+    assert!(rt; matches!(tree.clip_of(5), Err(ClipFault::NoView)));
+    Ok(())
 }
 
 #[test]
