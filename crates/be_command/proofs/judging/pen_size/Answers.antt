@@ -1,0 +1,10 @@
+use Rattle.std.proofs.Common.{arith, pos, sym}
+use Rattle.std.proofs.lemmas.Int.{ints, to_z-of_z}
+use Rattle.be_geom.proofs.Between.{between_tells}
+use Rattle.be_command.proofs.JudgingLemmas.{numbered_within}
+use Rattle.be_command.proofs.judging.pen_size.Goals as goal
+
+pub overflow_cast-result : goal.overflow_cast-result
+overflow_cast-result c =
+    let within = numbered_within (pos 1) (pos 32) _ _ (sym c.in_ok-number.ensures) in
+    grind (arith, ints, to_z-of_z, between_tells)

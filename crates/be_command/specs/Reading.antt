@@ -1,0 +1,40 @@
+-- Which command a line is, and which fault all other lines have (this project's own).
+use Rattle.std.specs.Prelude.{◌≡◌, ℕ, List, Option, Some, None, Result, Ok, Err}
+use Rattle.std.specs.Option.{option_and_then}
+use Rattle.be_command.specs.declared.Command.{Command}
+use Rattle.be_command.specs.declared.fault.Fault.{Fault}
+use Rattle.be_command.specs.declared.fault.CommandFault.{CommandFault}
+use Rattle.be_command.specs.declared.fault.CommandFault.TheVariants.{BadCommand, NoMemory}
+use Rattle.be_command.specs.declared.fault.Reason.TheVariants.{UnknownWord}
+use Rattle.be_command.specs.declared.first_word.FirstWord.{FirstWord}
+use Rattle.be_command.specs.Names.{Known}
+use Rattle.be_command.specs.Faults.{both, said_as}
+use Rattle.be_command.specs.Places.{At, word_at, after_word, ended}
+use Rattle.be_command.specs.Kinds.{said_all, after_all}
+use Rattle.be_command.specs.Forms.{Form, form_of, first_word_of}
+
+-- what stands behind the first word, to the line's end, read by its form
+abbrev pub read_by : Known → Form → At → Result Command Fault
+read_by known form at = said_as (λ x. form.makes x.0) (both (said_all known form.kinds at) (ended (after_all form.kinds at)))
+
+-- the same, where the first word is that of a command
+abbrev pub read_after : Known → Option FirstWord → At → Result Command Fault
+read_after known (Some word) at = read_by known (form_of word) at
+read_after known None at = Err (record { at = 0; reason = UnknownWord })
+
+abbrev pub line_start : List ℕ → At
+line_start line = record { text = line; place = 0 }
+
+-- the command that a line is
+unfoldable pub command_of : Known → List ℕ → Result Command Fault
+command_of known line =
+    read_after known (option_and_then first_word_of (word_at (line_start line))) (after_word (line_start line))
+
+-- a line that was read is the command, and a fault is the line's, but for memory
+abbrev pub IsFault : CommandFault → Result Command Fault → Type 0
+IsFault (BadCommand at reason) read = read ≡ Err (record { at = at; reason = reason })
+IsFault NoMemory read = Unit {0}
+
+abbrev pub IsRead : Result Command CommandFault → Result Command Fault → Type 0
+IsRead (Ok command) read = read ≡ Ok command
+IsRead (Err fault) read = IsFault fault read
