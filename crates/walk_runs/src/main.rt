@@ -1,5 +1,5 @@
-//! Goes through the runs of a shape, row by row and so many rounds, and writes how many pixels they had
-//! in all: of a shape of a size, as the words on the command line say. `bench/shape` times it.
+//! Goes through the runs of a shape, row by row and so many rounds, and writes how many pixels they
+//! had in all: of a shape and a size, as the words on the command line say. `bench/shape` times it.
 #![tactic(auto)]
 
 mod walk;

@@ -3,8 +3,8 @@ ghost use Rattle.std.specs.Prelude.{◌≤ℤ◌, pos};
 use be_geom::{Point, Rect};
 use be_shape::{PenSize, Raster};
 
-/// The shape of a name whose columns are 0 to `side` - 1: a square, the frame of one, a line with a pixel
-/// in each of so many rows, and one with so many pixels in ten rows at most.
+/// The shape of a name, of so many pixels from the origin on: a square, the frame of one, a line of
+/// so many rows, and a line of so many columns and ten rows at most.
 pub fn shape_of(name: &str, side: i16) -> Option<Raster> {
     if side < 1 {
         return None;
@@ -34,8 +34,8 @@ const fn at(x: i16, y: i16) -> Point {
     Point { x, y }
 }
 
-/// How many pixels the runs of a shape have, over all rounds. No round begins where the one before did,
-/// so that a compiler can't take two rounds for one.
+/// How many pixels the runs of a shape have, over all rounds. No round begins where the one before
+/// did, so that a compiler can't take two rounds for one.
 pub fn pixels_of_rounds(shape: &Raster, rounds: u32) -> u64 {
     let mut pixels = 0u64;
     for round in 0..rounds {
