@@ -11,17 +11,19 @@ use be_geom::{NoMemory, Rect};
 use be_region::Region;
 use std::alloc::Global;
 
-/// The first and the last coordinate.
+/// The least coordinate.
 const FIRST: i32 = -32768;
 
+/// The greatest coordinate.
 const LAST: i32 = 32767;
 
 /// The pixels of the window from which the way from the root down comes by a view.
 #[derive(Drop)]
 struct Reach {
     region: Region,
-    /// The view's left top within the window.
+    /// How far right the view's left top is of the window's.
     left: i32,
+    /// How far below it is.
     top: i32,
 }
 
@@ -37,6 +39,7 @@ pub(crate) fn clip_of(alloc: Global, views: &[View], v: u16) -> Result<Region, N
     Ok(reach.region)
 }
 
+/// From the root down: each view's pixels are its parent's, cut by its frame, less the later siblings.
 fn reach_of(alloc: Global, views: &[View], v: u16) -> Result<Reach, NoMemory>
     requires there { v < length views.now }
     requires few { length views.now ≤ 32 }
