@@ -7,10 +7,11 @@ ghost use Rattle.be_views.specs.Pixels.{last_child_at};
 use crate::view::View;
 use be_geom::Rect;
 
-/// Of the views that lie in view `v` directly, the one declared last whose frame holds the pixel, with
-/// that frame.
+/// Of the views that lie in view `v` directly, the one declared last whose frame holds the pixel,
+/// with that frame.
 pub(crate) fn last_child_at(views: &[View], v: u16, x: i32, y: i32) -> Option<(usize, Rect)>
-    ensures child { result ≡ option_map (λ child. (child.0, child.1.frame)) (last_child_at views.now v x y) }
+    ensures child { result ≡ option_map (λ child. (child.0, child.1.frame))
+        (last_child_at views.now v x y) }
     ensures there { IfSome result (λ child. child.0 < length views.now) }
     ensures holds { IfSome result (λ child. rect_has child.1 x y ≡ true) }
 {

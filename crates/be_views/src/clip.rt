@@ -39,7 +39,8 @@ pub(crate) fn clip_of(alloc: Global, views: &[View], v: u16) -> Result<Region, N
     Ok(reach.region)
 }
 
-/// From the root down: each view's pixels are its parent's, cut by its frame, less the later siblings.
+/// From the root down: each view's pixels are its parent's, cut by its frame, less the later
+/// siblings.
 fn reach_of(alloc: Global, views: &[View], v: u16) -> Result<Reach, NoMemory>
     requires there { v < length views.now }
     requires few { length views.now ≤ 32 }
@@ -131,8 +132,8 @@ fn region_of(alloc: Global, frame: Rect, left: i32, top: i32) -> Result<Region, 
     )
 }
 
-/// The first and the last of the coordinates from `low` to `high`, moved by so much, that stay in the
-/// range. None where none does.
+/// The first and the last of the coordinates from `low` to `high`, moved by so much, that stay in
+/// the range. None where none does.
 fn moved_edges(low: i16, high: i16, by: i32) -> Option<(i16, i16)>
     requires { IsNear 32 by }
     ensures { (z : ℤ) → in_range z ≡ true → edges_have result z ≡ between low (z -ℤ by) high }

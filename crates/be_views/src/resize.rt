@@ -21,7 +21,8 @@ pub(crate) fn frames_after(
     requires parents { AreParentsFirst views.now }
     ensures frames { IfOk result (λ frames.
         take (length views.now) frames ≡ frames_after views.now width height) }
-    ensures out { IsErr result ↔ (list_all rect_fits (frames_after views.now width height) ≡ false) }
+    ensures out { IsErr result
+        ↔ (list_all rect_fits (frames_after views.now width height) ≡ false) }
 {
     let mut frames = [root_frame(width, height); MAX_VIEWS];
     for (k, view) in views.iter().enumerate() {

@@ -9,8 +9,8 @@ use crate::children::{is_between, last_child_at, lies_in, within};
 use crate::view::View;
 use be_geom::Rect;
 
-/// The view below view `v` at a pixel, in so many steps at most, and the last column up to which that
-/// stays along the row, `end` at most. Columns are those of `v`.
+/// The view below view `v` at a pixel, in so many steps at most, and the last column up to which
+/// that stays along the row, `end` at most. Columns are those of `v`.
 pub(crate) fn run_below(
     steps: usize,
     views: &[View],
@@ -39,8 +39,8 @@ pub(crate) fn run_below(
     }
 }
 
-/// The child of view `v` that is in front at a pixel, with its frame, and the last column up to which
-/// that stays along the row, `end` at most.
+/// The child of view `v` that is in front at a pixel, with its frame, and the last column up to
+/// which that stays along the row, `end` at most.
 fn child_run(views: &[View], v: u16, place: (i32, i32), end: i32) -> (Option<(usize, Rect)>, i32)
     requires { place.0 ≤ℤ end }
     ensures child { result.0 ≡ option_map (λ child. (child.0, child.1.frame))
@@ -61,8 +61,8 @@ fn child_run(views: &[View], v: u16, place: (i32, i32), end: i32) -> (Option<(us
     (child, last)
 }
 
-/// The last column before the next of these views that lies in view `v` and has a pixel of the row, or
-/// `end`, if that comes first.
+/// The last column before the next of these views that lies in view `v` and has a pixel of the
+/// row, or `end`, if that comes first.
 fn gap_end(views: &[View], v: u16, place: (i32, i32), end: i32) -> i32
     requires forward { place.0 ≤ℤ end }
     requires none { covers views.now v place.0 place.1 ≡ false }

@@ -26,8 +26,8 @@ const LAST_COLUMN: i32 = 2147483647;
 /// How deep a view may be, where the root is at depth 1.
 const MAX_DEPTH: usize = 8;
 
-/// The views of a window, by their numbers: view 0 is the root, and a parent's number is below those
-/// of its children.
+/// The views of a window, by their numbers: view 0 is the root, and a parent's number is below
+/// those of its children.
 #[derive(Debug, Drop)]
 pub struct ViewTree {
     views: Vec<View>,
@@ -48,8 +48,8 @@ impl Model for ViewTree {
 }
 
 impl ViewTree {
-    /// The root alone, of a window whose right edge less the left one is `width` and whose bottom edge
-    /// less the top one is `height`.
+    /// The root alone, of a window whose right edge less the left one is `width` and whose bottom
+    /// edge less the top one is `height`.
     pub fn new(alloc: Global, width: i16, height: i16) -> Result<ViewTree, NoMemory>
         requires across { pos 0 ≤ℤ width }
         requires down { pos 0 ≤ℤ height }
@@ -60,8 +60,8 @@ impl ViewTree {
         Ok(ViewTree { views })
     }
 
-    /// Adds a view in front of its siblings, and gives its number: `BView::AddChild`. The frame is in the
-    /// parent's coordinates.
+    /// Adds a view in front of its siblings, and gives its number: `BView::AddChild`. The frame is
+    /// in the parent's coordinates.
     pub fn add(&mut self, parent: u16, frame: Rect, mode: Follow) -> Result<u16, ViewFault>
         ensures no_view { (result ≡ Err ViewFault.NoView) ↔ (length self.old ≤ parent) }
         ensures too_deep { (result ≡ Err ViewFault.TooDeep)
@@ -112,8 +112,8 @@ impl ViewTree {
         self.views.get(usize::from(view)).map(|view| view.frame)
     }
 
-    /// How a view's frame goes with its parent's size: `BView::ResizingMode`. None where there is no
-    /// such view.
+    /// How a view's frame goes with its parent's size: `BView::ResizingMode`. None where there is
+    /// no such view.
     pub fn mode_of(&self, view: u16) -> Option<Follow>
         ensures none { IsNone result ↔ (length self.now ≤ view) }
         ensures mode { result ≡ option_map (λ v. v.mode) (slice_get self.now view) }
@@ -121,8 +121,8 @@ impl ViewTree {
         self.views.get(usize::from(view)).map(|view| view.mode)
     }
 
-    /// The view in which a view lies: `BView::Parent`. None for the root, and where there is no such
-    /// view.
+    /// The view in which a view lies: `BView::Parent`. None for the root, and where there is no
+    /// such view.
     pub fn parent(&self, view: u16) -> Option<u16>
         ensures none { IsNone result ↔ ((view ≡ 0) ⊎ (length self.now ≤ view)) }
         ensures parent { result ≡ parent_of self.now view }
@@ -131,8 +131,8 @@ impl ViewTree {
         parent_of(&self.views, view)
     }
 
-    /// A view's left top within the window: `BView::ConvertToParent` up to the window. None where there is
-    /// no such view.
+    /// A view's left top within the window: `BView::ConvertToParent` up to the window. None where
+    /// there is no such view.
     pub fn place_of(&self, view: u16) -> Option<(i32, i32)>
         ensures none { IsNone result ↔ (length self.now ≤ view) }
         ensures place { result ≡ option_map pair_of (place_of self.now view) }
@@ -152,7 +152,8 @@ impl ViewTree {
         }
     }
 
-    /// The view at a pixel of the window, and the last column up to which that stays so along the row.
+    /// The view at a pixel of the window, and the last column up to which that stays so along the
+    /// row.
     pub fn run_at(&self, x: i32, y: i32) -> (Option<u16>, i32)
         ensures answer { result.0 ≡ view_at self.now x y }
         ensures run { IsRun (λ z. view_at self.now z y) x result.1 }
@@ -167,8 +168,9 @@ impl ViewTree {
         }
     }
 
-    /// The pixels of the window at which a view's drawing shows: its frame within those round it, without
-    /// its children and what is in front. `BView::GetClippingRegion`, in the window's coordinates.
+    /// The pixels of the window at which a view's drawing shows: its frame within those round it,
+    /// without its children and what is in front. `BView::GetClippingRegion`, in the window's
+    /// coordinates.
     pub fn clip_of(&self, view: u16) -> Result<Region, ClipFault>
         ensures no_view { (result ≡ Err ClipFault.NoView) ↔ (length self.now ≤ view) }
         ensures clip { IfOk result (IsClip self.now view) }
@@ -180,8 +182,8 @@ impl ViewTree {
         Ok(clip_of(alloc, &self.views, view)?)
     }
 
-    /// The views after their window's resize, which gives the size as `new` takes it: the frame of each
-    /// view but the root follows its parent's.
+    /// The views after their window's resize, which gives the size as `new` takes it: the frame of
+    /// each view but the root follows its parent's.
     pub fn resize(&mut self, width: i16, height: i16) -> Result<(), OutOfRange>
         requires across { pos 0 ≤ℤ width }
         requires down { pos 0 ≤ℤ height }
