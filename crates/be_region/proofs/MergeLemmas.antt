@@ -1,164 +1,294 @@
--- Two lines, walked edge by edge.
-use Rattle.std.proofs.Common.{◌≡◌, ℕ, ◌+◌, ◌-◌, ◌<◌, ℤ, pos, negsuc, ◌-ℤ◌, ◌≤ℤ◌, ◌<ℤ◌, ◌⊎◌, inl, inr, Bool, true, false, ◌||◌, List, [], Option, Some, None, is_some, suc, arith, refl, sym, ◌∙◌}
-use Rattle.std.specs.Int.{int_min}
+-- Two lines, walked rectangle by rectangle, and the spans that are made of them.
+use Rattle.std.proofs.Common.{◌≡◌, ℤ, pos, negsuc, ◌+ℤ◌, ◌-ℤ◌, ◌≤ℤ◌, ◌<ℤ◌, ◌⊎◌, inl, inr, Bool, true, false, not, ◌||◌, ◌&&◌, List, [], ◌∷◌, ◌++◌, length, arith, refl, sym, ap, ◌∙◌}
+use Rattle.std.specs.Prelude.{int_le}
+use Rattle.std.specs.Int.{int_max, int_min}
 use Rattle.std.proofs.lemmas.Int.{ints, clamps, by_lt_z}
-use Rattle.std.proofs.lemmas.Bool.{true≢false}
 use Rattle.be_geom.specs.declared.rect.Rect.{Rect}
+use Rattle.be_geom.specs.Points.{between}
+use Rattle.be_geom.proofs.Between.{between_tells}
 use Rattle.be_region.specs.declared.rule.Rule.{Rule}
 use Rattle.be_region.specs.declared.rule.Rule.TheVariants.{Union, Difference, Intersection}
 use Rattle.be_region.specs.declared.span.Span.{Span}
 use Rattle.be_region.specs.Rules.{keeps}
-use Rattle.be_region.specs.Rows.{line_has, IsLine, edge_of, IsLeftAt}
-use Rattle.be_region.specs.Spans.{spans_have, AreSpans, AreColumnsBefore, start_or}
-use Rattle.be_region.proofs.LineLemmas.{before_first, left_later}
-use Rattle.be_region.proofs.SpanLemmas.{behind_spans}
-
--- what is left of a line at a column, of which the columns from there on are those of the line
-pub record IsLeft (line rs : List Rect) (inside : Bool) (x : ℤ) : Type 0 where
-  pub line_left : IsLine rs
-  pub left : IsLeftAt x inside rs
-  pub next : x ≤ℤ edge_of inside rs
-  pub same : (z : ℤ) → x ≤ℤ z → line_has line z ≡ line_has rs z
-
-abbrev pub merged_columns : Rule → List Rect → List Rect → ℤ → Bool
-merged_columns rule one other z = keeps rule (line_has one z) (line_has other z)
+use Rattle.be_region.specs.Rows.{line_has, IsLine, edge_of}
+use Rattle.be_region.specs.Spans.{spans_have, AreSpans, AreWithin}
+use Rattle.be_region.proofs.LineLemmas.{before_first, edge_after, line_rest, before_line}
+use Rattle.be_region.proofs.SpanLemmas.{spans_have-push, within-push}
 
 pub keeps_none : (rule : Rule) → keeps rule false false ≡ false
 keeps_none Union = refl
 keeps_none Difference = refl
 keeps_none Intersection = refl
 
--- the columns before x are made, where x is the next edge of what is left of both
-pub record AreMerged (rule : Rule) (one other : List Rect) (spans : List Span) (begun : Option ℤ) (x : ℤ) (a : List Rect) (a_in : Bool) (b : List Rect) (b_in : Bool) : Type 0 where
-  pub one_left : IsLeft one a a_in x
-  pub other_left : IsLeft other b b_in x
-  pub edge : x ≡ int_min (edge_of a_in a) (edge_of b_in b)
-  pub low : negsuc 32767 ≤ℤ x
-  pub high : (x ≡ pos 2147483647) ⊎ (x ≤ℤ pos 32768)
-  pub over : pos 2147483647 ≤ℤ x → (a ≡ []) × (b ≡ [])
-  pub is_open : is_some begun ≡ keeps rule a_in b_in
-  pub made : AreColumnsBefore spans begun x (merged_columns rule one other)
+pub no_line : (rs : List Rect) → length rs ≡ 0 → rs ≡ []
+no_line [] e = refl
+no_line (r ∷ rs) e = absurd (omega arith)
 
--- ---- the measure
+-- a column of a line is not before its first rectangle
+pub line_from : (rs : List Rect) → IsLine rs → (z : ℤ) → (line_has rs z ≡ false) ⊎ (edge_of false rs ≤ℤ z)
+line_from rs h z = by_lt_z {P = (line_has rs z ≡ false) ⊎ (edge_of false rs ≤ℤ z)} z (edge_of false rs) (λ k. inl (before_first rs h z k)) (λ k. inr k)
 
-pub columns_left : ℤ → ℕ
-columns_left (pos n) = 2147483647 - n
-columns_left (negsuc n) = 2147483647 + suc n
+pub rest_line : (line : List Rect) (r : Rect) (rs : List Rect) → line ≡ r ∷ rs → IsLine line → IsLine rs
+rest_line line r rs e h = let k = rw e at h in line_rest (r.right +ℤ pos 1) rs k.1
 
-pub left_smaller : (x y : ℤ) → x <ℤ y → x <ℤ pos 2147483647 → columns_left y < columns_left x
-unfolding columns_left
-left_smaller (pos m) (pos n) h k = omega (arith, ints)
-left_smaller (pos m) (negsuc n) h k = absurd (omega (arith, ints))
-left_smaller (negsuc m) (pos n) h k = omega (arith, ints)
-left_smaller (negsuc m) (negsuc n) h k = omega (arith, ints)
+-- what is left of a line begins behind its first rectangle
+pub rest_behind : (line : List Rect) (r : Rect) (rs : List Rect) → line ≡ r ∷ rs → IsLine line → r.right ≤ℤ pos 32767 → (r.right +ℤ pos 1) <ℤ edge_of false rs
+rest_behind line r rs e h k = let l = rw e at h in edge_after (r.right +ℤ pos 1) rs l.1 (omega (arith, ints))
 
--- ---- the start
+pub first_full : (line : List Rect) (r : Rect) (rs : List Rect) → line ≡ r ∷ rs → IsLine line → r.left ≤ℤ r.right
+first_full line r rs e h = let l = rw e at h in l.0
 
-pub before_edges : (x e f : ℤ) → x ≡ int_min e f → (x ≤ℤ e) × (x ≤ℤ f)
-before_edges x e f m = (omega (arith, ints, clamps), omega (arith, ints, clamps))
+pub first_edge : (line : List Rect) (r : Rect) (rs : List Rect) → line ≡ r ∷ rs → edge_of false line ≡ r.left
+first_edge line r rs e = rw e refl
 
-pub after_edges : (x y e f : ℤ) → y ≡ int_min e f → x <ℤ e → x <ℤ f → x <ℤ y
-after_edges x y e f m h k = omega (arith, ints, clamps)
+pub last_edge : (line : List Rect) (r : Rect) (rs : List Rect) → line ≡ r ∷ rs → edge_of true line ≡ (r.right +ℤ pos 1)
+last_edge line r rs e = rw e refl
 
-pub lt_le : (x y : ℤ) → x <ℤ y → x ≤ℤ y
-lt_le x y h = omega (arith, ints)
+pub no_edge : (line : List Rect) → length line ≡ 0 → edge_of false line ≡ pos 2147483647
+no_edge line e = rw (no_line line e) refl
 
-pub left_first : (rs : List Rect) (x : ℤ) → IsLine rs → x ≤ℤ edge_of false rs → IsLeft rs rs false x
-left_first rs x h k = record { line_left = h; left = tt; next = k; same = λ z m. refl }
+-- ---- the union
 
-pub made_first : (rule : Rule) (one other : List Rect) (spans : List Span) (x : ℤ) → spans ≡ [] → IsLine one → IsLine other → x ≤ℤ edge_of false one → x ≤ℤ edge_of false other → AreColumnsBefore spans None x (merged_columns rule one other)
-made_first rule one other spans x e h k m n = rw e (record {
-  columns = λ z q. rw (before_first one h z (omega (arith, ints)), before_first other k z (omega (arith, ints))) (keeps_none rule);
-  apart = (x -ℤ pos 1, omega (arith, ints));
-  began = tt;
+pub none_apart : (spans : List Span) → spans ≡ [] → AreSpans spans
+none_apart spans e = rw e (pos 0, (pos 1, omega (arith, ints)))
+
+pub only_left : (one other : List Rect) (r : Rect) (rs : List Rect) → length one ≡ 0 → other ≡ r ∷ rs → r.left ≤ℤ pos 32767 → r.left ≡ int_min (edge_of false one) (edge_of false other)
+only_left one other r rs none e h =
+    let end = no_edge one none in
+    let first = first_edge other r rs e in
+    omega (arith, ints, clamps)
+
+pub only_order : (one other : List Rect) (r : Rect) (rs : List Rect) → length one ≡ 0 → other ≡ r ∷ rs → IsLine other → r.left ≤ℤ pos 32767 → r.right ≤ℤ pos 32767 → (r.left ≤ℤ edge_of false one) × (r.left ≤ℤ edge_of false rs)
+only_order one other r rs none e h k m =
+    let end = no_edge one none in
+    let full = first_full other r rs e h in
+    let behind = rest_behind other r rs e h m in
+    (omega (arith, ints), omega (arith, ints))
+
+or_swap : (a r b : Bool) → (a || (r || b)) ≡ (r || (a || b))
+or_swap true true b = refl
+or_swap true false b = refl
+or_swap false r b = refl
+
+or_assoc : (a b c : Bool) → ((a || b) || c) ≡ (a || (b || c))
+or_assoc true b c = refl
+or_assoc false b c = refl
+
+pub first_of_one : (one other : List Rect) (r : Rect) (rs : List Rect) → one ≡ r ∷ rs → (x : ℤ) → (line_has one x || line_has other x) ≡ (between r.left x r.right || (line_has rs x || line_has other x))
+first_of_one one other r rs e x = rw e (or_assoc (between r.left x r.right) (line_has rs x) (line_has other x))
+
+pub first_of_other : (one other : List Rect) (r : Rect) (rs : List Rect) → other ≡ r ∷ rs → (x : ℤ) → (line_has one x || line_has other x) ≡ (between r.left x r.right || (line_has one x || line_has rs x))
+first_of_other one other r rs e x = rw e (or_swap (line_has one x) (between r.left x r.right) (line_has rs x))
+
+wider_has : (l r a b z : ℤ) → l ≤ℤ a → a ≤ℤ (r +ℤ pos 1) → l ≤ℤ r → a ≤ℤ b → between l z (int_max r b) ≡ (between l z r || between a z b)
+wider_has l r a b z h k m n = grind (arith, ints, clamps, between_tells)
+
+pub grown_has : (s : Bool) (l r a b z : ℤ) → l ≤ℤ a → a ≤ℤ (r +ℤ pos 1) → l ≤ℤ r → a ≤ℤ b → (s || between l z (int_max r b)) ≡ ((s || between l z r) || between a z b)
+grown_has s l r a b z h k m n = rw (wider_has l r a b z h k m n) (sym (or_assoc s (between l z r) (between a z b)))
+
+pub pushed_has : (spans new : List Span) (s : Span) (q : Bool) (z : ℤ) → new ≡ spans ++ s ∷ [] → (spans_have new z || q) ≡ ((spans_have spans z || between s.left z s.right) || q)
+pushed_has spans new s q z e = ap (λ b. b || q) (ap (λ (t : List Span). spans_have t z) e ∙ spans_have-push spans s z)
+
+pub pushed_within : (low : ℤ) (spans new : List Span) (s : Span) (further : ℤ) → new ≡ spans ++ s ∷ [] → AreWithin low spans s.left → s.left ≤ℤ s.right → (s.right +ℤ pos 1) <ℤ further → AreWithin low new further
+pushed_within low spans new s further e h full k = rw e (within-push low spans s further h full k)
+
+-- the spans, the last one and what is left have the columns of both lines
+pub record AreUnited (one other : List Rect) (spans : List Span) (last : Span) (a b : List Rect) : Type 0 where
+  pub columns : (x : ℤ) → (line_has one x || line_has other x) ≡ ((spans_have spans x || between last.left x last.right) || (line_has a x || line_has b x))
+  pub apart : (low : ℤ) × AreWithin low spans last.left
+  pub full : last.left ≤ℤ last.right
+  pub order : (last.left ≤ℤ edge_of false a) × (last.left ≤ℤ edge_of false b)
+  pub one_line : IsLine a
+  pub other_line : IsLine b
+
+pub united_first : (one other : List Rect) (spans : List Span) (s : Span) (a b : List Rect) → spans ≡ [] → s.left ≤ℤ s.right → IsLine a × IsLine b → (s.left ≤ℤ edge_of false a) × (s.left ≤ℤ edge_of false b) → ((x : ℤ) → (line_has one x || line_has other x) ≡ (between s.left x s.right || (line_has a x || line_has b x))) → AreUnited one other spans s a b
+united_first one other spans s a b none full lines order columns = rw none (record {
+  columns = columns;
+  apart = (s.left -ℤ pos 1, omega (arith, ints));
+  full = full;
+  order = order;
+  one_line = lines.0;
+  other_line = lines.1;
 })
 
--- ---- a step
-
-pub left_next : (line old rs : List Rect) (was inside : Bool) (x y : ℤ) → IsLeft line old was x → x ≤ℤ y → IsLine rs → IsLeftAt x inside rs → y ≤ℤ edge_of inside rs → ((z : ℤ) → x ≤ℤ z → line_has rs z ≡ line_has old z) → IsLeft line rs inside y
-left_next line old rs was inside x y h k l m n same = record {
-  line_left = l;
-  left = left_later x y inside rs m k;
-  next = n;
-  same = λ z q. h.same z (omega (arith, ints)) ∙ sym (same z (omega (arith, ints)));
+pub united_next : (one other : List Rect) (spans new : List Span) (last next r : Span) (a b a' b' : List Rect) → AreUnited one other spans last a b → next.left ≤ℤ next.right → next.left ≤ℤ r.left → ((low : ℤ) → AreWithin low spans last.left → AreWithin low new next.left) → ((x : ℤ) → (spans_have new x || between next.left x next.right) ≡ ((spans_have spans x || between last.left x last.right) || between r.left x r.right)) → IsLine a' × IsLine b' → (r.left ≤ℤ edge_of false a') × (r.left ≤ℤ edge_of false b') → ((x : ℤ) → (line_has a x || line_has b x) ≡ (between r.left x r.right || (line_has a' x || line_has b' x))) → AreUnited one other new next a' b'
+united_next one other spans new last next r a b a' b' h full left apart columns lines order taken = record {
+  columns = λ x. h.columns x ∙ rw (taken x) (sym (rw (columns x) (or_assoc (spans_have spans x || between last.left x last.right) (between r.left x r.right) (line_has a' x || line_has b' x))));
+  apart = (h.apart.0, apart h.apart.0 h.apart.1);
+  full = full;
+  order = (let p = order.0 in omega (arith, ints), let p = order.1 in omega (arith, ints));
+  one_line = lines.0;
+  other_line = lines.1;
 }
-
-pub kept_between : (rule : Rule) (one other a b a' b' : List Rect) (a_was b_was a_in b_in : Bool) (x y : ℤ) → IsLeft one a a_was x → IsLeft other b b_was x → ((z : ℤ) → x ≤ℤ z → line_has a' z ≡ line_has a z) → ((z : ℤ) → x ≤ℤ z → line_has b' z ≡ line_has b z) → ((z : ℤ) → x ≤ℤ z → z <ℤ edge_of a_in a' → line_has a' z ≡ a_in) → ((z : ℤ) → x ≤ℤ z → z <ℤ edge_of b_in b' → line_has b' z ≡ b_in) → y ≤ℤ edge_of a_in a' → y ≤ℤ edge_of b_in b' → (z : ℤ) → x ≤ℤ z → z <ℤ y → merged_columns rule one other z ≡ keeps rule a_in b_in
-kept_between rule one other a b a' b' a_was b_was a_in b_in x y h k sa sb ia ib na nb z from to =
-    rw (h.same z from, k.same z from, sym (sa z from), sym (sb z from), ia z from (omega (arith, ints)), ib z from (omega (arith, ints))) refl
-
--- ---- the next edge of both
-
-pub record IsEdge (e : ℤ) (rs : List Rect) : Type 0 where
-  pub low : negsuc 32767 ≤ℤ e
-  pub top : e ≤ℤ pos 2147483647
-  pub last : (e ≡ pos 2147483647) ⊎ (e ≤ℤ pos 32768)
-  pub over : e ≡ pos 2147483647 → rs ≡ []
-
-high_of : (x e f : ℤ) → x ≡ int_min e f → (e ≡ pos 2147483647) ⊎ (e ≤ℤ pos 32768) → (f ≡ pos 2147483647) ⊎ (f ≤ℤ pos 32768) → (x ≡ pos 2147483647) ⊎ (x ≤ℤ pos 32768)
-high_of x e f m (inl h) (inl k) = inl (omega (arith, ints, clamps))
-high_of x e f m (inr h) k = inr (omega (arith, ints, clamps))
-high_of x e f m (inl h) (inr k) = inr (omega (arith, ints, clamps))
-
-at_top : (x e f : ℤ) → x ≡ int_min e f → e ≤ℤ pos 2147483647 → f ≤ℤ pos 2147483647 → pos 2147483647 ≤ℤ x → (e ≡ pos 2147483647) × (f ≡ pos 2147483647)
-at_top x e f m h k l = (omega (arith, ints, clamps), omega (arith, ints, clamps))
-
-pub first_merged : (rule : Rule) (one other : List Rect) (spans : List Span) (x e f : ℤ) → spans ≡ [] → IsLine one → IsLine other → x ≡ int_min e f → e ≡ edge_of false one → f ≡ edge_of false other → IsEdge e one → IsEdge f other → AreMerged rule one other spans None x one false other false
-first_merged rule one other spans x e f none h k m p q he hf =
-    let before = before_edges x e f m in
-    record {
-      one_left = left_first one x h (rw (← p) before.0);
-      other_left = left_first other x k (rw (← q) before.1);
-      edge = rw (m, p, q) refl;
-      low = let a = he.low in let b = hf.low in omega (arith, ints, clamps);
-      high = high_of x e f m he.last hf.last;
-      over = λ l. let t = at_top x e f m he.top hf.top l in (he.over t.0, hf.over t.1);
-      is_open = sym (keeps_none rule);
-      made = made_first rule one other spans x none h k (rw (← p) before.0) (rw (← q) before.1);
-    }
-
-pub next_merged : (rule : Rule) (one other : List Rect) (spans new : List Span) (begun next : Option ℤ) (x y e f : ℤ) (a : List Rect) (a_was : Bool) (b : List Rect) (b_was : Bool) (a' : List Rect) (a_in : Bool) (b' : List Rect) (b_in inside : Bool) → AreMerged rule one other spans begun x a a_was b b_was → IsLine a' → IsLine b' → IsLeftAt x a_in a' → IsLeftAt x b_in b' → x <ℤ edge_of a_in a' → x <ℤ edge_of b_in b' → ((z : ℤ) → x ≤ℤ z → line_has a' z ≡ line_has a z) → ((z : ℤ) → x ≤ℤ z → line_has b' z ≡ line_has b z) → ((z : ℤ) → x ≤ℤ z → z <ℤ edge_of a_in a' → line_has a' z ≡ a_in) → ((z : ℤ) → x ≤ℤ z → z <ℤ edge_of b_in b' → line_has b' z ≡ b_in) → inside ≡ keeps rule a_in b_in → is_some next ≡ inside → ((passes : ℤ → Bool) (further : ℤ) → x <ℤ further → ((z : ℤ) → x ≤ℤ z → z <ℤ further → passes z ≡ inside) → AreColumnsBefore spans begun x passes → AreColumnsBefore new next further passes) → y ≡ int_min e f → e ≡ edge_of a_in a' → f ≡ edge_of b_in b' → IsEdge e a' → IsEdge f b' → AreMerged rule one other new next y a' a_in b' b_in
-next_merged rule one other spans new begun next x y e f a a_was b b_was a' a_in b' b_in inside h la lb ta tb na nb sa sb ia ib at open' turn m p q he hf =
-    let before = before_edges y e f m in
-    let ya : y ≤ℤ edge_of a_in a' = rw (← p) before.0 in
-    let yb : y ≤ℤ edge_of b_in b' = rw (← q) before.1 in
-    let later : x <ℤ y = after_edges x y e f m (rw p na) (rw q nb) in
-    record {
-      one_left = left_next one a a' a_was a_in x y h.one_left (lt_le x y later) la ta ya sa;
-      other_left = left_next other b b' b_was b_in x y h.other_left (lt_le x y later) lb tb yb sb;
-      edge = rw (m, p, q) refl;
-      low = let s = he.low in let t = hf.low in omega (arith, ints, clamps);
-      high = high_of y e f m he.last hf.last;
-      over = λ l. let t = at_top y e f m he.top hf.top l in (he.over t.0, hf.over t.1);
-      is_open = open' ∙ at;
-      made = turn (merged_columns rule one other) y later (λ z r s. kept_between rule one other a b a' b' a_was b_was a_in b_in x y h.one_left h.other_left sa sb ia ib ya yb z r s ∙ sym at) h.made;
-    }
-
--- ---- the end
-
-closed : (begun : Option ℤ) → is_some begun ≡ false → begun ≡ None
-closed (Some x) h = absurd (true≢false h)
-closed None h = refl
-
-out_of : (x : ℤ) (inside : Bool) (rs : List Rect) → rs ≡ [] → IsLeftAt x inside rs → inside ≡ false
-out_of x true rs e left = absurd (rw e at left)
-out_of x false rs e left = refl
 
 or_false : (b : Bool) → (b || false) ≡ b
 or_false true = refl
 or_false false = refl
 
-none_begun : (rule : Rule) (one other : List Rect) (spans : List Span) (begun : Option ℤ) (x : ℤ) (a : List Rect) (a_in : Bool) (b : List Rect) (b_in : Bool) → AreMerged rule one other spans begun x a a_in b b_in → pos 2147483647 ≤ℤ x → begun ≡ None
-none_begun rule one other spans begun x a a_in b b_in h k =
-    let over = h.over k in
-    closed begun (h.is_open ∙ rw (out_of x a_in a over.0 h.one_left.left, out_of x b_in b over.1 h.other_left.left) (keeps_none rule))
+pub united_have : (one other : List Rect) (spans new : List Span) (last : Span) (a b : List Rect) → AreUnited one other spans last a b → a ≡ [] → b ≡ [] → new ≡ spans ++ last ∷ [] → (x : ℤ) → spans_have new x ≡ (line_has one x || line_has other x)
+united_have one other spans new last a b h p q e x =
+    (ap (λ (t : List Span). spans_have t x) e ∙ spans_have-push spans last x) ∙ sym (h.columns x ∙ rw (p, q) (or_false (spans_have spans x || between last.left x last.right)))
 
-pub merged_apart : (rule : Rule) (one other : List Rect) (spans : List Span) (begun : Option ℤ) (x : ℤ) (a : List Rect) (a_in : Bool) (b : List Rect) (b_in : Bool) → AreMerged rule one other spans begun x a a_in b b_in → pos 2147483647 ≤ℤ x → AreSpans spans
-merged_apart rule one other spans begun x a a_in b b_in h k =
-    (h.made.apart.0, (start_or begun x, h.made.apart.1))
+pub united_apart : (one other : List Rect) (spans new : List Span) (last : Span) (a b : List Rect) → AreUnited one other spans last a b → new ≡ spans ++ last ∷ [] → AreSpans new
+united_apart one other spans new last a b h e =
+    (h.apart.0, (last.right +ℤ pos 2, pushed_within h.apart.0 spans new last (last.right +ℤ pos 2) e h.apart.1 h.full (omega (arith, ints))))
 
-pub merged_columns_are : (rule : Rule) (one other : List Rect) (spans : List Span) (begun : Option ℤ) (x : ℤ) (a : List Rect) (a_in : Bool) (b : List Rect) (b_in : Bool) → AreMerged rule one other spans begun x a a_in b b_in → pos 2147483647 ≤ℤ x → (z : ℤ) → spans_have spans z ≡ merged_columns rule one other z
-merged_columns_are rule one other spans begun x a a_in b b_in h k z =
-    let none = none_begun rule one other spans begun x a a_in b b_in h k in
-    let over = h.over k in
-    by_lt_z {P = spans_have spans z ≡ merged_columns rule one other z} z x (λ m. sym (h.made.columns z m ∙ rw none (or_false (spans_have spans z)))) (λ m. behind_spans h.made.apart.0 spans x (rw none at h.made.apart.1) z m ∙ sym (rw (h.one_left.same z m, h.other_left.same z m, over.0, over.1) (keeps_none rule)))
+-- ---- the intersection
+
+common_has : (l r a b z : ℤ) (p q : Bool) → (p ≡ false) ⊎ ((r +ℤ pos 1) <ℤ z) → (q ≡ false) ⊎ ((b +ℤ pos 1) <ℤ z) → r <ℤ b → ((between l z r || p) && (between a z b || q)) ≡ (between (int_max l a) z r || (p && (between a z b || q)))
+common_has l r a b z p q h k m = grind (arith, ints, clamps, between_tells)
+
+common_has_other : (l r a b z : ℤ) (p q : Bool) → (p ≡ false) ⊎ ((r +ℤ pos 1) <ℤ z) → (q ≡ false) ⊎ ((b +ℤ pos 1) <ℤ z) → b ≤ℤ r → ((between l z r || p) && (between a z b || q)) ≡ (between (int_max l a) z b || ((between l z r || p) && q))
+common_has_other l r a b z p q h k m = grind (arith, ints, clamps, between_tells)
+
+-- no column of the rest of a line up to the one behind its first rectangle
+pub rest_from : (line : List Rect) (r : Rect) (rs : List Rect) → line ≡ r ∷ rs → IsLine line → (z : ℤ) → (line_has rs z ≡ false) ⊎ ((r.right +ℤ pos 1) <ℤ z)
+rest_from line r rs e h z =
+    let k = rw e at h in
+    by_lt_z {P = (line_has rs z ≡ false) ⊎ ((r.right +ℤ pos 1) <ℤ z)} (r.right +ℤ pos 1) z (λ m. inr m) (λ m. inl (before_line (r.right +ℤ pos 1) rs k.1 z m))
+
+pub met_one : (one other : List Rect) (r s : Rect) (rs ss : List Rect) (left right : ℤ) → one ≡ r ∷ rs → other ≡ s ∷ ss → IsLine one → IsLine other → left ≡ int_max r.left s.left → right ≡ r.right → r.right <ℤ s.right → (x : ℤ) → (line_has one x && line_has other x) ≡ (between left x right || (line_has rs x && line_has other x))
+met_one one other r s rs ss left right e f h k m o n x =
+    rw (e, f, m, o) (common_has r.left r.right s.left s.right x (line_has rs x) (line_has ss x) (rest_from one r rs e h x) (rest_from other s ss f k x) n)
+
+pub met_other : (one other : List Rect) (r s : Rect) (rs ss : List Rect) (left right : ℤ) → one ≡ r ∷ rs → other ≡ s ∷ ss → IsLine one → IsLine other → left ≡ int_max r.left s.left → right ≡ s.right → s.right ≤ℤ r.right → (x : ℤ) → (line_has one x && line_has other x) ≡ (between left x right || (line_has one x && line_has ss x))
+met_other one other r s rs ss left right e f h k m o n x =
+    rw (e, f, m, o) (common_has_other r.left r.right s.left s.right x (line_has rs x) (line_has ss x) (rest_from one r rs e h x) (rest_from other s ss f k x) n)
+
+pub met_order : (one other : List Rect) (r s : Rect) (rs ss : List Rect) (left right : ℤ) → one ≡ r ∷ rs → other ≡ s ∷ ss → IsLine one → IsLine other → r.right ≤ℤ pos 32767 → left ≡ int_max r.left s.left → right ≡ r.right → r.right <ℤ s.right → (left ≤ℤ int_max (edge_of false rs) (edge_of false other)) × ((right +ℤ pos 1) <ℤ int_max (edge_of false rs) (edge_of false other))
+met_order one other r s rs ss left right e f h k m p o n =
+    let full = first_full one r rs e h in
+    let behind = rest_behind one r rs e h m in
+    let edge = first_edge other s ss f in
+    (omega (arith, ints, clamps), omega (arith, ints, clamps))
+
+pub met_order_other : (one other : List Rect) (r s : Rect) (rs ss : List Rect) (left right : ℤ) → one ≡ r ∷ rs → other ≡ s ∷ ss → IsLine one → IsLine other → s.right ≤ℤ pos 32767 → left ≡ int_max r.left s.left → right ≡ s.right → s.right ≤ℤ r.right → (left ≤ℤ int_max (edge_of false one) (edge_of false ss)) × ((right +ℤ pos 1) <ℤ int_max (edge_of false one) (edge_of false ss))
+met_order_other one other r s rs ss left right e f h k m p o n =
+    let full = first_full other s ss f k in
+    let behind = rest_behind other s ss f k m in
+    let edge = first_edge one r rs e in
+    (omega (arith, ints, clamps), omega (arith, ints, clamps))
+
+-- the spans and what is left of both lines have the columns of both
+pub record AreMet (one other : List Rect) (spans : List Span) (a b : List Rect) : Type 0 where
+  pub columns : (x : ℤ) → (line_has one x && line_has other x) ≡ (spans_have spans x || (line_has a x && line_has b x))
+  pub apart : (low : ℤ) × AreWithin low spans (int_max (edge_of false a) (edge_of false b))
+  pub one_line : IsLine a
+  pub other_line : IsLine b
+
+pub met_first : (one other : List Rect) (spans : List Span) → spans ≡ [] → IsLine one → IsLine other → AreMet one other spans one other
+met_first one other spans none h k = rw none (record {
+  columns = λ x. refl;
+  apart = (int_max (edge_of false one) (edge_of false other) -ℤ pos 1, omega (arith, ints));
+  one_line = h;
+  other_line = k;
+})
+
+pub met_next : (one other : List Rect) (spans new : List Span) (left right : ℤ) (a b a' b' : List Rect) → AreMet one other spans a b → left ≡ int_max (edge_of false a) (edge_of false b) → IsLine a' × IsLine b' → (left ≤ℤ int_max (edge_of false a') (edge_of false b')) × ((right +ℤ pos 1) <ℤ int_max (edge_of false a') (edge_of false b')) → ((x : ℤ) → (line_has a x && line_has b x) ≡ (between left x right || (line_has a' x && line_has b' x))) → ((low high : ℤ) → AreWithin low spans left → left ≤ℤ high → (right +ℤ pos 1) <ℤ high → AreWithin low new high) → ((x : ℤ) → spans_have new x ≡ (spans_have spans x || between left x right)) → AreMet one other new a' b'
+met_next one other spans new left right a b a' b' h e lines order taken apart columns = record {
+  columns = λ x. h.columns x ∙ rw (taken x) (sym (rw (columns x) (or_assoc (spans_have spans x) (between left x right) (line_has a' x && line_has b' x))));
+  apart = (h.apart.0, apart h.apart.0 (int_max (edge_of false a') (edge_of false b')) (rw e h.apart.1) order.0 order.1);
+  one_line = lines.0;
+  other_line = lines.1;
+}
+
+and_false : (b : Bool) → (b && false) ≡ false
+and_false true = refl
+and_false false = refl
+
+none_common : (a b : List Rect) → (a ≡ []) ⊎ (b ≡ []) → (x : ℤ) → (line_has a x && line_has b x) ≡ false
+none_common a b (inl e) x = rw e refl
+none_common a b (inr e) x = rw e (and_false (line_has a x))
+
+pub met_have : (one other : List Rect) (spans : List Span) (a b : List Rect) → AreMet one other spans a b → (a ≡ []) ⊎ (b ≡ []) → (x : ℤ) → spans_have spans x ≡ (line_has one x && line_has other x)
+met_have one other spans a b h e x = sym (h.columns x ∙ rw (none_common a b e x) (or_false (spans_have spans x)))
+
+pub met_apart : (one other : List Rect) (spans : List Span) (a b : List Rect) → AreMet one other spans a b → AreSpans spans
+met_apart one other spans a b h = (h.apart.0, (int_max (edge_of false a) (edge_of false b), h.apart.1))
+
+-- ---- the difference
+
+cut_none_has : (left l r from z : ℤ) (p : Bool) → l ≤ℤ left → left ≤ℤ (r +ℤ pos 1) → (p ≡ false) ⊎ ((r +ℤ pos 1) <ℤ z) → (p ≡ false) ⊎ (from ≤ℤ z) → ((int_le left z && (between l z r || p)) && true) ≡ (between left z r || ((int_le from z && p) && true))
+cut_none_has left l r from z p h k m n = grind (arith, ints, between_tells)
+
+cut_rest_has : (left l r s t from z : ℤ) (p q : Bool) → l ≤ℤ left → left ≤ℤ (r +ℤ pos 1) → r ≤ℤ t → (p ≡ false) ⊎ ((r +ℤ pos 1) <ℤ z) → (p ≡ false) ⊎ (from ≤ℤ z) → (q ≡ false) ⊎ ((t +ℤ pos 1) <ℤ z) → ((int_le left z && (between l z r || p)) && not (between s z t || q)) ≡ (between left z (int_min r (s -ℤ pos 1)) || ((int_le from z && p) && not (between s z t || q)))
+cut_rest_has left l r s t from z p q h k m n o u = grind (arith, ints, clamps, between_tells)
+
+cut_hole_has : (left l r s t z : ℤ) (p q : Bool) → l ≤ℤ left → s ≤ℤ t → t <ℤ r → (p ≡ false) ⊎ ((r +ℤ pos 1) <ℤ z) → (q ≡ false) ⊎ ((t +ℤ pos 1) <ℤ z) → ((int_le left z && (between l z r || p)) && not (between s z t || q)) ≡ (between left z (s -ℤ pos 1) || ((int_le (int_max left (t +ℤ pos 1)) z && (between l z r || p)) && not q))
+cut_hole_has left l r s t z p q h k m n o = grind (arith, ints, clamps, between_tells)
+
+pub cut_none : (one other : List Rect) (left from right : ℤ) (r : Rect) (rs : List Rect) → one ≡ r ∷ rs → length other ≡ 0 → IsLine one → edge_of false one ≤ℤ left → left ≤ℤ edge_of true one → from ≡ edge_of false rs → right ≡ r.right → (x : ℤ) → ((int_le left x && line_has one x) && not (line_has other x)) ≡ (between left x right || ((int_le from x && line_has rs x) && not (line_has other x)))
+cut_none one other left from right r rs e f h k m n o x =
+    rw (e, no_line other f, n, o) (cut_none_has left r.left r.right (edge_of false rs) x (line_has rs x) (rw e at k) (rw e at m) (rest_from one r rs e h x) (line_from rs (rest_line one r rs e h) x))
+
+pub cut_rest : (one other : List Rect) (left from right : ℤ) (r s : Rect) (rs ss : List Rect) → one ≡ r ∷ rs → other ≡ s ∷ ss → IsLine one → IsLine other → edge_of false one ≤ℤ left → left ≤ℤ edge_of true one → from ≡ edge_of false rs → right ≡ int_min r.right (s.left -ℤ pos 1) → r.right ≤ℤ s.right → (x : ℤ) → ((int_le left x && line_has one x) && not (line_has other x)) ≡ (between left x right || ((int_le from x && line_has rs x) && not (line_has other x)))
+cut_rest one other left from right r s rs ss e f h h' k m n o u x =
+    rw (e, f, n, o) (cut_rest_has left r.left r.right s.left s.right (edge_of false rs) x (line_has rs x) (line_has ss x) (rw e at k) (rw e at m) u (rest_from one r rs e h x) (line_from rs (rest_line one r rs e h) x) (rest_from other s ss f h' x))
+
+pub cut_hole : (one other : List Rect) (left from right : ℤ) (r s : Rect) (rs ss : List Rect) → one ≡ r ∷ rs → other ≡ s ∷ ss → IsLine one → IsLine other → edge_of false one ≤ℤ left → from ≡ int_max left (s.right +ℤ pos 1) → right ≡ (s.left -ℤ pos 1) → s.right <ℤ r.right → (x : ℤ) → ((int_le left x && line_has one x) && not (line_has other x)) ≡ (between left x right || ((int_le from x && line_has one x) && not (line_has ss x)))
+cut_hole one other left from right r s rs ss e f h h' k n o u x =
+    rw (e, f, n, o) (cut_hole_has left r.left r.right s.left s.right x (line_has rs x) (line_has ss x) (rw e at k) (first_full other s ss f h') u (rest_from one r rs e h x) (rest_from other s ss f h' x))
+
+-- the first column of a line is in its first rectangle
+pub edges_apart : (line : List Rect) → IsLine line → edge_of false line ≤ℤ edge_of true line
+edges_apart [] h = omega (arith, ints)
+edges_apart (r ∷ rs) h = let full = h.0 in omega (arith, ints)
+
+-- the spans and what is left of both lines have the columns of the first that the second lacks
+pub record AreCut (one other : List Rect) (spans : List Span) (a : List Rect) (left : ℤ) (b : List Rect) : Type 0 where
+  pub columns : (x : ℤ) → (line_has one x && not (line_has other x)) ≡ (spans_have spans x || ((int_le left x && line_has a x) && not (line_has b x)))
+  pub apart : (low : ℤ) × AreWithin low spans left
+  pub range : negsuc 32767 ≤ℤ left
+  pub from : edge_of false a ≤ℤ left
+  pub to : left ≤ℤ edge_of true a
+  pub one_line : IsLine a
+  pub other_line : IsLine b
+
+le_from : (a b : ℤ) → a ≤ℤ b → int_le a b ≡ true
+le_from a b h = grind (arith, ints)
+
+from_edge : (left x : ℤ) (p : Bool) → (p ≡ false) ⊎ (left ≤ℤ x) → p ≡ (int_le left x && p)
+from_edge left x p (inl e) = rw e (sym (and_false (int_le left x)))
+from_edge left x p (inr h) = rw (le_from left x h) refl
+
+pub cut_first : (one other : List Rect) (spans : List Span) (left : ℤ) → spans ≡ [] → IsLine one → IsLine other → left ≡ edge_of false one → negsuc 32767 ≤ℤ left → AreCut one other spans one left other
+cut_first one other spans left none h k e low = rw none (record {
+  columns = λ x. ap (λ b. b && not (line_has other x)) (from_edge left x (line_has one x) (rw e (line_from one h x)));
+  apart = (left -ℤ pos 1, omega (arith, ints));
+  range = low;
+  from = omega (arith, ints);
+  to = let apart = edges_apart one h in omega (arith, ints);
+  one_line = h;
+  other_line = k;
+})
+
+pub cut_next : (one other : List Rect) (spans new : List Span) (left right from : ℤ) (a b a' b' : List Rect) → AreCut one other spans a left b → IsLine a' × IsLine b' → negsuc 32767 ≤ℤ from → (edge_of false a' ≤ℤ from) × (from ≤ℤ edge_of true a') → (left ≤ℤ from) × ((right +ℤ pos 1) <ℤ from) → ((x : ℤ) → ((int_le left x && line_has a x) && not (line_has b x)) ≡ (between left x right || ((int_le from x && line_has a' x) && not (line_has b' x)))) → ((low high : ℤ) → AreWithin low spans left → left ≤ℤ high → (right +ℤ pos 1) <ℤ high → AreWithin low new high) → ((x : ℤ) → spans_have new x ≡ (spans_have spans x || between left x right)) → AreCut one other new a' from b'
+cut_next one other spans new left right from a b a' b' h lines low edges order taken apart columns = record {
+  columns = λ x. h.columns x ∙ rw (taken x) (sym (rw (columns x) (or_assoc (spans_have spans x) (between left x right) ((int_le from x && line_has a' x) && not (line_has b' x)))));
+  apart = (h.apart.0, apart h.apart.0 from h.apart.1 order.0 order.1);
+  range = low;
+  from = edges.0;
+  to = edges.1;
+  one_line = lines.0;
+  other_line = lines.1;
+}
+
+pub cut_have : (one other : List Rect) (spans : List Span) (a : List Rect) (left : ℤ) (b : List Rect) → AreCut one other spans a left b → a ≡ [] → (x : ℤ) → spans_have spans x ≡ (line_has one x && not (line_has other x))
+cut_have one other spans a left b h e x =
+    sym (h.columns x ∙ rw (e, and_false (int_le left x)) (or_false (spans_have spans x)))
+
+pub cut_apart : (one other : List Rect) (spans : List Span) (a : List Rect) (left : ℤ) (b : List Rect) → AreCut one other spans a left b → AreSpans spans
+cut_apart one other spans a left b h = (h.apart.0, (left, h.apart.1))
+
+-- ---- a span that may be empty
+
+pub pushed_some : (spans new : List Span) (s : Span) (left right : ℤ) → new ≡ spans ++ s ∷ [] → s.left ≡ left → s.right ≡ right → (x : ℤ) → spans_have new x ≡ (spans_have spans x || between left x right)
+pushed_some spans new s left right e l r x = rw (sym l, sym r, e) (spans_have-push spans s x)
+
+pub pushed_some_within : (spans new : List Span) (s : Span) (left right : ℤ) → new ≡ spans ++ s ∷ [] → s.left ≡ left → s.right ≡ right → left ≤ℤ right → (low high : ℤ) → AreWithin low spans left → left ≤ℤ high → (right +ℤ pos 1) <ℤ high → AreWithin low new high
+pushed_some_within spans new s left right e l r some low high h k m =
+    pushed_within low spans new s high e (rw l h) (omega (arith, ints)) (omega (arith, ints))
+
+pub pushed_none : (b : Bool) (left right x : ℤ) → right <ℤ left → b ≡ (b || between left x right)
+pushed_none true left right x h = refl
+pushed_none false left right x h = grind (arith, ints, between_tells)

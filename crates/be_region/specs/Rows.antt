@@ -46,9 +46,3 @@ abbrev pub edge_of : Bool → List Rect → ℤ
 edge_of inside [] = pos 2147483647
 edge_of true (r ∷ rs) = r.right +ℤ pos 1
 edge_of false (r ∷ rs) = r.left
-
--- what is left of a line at a column
-abbrev pub IsLeftAt : ℤ → Bool → List Rect → Type 0
-IsLeftAt x true [] = ⊥
-IsLeftAt x true (r ∷ rs) = r.left ≤ℤ x
-IsLeftAt x false rs = Unit {0}

@@ -1,5 +1,5 @@
 -- The spans of a band that is being made (this project's own).
-use Rattle.std.specs.Prelude.{◌≡◌, ℤ, pos, negsuc, ◌+ℤ◌, ◌-ℤ◌, ◌≤ℤ◌, ◌<ℤ◌, Bool, false, not, ◌||◌, List, [], ◌∷◌, ◌++◌, map, All, Option, Some, None, int_le}
+use Rattle.std.specs.Prelude.{◌≡◌, ℤ, pos, ◌+ℤ◌, ◌-ℤ◌, ◌≤ℤ◌, ◌<ℤ◌, Bool, not, List, [], ◌∷◌, ◌++◌, map, All}
 use Rattle.std.specs.List.{list_any}
 use Rattle.be_geom.specs.declared.rect.Rect.{Rect}
 use Rattle.be_geom.specs.Points.{between}
@@ -25,29 +25,6 @@ AreWithin low (s ∷ spans) high = (low <ℤ s.left) × (s.left ≤ℤ s.right) 
 -- spans in order, none empty, of which no two touch
 abbrev pub AreSpans : List Span → Type 0
 AreSpans spans = (low : ℤ) × ((high : ℤ) × AreWithin low spans high)
-
--- ---- a line being made
-
--- a span is open, and has begun before the column or at it
-abbrev pub has_begun : Option ℤ → ℤ → Bool
-has_begun (Some start) x = int_le start x
-has_begun None x = false
-
--- where a span is open, its first column, else the column
-abbrev pub start_or : Option ℤ → ℤ → ℤ
-start_or (Some start) x = start
-start_or None x = x
-
--- an open span has begun before the column
-abbrev pub BeginsBefore : Option ℤ → ℤ → Type 0
-BeginsBefore (Some start) x = (negsuc 32767 ≤ℤ start) × (start <ℤ x)
-BeginsBefore None x = Unit {0}
-
--- the spans, and the one that is open, are the columns before x that pass
-pub record AreColumnsBefore (spans : List Span) (begun : Option ℤ) (x : ℤ) (passes : ℤ → Bool) : Type 0 where
-  pub columns : (z : ℤ) → z <ℤ x → passes z ≡ (spans_have spans z || has_begun begun z)
-  pub apart : (low : ℤ) × AreWithin low spans (start_or begun x)
-  pub began : BeginsBefore begun x
 
 -- ---- bands being made
 

@@ -20,6 +20,7 @@ mod bands;
 mod edges;
 mod law;
 mod line;
+mod merge;
 mod parts;
 mod place;
 mod region;
