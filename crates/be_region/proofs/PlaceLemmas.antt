@@ -5,14 +5,14 @@ use Rattle.std.specs.List.{AllPairs, AllWithin}
 use Rattle.std.specs.List.Sorted.{IsPartitionedBy}
 use Rattle.std.proofs.lemmas.Int.{ints}
 use Rattle.std.proofs.lemmas.Bool.{or_from, true≢false, cases_order}
-use Rattle.std.proofs.lemmas.List.{take-append-drop, length-take, get_or-take, drop_more, drop_all}
+use Rattle.std.proofs.lemmas.List.{take-append-drop, length-take, get_or-take, drop_more, drop_all, get_or_default}
 use Rattle.std.proofs.lemmas.List.Elements.{All-head, All-tail}
 use Rattle.be_geom.specs.declared.rect.Rect.{Rect}
 use Rattle.be_geom.specs.Points.{between}
 use Rattle.be_geom.specs.Rects.{rect_has}
 use Rattle.be_region.specs.Regions.{region_has, IsNotEmpty}
 use Rattle.be_region.specs.Bands.{IsBefore, AreBands}
-use Rattle.be_region.specs.Places.{is_passed}
+use Rattle.be_region.specs.Places.{is_passed, IsSpanAt}
 use Rattle.be_region.specs.Runs.{IsRun}
 use Rattle.be_region.proofs.CountLemmas.{has-append}
 use Rattle.be_region.proofs.LineLemmas.{not_between_left, not_between_right, is_between}
@@ -184,3 +184,19 @@ pub answer_in : (rs : List Rect) (n : ℕ) (x y : ℤ) (r : Rect) → AreBands r
 answer_in rs n x y r bands place h e top from =
     let to = last_ahead rs n x y r place h e top in
     sym (at_row rs n x y r bands place h e top x (omega (arith, ints)) (omega (arith, ints)) ∙ is_between r.left x r.right from to)
+
+-- ---- the rectangle of a pixel
+
+same_default : (rs : List Rect) (n : ℕ) (d r : Rect) → n < length rs → r ≡ get_or rs n r → get_or rs n d ≡ r
+same_default rs n d r h e = get_or_default rs n d r h ∙ sym e
+
+pub span_found : (rs : List Rect) (n : ℕ) (x y : ℤ) (r : Rect) → AreBands rs → IsPlace rs n x y → n < length rs → r ≡ get_or rs n r → r.top ≤ℤ y → r.left ≤ℤ x → IsSpanAt rs n x y
+span_found rs n x y r bands place h e top from =
+    let to = last_ahead rs n x y r place h e top in
+    let low = (ahead_cases r x y (ahead_at rs n x y r place h e)).0 in
+    record {
+      within = h;
+      has = λ d. rw (same_default rs n d r h e) (rw (is_between r.left x r.right from to, is_between r.top y r.bottom top low) refl);
+      first = λ z k i d l m. passed_none (get_or rs i d) x y z (passed_cases (get_or rs i d) x y (place.passed i d l m)) k;
+      ends = λ d. rw (same_default rs n d r h e) (at_row rs n x y r bands place h e top (r.right +ℤ pos 1) (omega (arith, ints)) (omega (arith, ints)) ∙ not_between_right r.left (r.right +ℤ pos 1) r.right (omega (arith, ints)));
+    }

@@ -1,9 +1,9 @@
-ghost use Rattle.std.specs.Prelude.{◌≡◌, ◌≤◌, true, false, All, length};
+ghost use Rattle.std.specs.Prelude.{◌≡◌, ◌≤◌, true, false, All, length, IfNone, IfSome};
 ghost use Rattle.std.specs.List.{AllPairs, AllWithin};
 ghost use Rattle.be_region.specs.Regions.{region_has, IsNotEmpty};
 ghost use Rattle.be_region.specs.Bands.{AreBands};
 ghost use Rattle.be_region.specs.Runs.{IsRun};
-ghost use Rattle.be_region.specs.Places.{is_passed};
+ghost use Rattle.be_region.specs.Places.{is_passed, IsSpanAt};
 
 use be_geom::Rect;
 
@@ -34,6 +34,25 @@ pub(crate) fn run_at(rects: &[Rect], x: i32, y: i32) -> (bool, i32)
         return (false, i32::from(rect.left) - 1);
     }
     (true, i32::from(rect.right))
+}
+
+/// The place of the rectangle that has the pixel.
+pub(crate) fn span_at(rects: &[Rect], x: i32, y: i32) -> Option<usize>
+    requires { AreBands rects.now }
+    ensures none { IfNone result (region_has rects.now x y ≡ false) }
+    ensures some { IfSome result (λ place. IsSpanAt rects.now place x y) }
+{
+    let place = place_of(rects, x, y);
+    let Some(rect) = rects.get(place) else {
+        return None;
+    };
+    if y < i32::from(rect.top) {
+        return None;
+    }
+    if x < i32::from(rect.left) {
+        return None;
+    }
+    Some(place)
 }
 
 /// The place of the first rectangle that the pixel isn't behind.

@@ -1,11 +1,12 @@
-ghost use Rattle.std.specs.Prelude.{◌≡◌, ◌≤◌, ◌↔◌, length, slice_get, IsErr, IsNone, IfOk, IfSome, OnOk, OnErr};
+ghost use Rattle.std.specs.Prelude.{◌≡◌, ◌≤◌, ◌↔◌, false, length, slice_get, IsErr, IsNone, IfOk, IfNone, IfSome, OnOk, OnErr};
 ghost use Rattle.be_region.specs.Regions.{region_has, HasNone, HasPixelsOf, SamePixels, IsUnion, IsDifference, IsIntersection, IsMoved, SomePixelLeaves};
 ghost use Rattle.be_region.specs.Bands.{AreBands};
 ghost use Rattle.be_region.specs.Runs.{IsRun};
 ghost use Rattle.be_region.specs.Frames.{IsFrame};
+ghost use Rattle.be_region.specs.Places.{IsSpanAt};
 
 use crate::edges::{are_movable, frame_of, move_all};
-use crate::place::{has_at, run_at};
+use crate::place::{has_at, run_at, span_at};
 use crate::rule::Rule;
 use crate::walk::merged;
 use be_geom::{NoMemory, OutOfRange, Rect};
@@ -137,6 +138,15 @@ impl Region {
         ensures bands { AreBands self.now }
     {
         self.rects.get(place).copied()
+    }
+
+    /// The place of the rectangle that has the pixel, as `rect_at` counts. None outside the set.
+    pub fn span_at(&self, x: i32, y: i32) -> Option<usize>
+        ensures none { IfNone result (region_has self.now x y ≡ false) }
+        ensures some { IfSome result (λ place. IsSpanAt self.now place x y) }
+        ensures bands { AreBands self.now }
+    {
+        span_at(&self.rects, x, y)
     }
 
     /// The smallest rectangle that holds the set: `BRegion::Frame`. None where the set is empty.
