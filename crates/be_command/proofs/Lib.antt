@@ -5,3 +5,12 @@ pub mod MoreLemmas
 pub mod JudgingLemmas
 pub mod ReadLemmas
 pub mod WriteLemmas
+pub mod FirstWords
+pub mod BackLemmas
+pub mod NamesBack
+pub mod ClipBack
+pub mod KindsBack
+pub mod LinesBack
+pub mod Spelt
+pub mod WithinLemmas
+pub mod LawLemmas

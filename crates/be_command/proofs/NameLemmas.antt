@@ -62,7 +62,7 @@ has_room most names name e =
 equal : (xs ys : List ℕ) → bytes_eq xs ys ≡ true → xs ≡ ys
 equal xs ys e = (bytes_eq-Decides xs ys).0 e
 
-root_is_reserved : (name : List ℕ) → bytes_eq (codes "root") name ≡ true → is_reserved_name name ≡ true
+pub root_is_reserved : (name : List ℕ) → bytes_eq (codes "root") name ≡ true → is_reserved_name name ≡ true
 root_is_reserved name e = subst (λ (word : List ℕ). is_reserved_name word ≡ true) (equal (codes "root") name e) (unfold is_reserved_name in refl)
 
 same_fault : (bad reserved root there full less : Bool) → (root ≡ true → reserved ≡ true) → full ≡ less →

@@ -1,18 +1,20 @@
 -- A line that was read to its end.
-use Rattle.std.proofs.Common.{◌≡◌, ℕ, refl, List, Option, Some, None, Result, Ok, Err, ap, ◌∙◌, sym}
+use Rattle.std.proofs.Common.{◌≡◌, ◌⊎◌, inl, inr, ℕ, refl, List, Option, Some, None, Result, Ok, Err, ap, ◌∙◌, sym}
 use Rattle.std.specs.Option.{option_and_then}
 use Rattle.std.specs.Result.{result_err}
 use Rattle.be_command.specs.declared.Command.{Command}
 use Rattle.be_command.specs.declared.fault.Fault.{Fault}
 use Rattle.be_command.specs.declared.fault.Reason.TheVariants.{UnknownWord}
 use Rattle.be_command.specs.declared.first_word.FirstWord.{FirstWord}
+use Rattle.be_command.specs.declared.first_word.FirstWord.TheVariants as first
 use Rattle.be_command.specs.Faults.{first_fault, both, said_as}
 use Rattle.be_command.specs.Names.{Known}
 use Rattle.be_command.specs.Places.{At, word_at, after_word, ended}
 use Rattle.be_command.specs.Kinds.{said_all, after_all}
 use Rattle.be_command.specs.Forms.{form_of, first_word_of}
-use Rattle.be_command.specs.Reading.{read_by, read_after, line_start, command_of}
+use Rattle.be_command.specs.Reading.{read_by, read_after, line_start, command_of, IsOfList}
 use Rattle.be_command.specs.Progress.{Progress, Takes}
+use Rattle.be_command.proofs.FirstWords.{text_of_first}
 
 abbrev whole : {A : Type 0} → Result A Fault → Result (Unit {0}) Fault → Result A Fault
 whole r e = said_as (λ x. x.0) (both r e)
@@ -71,3 +73,8 @@ line_is_read known line word p q c due first behind none taken d =
 pub line_is_unknown : (known : Known) (line : List ℕ) → option_and_then first_word_of (word_at (line_start line)) ≡ None → command_of known line ≡ Err (record { at = 0; reason = UnknownWord })
 unfolding command_of
 line_is_unknown known line none = ap (λ (o : Option FirstWord). read_after known o (after_word (line_start line))) none
+
+-- a line that begins with a word for which memory was lacking
+pub line_is_of_list : (line : List ℕ) (word : FirstWord) → option_and_then first_word_of (word_at (line_start line)) ≡ Some word → (word ≡ first.Text) ⊎ (word ≡ first.Clip) → IsOfList line
+line_is_of_list line word h (inl text) = inl (text_of_first (word_at (line_start line)) first.Text (h ∙ ap Some text))
+line_is_of_list line word h (inr clip) = inr (text_of_first (word_at (line_start line)) first.Clip (h ∙ ap Some clip))

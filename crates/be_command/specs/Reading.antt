@@ -1,5 +1,5 @@
 -- Which command a line is, and which fault all other lines have (this project's own).
-use Rattle.std.specs.Prelude.{◌≡◌, ℕ, List, Option, Some, None, Result, Ok, Err}
+use Rattle.std.specs.Prelude.{◌≡◌, ◌⊎◌, ℕ, List, Option, Some, None, Result, Ok, Err, codes}
 use Rattle.std.specs.Option.{option_and_then}
 use Rattle.be_command.specs.declared.Command.{Command}
 use Rattle.be_command.specs.declared.fault.Fault.{Fault}
@@ -30,11 +30,16 @@ unfoldable pub command_of : Known → List ℕ → Result Command Fault
 command_of known line =
     read_after known (option_and_then first_word_of (word_at (line_start line))) (after_word (line_start line))
 
--- a line that was read is the command, and a fault is the line's, but for memory
-abbrev pub IsFault : CommandFault → Result Command Fault → Type 0
-IsFault (BadCommand at reason) read = read ≡ Err (record { at = at; reason = reason })
-IsFault NoMemory read = Unit {0}
+-- the line of a text or a clip, which alone are kept as lists
+abbrev pub IsOfList : List ℕ → Type 0
+IsOfList line = (word_at (line_start line) ≡ Some (codes "text")) ⊎ (word_at (line_start line) ≡ Some (codes "clip"))
 
-abbrev pub IsRead : Result Command CommandFault → Result Command Fault → Type 0
-IsRead (Ok command) read = read ≡ Ok command
-IsRead (Err fault) read = IsFault fault read
+-- a fault is the line's, but for memory, which only a text and a clip take
+abbrev pub IsFault : CommandFault → List ℕ → Result Command Fault → Type 0
+IsFault (BadCommand at reason) line read = read ≡ Err (record { at = at; reason = reason })
+IsFault NoMemory line read = IsOfList line
+
+-- a line that was read is the command
+abbrev pub IsRead : Result Command CommandFault → List ℕ → Result Command Fault → Type 0
+IsRead (Ok command) line read = read ≡ Ok command
+IsRead (Err fault) line read = IsFault fault line read

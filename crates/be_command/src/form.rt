@@ -1,4 +1,4 @@
-ghost use Rattle.std.specs.Prelude.{IfOk};
+ghost use Rattle.std.specs.Prelude.{◌≡◌, ◌⊎◌, MatchResult};
 ghost use Rattle.be_command.specs.Faults.{said_as};
 ghost use Rattle.be_command.specs.Forms.{form_of};
 ghost use Rattle.be_command.specs.Kinds.{said_all, after_all};
@@ -12,16 +12,18 @@ use be_geom::{Change, NoMemory};
 use std::alloc::Global;
 
 impl Reading<'_> {
-    // What stands behind a first word, by the form of its line.
+    // What stands behind a first word, by the form of its line. Only a text and a clip take memory.
     pub(crate) fn command(
         &mut self,
         alloc: Global,
         word: FirstWord,
         names: &Names,
     ) -> Result<Command, NoMemory>
-        ensures { IfOk result (λ command. Takes
+        ensures { MatchResult result
+            (λ command. Takes
             (said_as (form_of word).makes (said_all names.now (form_of word).kinds self.old.at))
-            (after_all (form_of word).kinds self.old.at) self.old self.new command) }
+            (after_all (form_of word).kinds self.old.at) self.old self.new command)
+            (λ _. (word ≡ FirstWord.Text) ⊎ (word ≡ FirstWord.Clip)) }
     {
         match word {
             FirstWord::Fill => Ok(Command::Fill(self.view(names), self.rect(), self.pattern())),

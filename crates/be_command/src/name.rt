@@ -1,7 +1,7 @@
 ghost use Rattle.std.specs.Prelude.{◌≡◌, ◌≤◌, ◌<◌, ◌++◌, ◌∷◌, [], length, slice_index_or, IfOk, OnErr, OnOk};
 ghost use Rattle.std.specs.List.{list_any, position_from};
 ghost use Rattle.std.specs.Str.{bytes_eq};
-ghost use Rattle.be_command.specs.Names.{name_fault, IsNumberedFrom};
+ghost use Rattle.be_command.specs.Names.{name_fault, AreNames, IsNumberedFrom};
 
 use crate::fault::NameFault;
 use be_lex::{is_name, is_reserved_name};
@@ -62,6 +62,13 @@ impl NameList {
         NameList {
             names: Vec::new(alloc),
         }
+    }
+
+    // Each may be declared, and no two are the same. This says it, and does nothing.
+    pub(crate) fn are_names(&self)
+        ensures { AreNames self.now }
+    {
+        let _names = &self.names;
     }
 
     // Adds a name behind the others, of which there may be so many, and gives its number. The first

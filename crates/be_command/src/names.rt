@@ -1,5 +1,6 @@
 ghost use Rattle.std.specs.Prelude.{◌≡◌, ◌++◌, ◌∷◌, [], length, slice_index_or, codes, OnErr, OnOk};
 ghost use Rattle.be_command.specs.Names.{name_fault, IsNumbered, number_in};
+ghost use Rattle.be_command.specs.Laws.{AreKnown};
 
 use crate::fault::NameFault;
 use crate::name::NameList;
@@ -83,6 +84,15 @@ impl Names {
         ensures err { OnErr result (self.new ≡ self.old) }
     {
         self.bitmaps.add(name.as_bytes(), 0, BITMAPS)
+    }
+
+    // Names that were added may stand together. This says it, and does nothing.
+    pub(crate) fn are_known(&self)
+        ensures { AreKnown self.now }
+    {
+        self.windows.are_names();
+        self.views.are_names();
+        self.bitmaps.are_names();
     }
 
     // The number of a window.

@@ -17,7 +17,7 @@ use std::alloc::Global;
 /// A line is refused for the first of UnknownWord, Shape, Range and UnknownName that holds anywhere
 /// in it. It costs a few steps for each byte, and `text` and `clip` alone take memory.
 pub fn read_command(alloc: Global, line: &[u8], names: &Names) -> Result<Command, CommandFault>
-    ensures { IsRead result (command_of names.now line.now) }
+    ensures { IsRead result line.now (command_of names.now line.now) }
 {
     let mut words = Words::of(line);
     let Some(word) = first_word(&mut words) else {

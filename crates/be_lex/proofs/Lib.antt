@@ -9,3 +9,4 @@ pub mod NumberSpelling
 pub mod HexSpelling
 pub mod ValueSpelling
 pub mod CodeSpelling
+pub mod ValuesRead

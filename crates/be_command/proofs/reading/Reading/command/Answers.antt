@@ -1,4 +1,5 @@
-use Rattle.std.proofs.Common.{◌≡◌, [], ◌∷◌, to_z, of_z, w16, w32, rules}
+use Rattle.std.proofs.Common.{◌≡◌, inl, inr, [], ◌∷◌, to_z, of_z, w16, w32, rules}
+use Rattle.std.proofs.lemmas.Result.{err_from_is_err_and}
 use Rattle.be_command.specs.declared.first_word.FirstWord.TheVariants as first
 use Rattle.be_command.specs.Kinds.{a_view, a_window, a_bitmap, a_focus, a_point, a_rect, a_distance, a_size, a_pen_size, a_pattern, a_color, a_mode, a_text, a_clip}
 use Rattle.be_command.specs.Forms.{form_of}
@@ -235,3 +236,13 @@ returns-in-Close c =
     let known = c.args.names.now in
     takes_word known c.args.word first.Close c.args.self.now c.args.self.now tt c.in-Close.is
     (takes_nothing known c.args.self.now)
+
+pub returns-in_err-text-in-Text : goal.returns-in_err-text-in-Text
+returns-in_err-text-in-Text c =
+    let p = err_from_is_err_and c.from_residual.result c.from_residual.ensures.1 in
+    rw p.1 (inl c.in-Text.is)
+
+pub returns-in_err-clip-in-Clip : goal.returns-in_err-clip-in-Clip
+returns-in_err-clip-in-Clip c =
+    let p = err_from_is_err_and c.from_residual-in_err-clip-in-Clip.result c.from_residual-in_err-clip-in-Clip.ensures.1 in
+    rw p.1 (inr c.in-Clip.is)
