@@ -14,3 +14,4 @@ pub mod LinesBack
 pub mod Spelt
 pub mod WithinLemmas
 pub mod LawLemmas
+pub mod SpokenLemmas

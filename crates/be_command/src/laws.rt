@@ -1,8 +1,10 @@
-ghost use Rattle.std.specs.Prelude.{◌≡◌, ℕ, List, Ok};
+ghost use Rattle.std.specs.Prelude.{◌≡◌, ℕ, List, length, Ok, IsTrue};
 ghost use Rattle.be_command.specs.declared.Command.{Command};
+ghost use Rattle.be_command.specs.Limits.{is_command, names_what_is};
 ghost use Rattle.be_command.specs.Reading.{command_of};
 ghost use Rattle.be_command.specs.Spelling.{spelling};
 ghost use Rattle.be_command.specs.Laws.{IsSpoken, IsCanonical};
+ghost use Rattle.be_command.specs.Typed.{IsTyped};
 
 use crate::names::Names;
 
@@ -35,3 +37,11 @@ pub fn a_spelling_has_one_command(names: &Names)
 {
     names.are_known();
 }
+
+/// Each command within its limits that names what is there is one that a line can be, so that the
+/// other laws hold of it.
+pub fn a_command_has_a_line(names: &Names)
+    ensures { (c : Command) → IsTyped c → IsTrue (is_command c)
+        → IsTrue (names_what_is (length names.now.windows) (length names.now.views)
+        (length names.now.bitmaps) c) → IsSpoken names.now c }
+{}
