@@ -5,6 +5,7 @@ use Rattle.be_command.specs.declared.Command.{Command}
 use Rattle.be_command.specs.declared.fault.Fault.{Fault}
 use Rattle.be_command.specs.declared.fault.CommandFault.{CommandFault}
 use Rattle.be_command.specs.declared.fault.CommandFault.TheVariants.{BadCommand, NoMemory}
+use Rattle.be_command.specs.declared.fault.Reason.{Reason}
 use Rattle.be_command.specs.declared.fault.Reason.TheVariants.{UnknownWord}
 use Rattle.be_command.specs.declared.first_word.FirstWord.{FirstWord}
 use Rattle.be_command.specs.Names.{Known}
@@ -29,6 +30,14 @@ line_start line = record { text = line; place = 0 }
 unfoldable pub command_of : Known → List ℕ → Result Command Fault
 command_of known line =
     read_after known (option_and_then first_word_of (word_at (line_start line))) (after_word (line_start line))
+
+-- the same, where the place of a fault doesn't matter
+abbrev by_reason : Result Command Fault → Result Command Reason
+by_reason (Ok command) = Ok command
+by_reason (Err fault) = Err fault.reason
+
+unfoldable pub command_or_reason : Known → List ℕ → Result Command Reason
+command_or_reason known line = by_reason (command_of known line)
 
 -- the line of a text or a clip, which alone are kept as lists
 abbrev pub IsOfList : List ℕ → Type 0

@@ -1,9 +1,9 @@
 ghost use Rattle.std.specs.Prelude.{◌≡◌};
 ghost use Rattle.be_command.specs.Forms.{first_word_of};
 
-// What the line of a command begins with.
+/// What the line of a command begins with.
 #[derive(Clone, Copy, Debug, PartialEq, Eq)]
-pub(crate) enum FirstWord {
+pub enum FirstWord {
     Fill,
     Frame,
     Line,
@@ -34,7 +34,8 @@ pub(crate) enum FirstWord {
 
 impl FirstWord {
     #[tactic(auto, unfolding(crate::specs::Forms::first_word_of))]
-    pub(crate) fn of(word: &[u8]) -> Option<FirstWord>
+    /// The first word of a command that these bytes are.
+    pub fn of(word: &[u8]) -> Option<FirstWord>
         ensures { result ≡ first_word_of word.now }
     {
         if word == b"fill".as_slice() {
