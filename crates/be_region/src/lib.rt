@@ -1,19 +1,20 @@
 //! Sets of pixels, as `BRegion` keeps them.
 //!
 //! A region holds any set of pixels whose coordinates lie in -32768 to 32767, as canonical bands: a
-//! band is a range of rows with equal spans of columns, the spans of a band go right without touching
-//! one another, the bands go down, and bands that touch have different spans. So a set has one list
-//! of rectangles, whatever way it was made.
+//! band is a range of rows with equal spans of columns, the spans of a band go right without
+//! touching one another, the bands go down, and bands that touch have different spans. So a set has
+//! one list of rectangles, whatever way it was made.
 //!
-//! No call goes pixel by pixel. `include` and `exclude` copy the bands that touch no row of the other
-//! region, which are found by bisection, and go down the other bands of both once; `intersect` goes
-//! down all. The rows are taken in strips, as far as both have the same spans. A strip costs a few
-//! steps for each span of the two bands there, or of the result alone where one of them has all columns
-//! of the other in one span. So a band of n spans that has its rows in common with m bands of the other
-//! region, which cover it in part, costs n times m steps, also where the result has few rectangles.
-//! Each takes as much memory as the result, the walked part of it once more, and two lines of spans.
-//! `contains` and `run_at` find their band by bisection, and `count` and `rect_at` take a constant
-//! number of steps. Every other call takes a few steps for each rectangle.
+//! No call goes pixel by pixel. `include` and `exclude` copy the bands that touch no row of the
+//! other region, which are found by bisection, and go down the other bands of both once;
+//! `intersect` goes down all. The rows are taken in strips, as far as both have the same spans. A
+//! strip costs a few steps for each span of the two bands there, or of the result alone where one
+//! of them has all columns of the other in one span. So a band of n spans that has its rows in
+//! common with m bands of the other region, which cover it in part, costs n times m steps, also
+//! where the result has few rectangles. Each takes as much memory as the result, the walked part of
+//! it once more, and two lines of spans. `contains` and `run_at` find their band by bisection, and
+//! `count` and `rect_at` take a constant number of steps. Every other call takes a few steps for
+//! each rectangle.
 #![tactic(auto)]
 
 mod bands;

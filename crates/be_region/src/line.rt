@@ -31,8 +31,8 @@ pub(crate) fn keep_columns(
     }
 }
 
-/// The line that has the columns that are kept, where one of the two has all columns of the other in
-/// one rectangle, or the other has none.
+/// The line that has the columns that are kept, where one of the two has all columns of the other
+/// in one rectangle, or the other has none.
 fn lone_line<'a>(one: &'a [Rect], other: &'a [Rect], rule: Rule) -> Option<&'a [Rect]>
     requires one { IsLine one.now }
     requires other { IsLine other.now }

@@ -7,10 +7,11 @@ ghost use Rattle.be_region.specs.Spans.{spans_have, span_of, AreSpans, AreWithin
 use crate::span::Span;
 use be_geom::{NoMemory, Rect};
 
-/// Left of no column.
+/// What stands for the first column of a line without columns.
 const NO_COLUMN: i32 = 2147483647;
 
-/// The columns of the rectangle of two lines that begins first, and what is left of both without it.
+/// The columns of the rectangle of two lines that begins first, and what is left of both without
+/// it.
 #[derive(Clone, Copy)]
 struct First<'a> {
     span: Span,
@@ -122,8 +123,8 @@ fn grown(spans: &mut Vec<Span>, last: Span, more: Span) -> Result<Span, NoMemory
     })
 }
 
-/// The columns that the first rectangles of two lines have in common, which may be none, and what is
-/// left of both without the one that ends first.
+/// The columns that the first rectangles of two lines have in common, which may be none, and what
+/// is left of both without the one that ends first.
 #[derive(Clone, Copy)]
 struct Meeting<'a> {
     left: i16,
@@ -208,7 +209,8 @@ fn push_some(spans: &mut Vec<Span>, left: i32, right: i32) -> Result<(), NoMemor
     Ok(())
 }
 
-/// The first columns of a line that another line lacks, which may be none, and what is left of both.
+/// The first columns of a line that another line lacks, which may be none, and what is left of
+/// both.
 #[derive(Clone, Copy)]
 struct CutOff<'a> {
     right: i32,
@@ -218,7 +220,8 @@ struct CutOff<'a> {
     other: &'a [Rect],
 }
 
-/// The spans of the columns of the first line that the second lacks, in place of those that were there.
+/// The spans of the columns of the first line that the second lacks, in place of those that were
+/// there.
 pub(crate) fn subtract(spans: &mut Vec<Span>, one: &[Rect], other: &[Rect]) -> Result<(), NoMemory>
     requires one { IsLine one.now }
     requires other { IsLine other.now }

@@ -114,7 +114,8 @@ impl Region {
         has_at(&self.rects, x, y)
     }
 
-    /// Whether the pixel is in the set, and the last column up to which that stays so along the row.
+    /// Whether the pixel is in the set, and the last column up to which that stays so along the
+    /// row.
     pub fn run_at(&self, x: i32, y: i32) -> (bool, i32)
         ensures answer { result.0 ≡ region_has self.now x y }
         ensures run { IsRun (λ z. region_has self.now z y) x result.1 }

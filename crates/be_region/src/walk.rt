@@ -33,8 +33,8 @@ pub(crate) fn merged(
     }
 }
 
-/// The same where a pixel that the other region doesn't have is kept as it is: the bands that touch no
-/// row of that region stay.
+/// The same where a pixel that the other region doesn't have is kept as it is: the bands that touch
+/// no row of that region stay.
 fn changed(alloc: Global, one: &[Rect], other: &[Rect], rule: Rule) -> Result<Vec<Rect>, NoMemory>
     requires one { AreBands one.now }
     requires other { AreBands other.now }
