@@ -86,7 +86,8 @@ fn figures_are_read_and_written(rt: HostRuntime) {
 fn settings_are_read_and_written(rt: HostRuntime) {
     let lines = [
         ("high root clear", "high root clear"),
-        ("low ok 777477", "low ok 777477"),
+        ("high root 000000", "high root 000000"),
+        ("low ok ffffff", "low ok ffffff"),
         ("viewcolor pad 0a0b0c", "viewcolor pad 0a0b0c"),
         ("mode root copy", "mode root copy"),
         ("mode root over", "mode root over"),
