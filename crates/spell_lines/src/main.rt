@@ -1,5 +1,5 @@
-//! Reads the lines of standard input as commands, as often as the word on the command line says, and
-//! then writes each as it is spelt. `bench/commands` times it.
+//! Reads the lines of standard input as commands, as often as the word on the command line says,
+//! and then writes each as it is spelt. `bench/commands` times it.
 #![tactic(auto)]
 
 mod lines;
@@ -11,8 +11,8 @@ use std::{env, io};
 
 const USAGE: &str = "usage: spell_lines ROUNDS";
 
-/// The one word is a number of 32 bits. Other words end with status 2, and a line that is no command
-/// with 1. Names are the root view, a view `v`, a bitmap `b` and a window `w`.
+/// The one word is a number of 32 bits. Other words end with status 2, and a line that is no
+/// command with 1. Names are the root view, a view `v`, a bitmap `b` and a window `w`.
 fn main(rt: HostRuntime) -> io::Result<ExitCode> {
     let mut words = env::args(&rt)?.skip(1);
     let (Some(word), None) = (words.next(), words.next()) else {
