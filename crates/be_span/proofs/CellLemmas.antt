@@ -1,0 +1,206 @@
+-- The cells of pixels, read and written side by side.
+use Rattle.std.proofs.Common.{◌≡◌, ℕ, zero, suc, ◌+◌, ◌-◌, ◌<◌, ◌≤◌, ℤ, pos, ◌+ℤ◌, true, false, ◌⊎◌, inl, inr, ◌↔◌, All, cond, List, [], ◌∷◌, ◌++◌, length, take, drop, slice_get, sum_by, count_by, Option, Some, None, refl, sym, ap, ◌∙◌, arith}
+use Rattle.std.specs.Prelude.{option_and_then}
+use Rattle.std.specs.Option.{option_map}
+use Rattle.std.proofs.lemmas.Int.{ints}
+use Rattle.std.proofs.lemmas.Bool.{cases_lt, cond-true, cond-false, true≢false}
+use Rattle.std.proofs.lemmas.List.{length-take, length-drop}
+use Rattle.std.proofs.lemmas.List.Sums.{sum_by-cons, sum_by-append, sum_by-take-drop}
+use Rattle.std.proofs.lemmas.List.Elements.{All-head, All-tail}
+use Rattle.std.proofs.lemmas.Option.{slice_get-get_or}
+use borrow.Rule.Slice.PartMut.{put_mid}
+use Rattle.be_geom.specs.declared.rect.Rect.{Rect}
+use Rattle.be_region.specs.Regions.{region_has}
+use Rattle.be_span.specs.declared.Cell.{Cell}
+use Rattle.be_span.specs.declared.brush.Brush.{Brush}
+use Rattle.be_span.specs.declared.brush.Source.{Source}
+use Rattle.be_span.specs.Slices.{painted, source_at}
+use Rattle.be_span.specs.Spans.{Spans, pixels_of, place_of, cell_in, black_cell}
+use Rattle.be_span.specs.Runs.{IsRunFrom, HasRun, IsBeside}
+use Rattle.be_span.proofs.GridLemmas.{either}
+use Rattle.be_span.proofs.PlaceLemmas.{place_none, place_found, place_has, place_below, place_same}
+
+-- ---- parts of lists
+
+module _ {X : Type 0} where
+  pub slice_get-take : (n : ℕ) (xs : List X) (k : ℕ) → k < n → slice_get (take n xs) k ≡ slice_get xs k
+  slice_get-take zero xs k h = absurd (omega arith)
+  slice_get-take (suc n) [] k h = refl
+  slice_get-take (suc n) (x ∷ xs) zero h = refl
+  slice_get-take (suc n) (x ∷ xs) (suc k) h = slice_get-take n xs k (omega arith)
+
+  pub slice_get-drop : (n : ℕ) (xs : List X) (k m : ℕ) → m ≡ n + k → slice_get (drop n xs) k ≡ slice_get xs m
+  slice_get-drop zero xs k m e = ap (slice_get xs) (same e)
+    where
+      same : m ≡ zero + k → k ≡ m
+      same e = omega arith
+  slice_get-drop (suc n) [] k m e = refl
+  slice_get-drop (suc n) (x ∷ xs) k zero e = absurd (omega arith)
+  slice_get-drop (suc n) (x ∷ xs) k (suc m) e = slice_get-drop n xs k m (omega arith)
+
+  append_left : (xs ys : List X) (k : ℕ) → k < length xs → slice_get (xs ++ ys) k ≡ slice_get xs k
+  append_left [] ys k h = absurd (omega arith)
+  append_left (x ∷ xs) ys zero h = refl
+  append_left (x ∷ xs) ys (suc k) h = append_left xs ys k (omega arith)
+
+  append_right : (xs ys : List X) (k m : ℕ) → m ≡ length xs + k → slice_get (xs ++ ys) m ≡ slice_get ys k
+  append_right [] ys k m e = ap (slice_get ys) (same e)
+    where
+      same : m ≡ 0 + k → m ≡ k
+      same e = omega arith
+  append_right (x ∷ xs) ys k zero e = absurd (omega arith)
+  append_right (x ∷ xs) ys k (suc m) e = append_right xs ys k m (omega arith)
+
+  put_before : (a n : ℕ) (xs ys : List X) (k : ℕ) → a ≤ length xs → k < a → slice_get (put_mid a n xs ys) k ≡ slice_get xs k
+  put_before a n xs ys k within h =
+      append_left (take a xs) (ys ++ drop n (drop a xs)) k (let l = length-take a xs in omega arith) ∙ slice_get-take a xs k h
+
+  pub put_inside : (a n : ℕ) (xs ys : List X) (k : ℕ) → a ≤ length xs → k < length ys → slice_get (put_mid a n xs ys) (a + k) ≡ slice_get ys k
+  put_inside a n xs ys k within h =
+      append_right (take a xs) (ys ++ drop n (drop a xs)) k (a + k) (let l = length-take a xs in omega arith) ∙ append_left ys (drop n (drop a xs)) k h
+
+  put_behind : (a n : ℕ) (xs ys : List X) (k : ℕ) → a ≤ length xs → length ys ≡ n → a + n ≤ k → slice_get (put_mid a n xs ys) k ≡ slice_get xs k
+  put_behind a n xs ys k within long h =
+      append_right (take a xs) (ys ++ drop n (drop a xs)) (k - a) k (let l = length-take a xs in omega arith)
+      ∙ append_right ys (drop n (drop a xs)) (k - a - n) (k - a) (omega arith)
+      ∙ slice_get-drop n (drop a xs) (k - a - n) (k - a) (omega arith)
+      ∙ slice_get-drop a xs (k - a) k (omega arith)
+
+  pub put_sum : (f : X → ℕ) (a n : ℕ) (xs ys : List X) → sum_by f (put_mid a n xs ys) + sum_by f (take n (drop a xs)) ≡ sum_by f xs + sum_by f ys
+  put_sum f a n xs ys =
+      let whole = sum_by-take-drop f xs a in
+      let part = sum_by-take-drop f (drop a xs) n in
+      let put = sum_by-append f (take a xs) (ys ++ drop n (drop a xs)) in
+      let rest = sum_by-append f ys (drop n (drop a xs)) in
+      omega arith
+
+  pub part_sum : (f : X → ℕ) (a n : ℕ) (xs : List X) → sum_by f (take n (drop a xs)) ≤ sum_by f xs
+  part_sum f a n xs = let whole = sum_by-take-drop f xs a in let part = sum_by-take-drop f (drop a xs) n in omega arith
+
+  -- what is at the places beside a part
+  pub put_others : (a n : ℕ) (xs ys : List X) (q : ℕ) → a ≤ length xs → length ys ≡ n → (q < a) ⊎ (a + n ≤ q) → slice_get (put_mid a n xs ys) q ≡ slice_get xs q
+  put_others a n xs ys q within long (inl h) = put_before a n xs ys q within h
+  put_others a n xs ys q within long (inr h) = put_behind a n xs ys q within long h
+
+-- a part from its first place to the one behind its last
+pub part_get : {X : Type 0} (xs part : List X) (start len k : ℕ) → part ≡ take (start + len - start) (drop start xs) → k < len → slice_get part k ≡ slice_get xs (start + k)
+part_get xs part start len k e h =
+    ap (λ l. slice_get l k) e ∙ slice_get-take (start + len - start) (drop start xs) k (omega arith) ∙ slice_get-drop start xs k (start + k) refl
+
+pub part_length : {X : Type 0} (xs part : List X) (start len : ℕ) → part ≡ take (start + len - start) (drop start xs) → start + len ≤ length xs → length part ≡ len
+part_length xs part start len e h =
+    ap length e ∙ length-take (start + len - start) (drop start xs) ∙ (let l = length-drop start xs in omega arith)
+
+-- ---- cells of pixels
+
+abbrev spans : List Rect → List Cell → Spans
+spans rs cells = record { rects = rs; cells = cells }
+
+pub cell_none : (s : Spans) (x y : ℤ) → region_has s.rects x y ≡ false → cell_in s x y ≡ None
+unfolding cell_in
+cell_none s x y e = ap (option_and_then (slice_get s.cells)) (place_none s.rects x y e)
+
+pub cell_read : (rs : List Rect) (cells : List Cell) (start len : ℕ) (x y : ℤ) (k : ℕ) → IsRunFrom rs start len x y → k < len → cell_in (spans rs cells) (x +ℤ pos k) y ≡ slice_get cells (start + k)
+unfolding cell_in
+cell_read rs cells start len x y k run less = ap (option_and_then (slice_get cells)) (run.places k less)
+
+pub run_long : (rs : List Rect) (start len n : ℕ) (x y : ℤ) → IsRunFrom rs start len x y → HasRun rs x y n → n ≤ len
+run_long rs start len n x y run has =
+    elim (cases_lt len n) [ inl h ↦ absurd (true≢false (sym (has len h) ∙ run.ends)) | inr h ↦ h ]
+
+not_beside : (x y : ℤ) (n : ℕ) (z w : ℤ) (k : ℕ) → k < n → x +ℤ pos k ≡ z → w ≡ y → IsBeside x y n z w → ⊥
+not_beside x y n z w k less across down (inl h) = h down
+not_beside x y n z w k less across down (inr (inl h)) = omega (arith, ints)
+not_beside x y n z w k less across down (inr (inr h)) = omega (arith, ints)
+
+-- cells with the same answer at each place that a pixel beside the run may have
+pub cell_stays : (rs : List Rect) (old new : List Cell) (start len n : ℕ) (x y z w : ℤ) → IsRunFrom rs start len x y → n ≤ len → ((q : ℕ) → (q < start) ⊎ (start + n ≤ q) → slice_get new q ≡ slice_get old q) → IsBeside x y n z w → cell_in (spans rs new) z w ≡ cell_in (spans rs old) z w
+unfolding cell_in
+cell_stays rs old new start len n x y z w run few same beside = at_place (place_of rs z w) refl
+  where
+    meets : (q : ℕ) → place_of rs z w ≡ Some q → start ≤ q → q < start + n → ⊥
+    meets q e low high =
+        let here = place_same rs (x +ℤ pos (q - start)) y z w q (run.places (q - start) (omega arith) ∙ ap Some (omega arith)) e in
+        let across = here.0 in
+        not_beside x y n z w (q - start) (omega arith) across (sym here.1) beside
+
+    apart : (q : ℕ) → place_of rs z w ≡ Some q → (q < start) ⊎ (start + n ≤ q)
+    apart q e = elim (cases_lt q start) [ inl h ↦ inl h | inr h ↦ elim (cases_lt q (start + n)) [ inl k ↦ absurd (meets q e h k) | inr k ↦ inr k ] ]
+
+    at_place : (o : Option ℕ) → place_of rs z w ≡ o → option_and_then (slice_get new) (place_of rs z w) ≡ option_and_then (slice_get old) (place_of rs z w)
+    at_place None e = ap (option_and_then (slice_get new)) e ∙ sym (ap (option_and_then (slice_get old)) e)
+    at_place (Some q) e = ap (option_and_then (slice_get new)) e ∙ same q (apart q e) ∙ sym (ap (option_and_then (slice_get old)) e)
+
+-- ---- rows of a buffer
+
+-- a row as far as its span goes
+pub row_cells : (rs : List Rect) (cells part : List Cell) (start len : ℕ) (x y : ℤ) (k : ℕ) → IsRunFrom rs start len x y → part ≡ take (start + len - start) (drop start cells) → length cells ≡ pixels_of rs → k < length part → cell_in (spans rs cells) (x +ℤ pos k) y ≡ slice_get part k
+row_cells rs cells part start len x y k run e whole less =
+    let fits = run.within in
+    let long = part_length cells part start len e (omega arith) in
+    cell_read rs cells start len x y k run (omega arith) ∙ sym (part_get cells part start len k e (omega arith))
+
+pub row_ends : (rs : List Rect) (cells part : List Cell) (start len : ℕ) (x y : ℤ) → IsRunFrom rs start len x y → part ≡ take (start + len - start) (drop start cells) → length cells ≡ pixels_of rs → cell_in (spans rs cells) (x +ℤ pos (length part)) y ≡ None
+row_ends rs cells part start len x y run e whole =
+    let fits = run.within in
+    cell_none (spans rs cells) (x +ℤ pos (length part)) y (ap (λ n. region_has rs (x +ℤ pos n) y) (part_length cells part start len e (omega arith)) ∙ run.ends)
+
+pub at_zero : (x : ℤ) → x +ℤ pos 0 ≡ x
+at_zero x = omega (arith, ints)
+
+pub run_has : (rs : List Rect) (start len : ℕ) (x y : ℤ) → IsRunFrom rs start len x y → region_has rs x y ≡ true
+run_has rs start len x y run =
+    place_has rs x y start (ap (λ z. place_of rs z y) (sym (at_zero x)) ∙ run.places 0 run.some ∙ ap Some (omega arith))
+
+pub row_inside : (rs : List Rect) (cells part : List Cell) (start len : ℕ) (x y : ℤ) → IsRunFrom rs start len x y → part ≡ take (start + len - start) (drop start cells) → length cells ≡ pixels_of rs → (0 < length part) ↔ (region_has rs x y ≡ true)
+row_inside rs cells part start len x y run e whole =
+    let fits = run.within in
+    let long = part_length cells part start len e (omega arith) in
+    let some = run.some in
+    (λ _. run_has rs start len x y run, λ _. omega arith)
+
+pub no_row_ends : (s : Spans) (x y : ℤ) → region_has s.rects x y ≡ false → cell_in s (x +ℤ pos 0) y ≡ None
+no_row_ends s x y e = ap (λ z. cell_in s z y) (at_zero x) ∙ cell_none s x y e
+
+-- a row written over others
+pub put_cells : (rs : List Rect) (new : List Cell) (row : List Cell) (start len : ℕ) (x y : ℤ) (k : ℕ) → IsRunFrom rs start len x y → HasRun rs x y (length row) → slice_get new (start + k) ≡ slice_get row k → k < length row → cell_in (spans rs new) (x +ℤ pos k) y ≡ slice_get row k
+put_cells rs new row start len x y k run has e less =
+    let few = run_long rs start len (length row) x y run has in
+    cell_read rs new start len x y k run (omega arith) ∙ e
+
+-- a row painted
+pub paint_cells_in : (rs : List Rect) (old new : List Cell) (brush : Brush) (source : Source) (start len n : ℕ) (x y : ℤ) (k : ℕ) → IsRunFrom rs start len x y → HasRun rs x y n → slice_get new (start + k) ≡ option_map (painted brush (source_at brush source k)) (slice_get old (start + k)) → k < n → cell_in (spans rs new) (x +ℤ pos k) y ≡ option_map (painted brush (source_at brush source k)) (cell_in (spans rs old) (x +ℤ pos k) y)
+paint_cells_in rs old new brush source start len n x y k run has e less =
+    let few = run_long rs start len n x y run has in
+    cell_read rs new start len x y k run (omega arith) ∙ e ∙ ap (option_map (painted brush (source_at brush source k))) (sym (cell_read rs old start len x y k run (omega arith)))
+
+-- ---- cells that are all the same
+
+pub cell_all : (rs : List Rect) (cells : List Cell) (c : Cell) (x y : ℤ) → length cells ≡ pixels_of rs → All (λ d. d ≡ c) cells → cell_in (spans rs cells) x y ≡ cond (region_has rs x y) (Some c) None
+unfolding cell_in
+cell_all rs cells c x y whole same =
+    elim (either (region_has rs x y)) [
+      | inl h ↦ there h (place_found rs x y h)
+      | inr h ↦ ap (option_and_then (slice_get cells)) (place_none rs x y h) ∙ sym (cond-false (region_has rs x y) (Some c) None h)
+    ]
+  where
+    there : region_has rs x y ≡ true → (n : ℕ) × (place_of rs x y ≡ Some n) → option_and_then (slice_get cells) (place_of rs x y) ≡ cond (region_has rs x y) (Some c) None
+    there h found =
+        let n = found.0 in
+        let below = place_below rs x y n found.1 in
+        let inside : n < length cells = omega arith in
+        ap (option_and_then (slice_get cells)) found.1 ∙ slice_get-get_or cells n c inside ∙ ap Some (same n c inside) ∙ sym (cond-true (region_has rs x y) (Some c) None h)
+
+abbrev mark_of : Cell → ℕ
+mark_of d = cond d.dirty 1 0
+
+black_mark : (d : Cell) → d ≡ black_cell → mark_of d ≡ 0
+black_mark d e = ap mark_of e
+
+pub none_dirty : (cells : List Cell) → All (λ c. c ≡ black_cell) cells → 0 ≡ count_by (λ c. c.dirty) cells
+none_dirty [] h = refl
+none_dirty (c ∷ cells) h =
+    let mark = black_mark c (All-head (λ (d : Cell). d ≡ black_cell) c cells h) in
+    let rest = none_dirty cells (All-tail (λ (d : Cell). d ≡ black_cell) c cells h) in
+    let sum = sum_by-cons mark_of c cells in
+    omega arith

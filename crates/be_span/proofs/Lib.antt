@@ -1,0 +1,4 @@
+pub mod GridLemmas
+pub mod PlaceLemmas
+pub mod SliceLemmas
+pub mod CellLemmas

@@ -1,0 +1,158 @@
+ghost use Rattle.std.specs.Prelude.{◌≡◌, ◌<◌, ◌↔◌, ℕ, ℤ, pos, ◌+ℤ◌, true, false, None, Some, IfOk, IsSome, IsTrue, All, length, slice_get, count_by, if◌then◌else◌};
+ghost use Rattle.std.specs.Option.{option_map};
+ghost use Rattle.be_region.specs.Regions.{region_has};
+ghost use Rattle.be_region.specs.Bands.{AreBands};
+ghost use Rattle.be_span.specs.Spans.{cell_in, black_cell, pixels_of};
+ghost use Rattle.be_span.specs.Runs.{HasRun, IsBeside};
+ghost use Rattle.be_span.specs.Slices.{source_at, painted};
+
+use crate::Cell;
+use crate::brush::{Brush, Source};
+use crate::places::{run_from, starts_of};
+use crate::rows::{overwrite, paint_part};
+use be_color::Rgb;
+use be_geom::NoMemory;
+use be_region::Region;
+use std::alloc::Global;
+use std::marker::Model;
+
+/// The pixels of a region with their cells.
+#[derive(Debug, Drop)]
+pub struct SpanBuf {
+    region: Region,
+    /// For each rectangle, how many cells come before its own.
+    starts: Vec<usize>,
+    cells: Vec<Cell>,
+    /// How many of them are dirty.
+    dirty: usize,
+}
+
+impl Model for SpanBuf {
+    ghost use Rattle.be_span.specs.Spans.{Spans};
+    ghost use Rattle.be_span.specs.Runs.{AreRows};
+
+    ghost Value = { Spans };
+
+    ghost view = { λ b. record { rects = b.region; cells = b.cells.items } };
+
+    ghost invariant = { λ b. AreRows b.region b.starts.items b.cells.items b.dirty };
+}
+
+impl SpanBuf {
+    /// The pixels of the region, all black and clean.
+    pub fn prepare(alloc: Global, region: Region) -> Result<SpanBuf, NoMemory>
+        ensures region { IfOk result (λ spans. spans.rects ≡ region) }
+        ensures black { IfOk result (λ spans. (x y : ℤ) → cell_in spans x y
+            ≡ (if region_has region x y then Some black_cell else None)) }
+        ensures clean { IfOk result (λ spans. All (λ c. c ≡ black_cell) spans.cells) }
+    {
+        let (starts, count) = starts_of(alloc, &region)?;
+        let cells = black_cells(alloc, count)?;
+        Ok(SpanBuf {
+            region,
+            starts,
+            cells,
+            dirty: 0,
+        })
+    }
+
+    /// The region whose pixels these are.
+    pub fn region(&self) -> &Region
+        ensures { result.now ≡ self.now.rects }
+    {
+        &self.region
+    }
+
+    /// How many pixels are dirty. It is kept, so that no cell is looked at.
+    pub fn dirty_count(&self) -> usize
+        ensures { result ≡ count_by (λ c. c.dirty) self.now.cells }
+    {
+        self.dirty
+    }
+
+    /// Whether no pixel is dirty.
+    pub fn is_clean(&self) -> bool
+        ensures { IsTrue result ↔ (count_by (λ c. c.dirty) self.now.cells ≡ 0) }
+    {
+        self.dirty == 0
+    }
+
+    /// The cell of a pixel. None outside the region.
+    pub fn get(&self, x: i32, y: i32) -> Option<Cell>
+        ensures cell { result ≡ cell_in self.now x y }
+        ensures inside { IsSome result ↔ (region_has self.now.rects x y ≡ true) }
+    {
+        self.row_from(x, y).first().copied()
+    }
+
+    /// The cells from a pixel on to the end of its span. None outside the region.
+    pub fn row_from(&self, x: i32, y: i32) -> &[Cell]
+        ensures cells { (k : ℕ) → k < length result.now
+            → cell_in self.now (x +ℤ pos k) y ≡ slice_get result.now k }
+        ensures ends { cell_in self.now (x +ℤ pos (length result.now)) y ≡ None }
+        ensures inside { (0 < length result.now) ↔ (region_has self.now.rects x y ≡ true) }
+    {
+        match run_from(&self.region, &self.starts, x, y) {
+            Some(run) => &self.cells[run.start..run.start + run.len],
+            None => &[],
+        }
+    }
+
+    /// Gives a pixel another cell. False, and no change, outside the region.
+    pub fn set(&mut self, x: i32, y: i32, cell: Cell) -> bool
+        ensures inside { result ≡ region_has self.old.rects x y }
+        ensures region { self.new.rects ≡ self.old.rects }
+        ensures cell { result ≡ true → cell_in self.new x y ≡ Some cell }
+        ensures others { (z w : ℤ) → IsBeside x y 1 z w → cell_in self.new z w ≡ cell_in self.old z w }
+        ensures refused { result ≡ false → self.new ≡ self.old }
+    {
+        if !self.region.contains(x, y) {
+            return false;
+        }
+        self.put_row(x, y, &[cell]);
+        true
+    }
+
+    /// Gives the pixels from (x, y) on to the right these cells.
+    pub fn put_row(&mut self, x: i32, y: i32, cells: &[Cell])
+        requires { HasRun self.old.rects x y (length cells.now) }
+        ensures region { self.new.rects ≡ self.old.rects }
+        ensures cells { (k : ℕ) → k < length cells.now
+            → cell_in self.new (x +ℤ pos k) y ≡ slice_get cells.now k }
+        ensures others { (z w : ℤ) → IsBeside x y (length cells.now) z w
+            → cell_in self.new z w ≡ cell_in self.old z w }
+    {
+        let Some(run) = run_from(&self.region, &self.starts, x, y) else {
+            return;
+        };
+        self.dirty = overwrite(&mut self.cells, run.start, cells, self.dirty);
+    }
+
+    /// Paints the `count` pixels from (x, y) on to the right. Their marks stay.
+    pub fn paint_row(&mut self, x: i32, y: i32, count: usize, brush: Brush, source: Source)
+        requires { HasRun self.old.rects x y count }
+        ensures region { self.new.rects ≡ self.old.rects }
+        ensures painted { (k : ℕ) → k < count → cell_in self.new (x +ℤ pos k) y
+            ≡ option_map (painted brush (source_at brush source k)) (cell_in self.old (x +ℤ pos k) y) }
+        ensures others { (z w : ℤ) → IsBeside x y count z w
+            → cell_in self.new z w ≡ cell_in self.old z w }
+        ensures marks { count_by (λ c. c.dirty) self.new.cells
+            ≡ count_by (λ c. c.dirty) self.old.cells }
+    {
+        let Some(run) = run_from(&self.region, &self.starts, x, y) else {
+            return;
+        };
+        paint_part(&mut self.cells, run.start, count, brush, source);
+    }
+}
+
+fn black_cells(alloc: Global, count: usize) -> Result<Vec<Cell>, NoMemory>
+    ensures black { IfOk result (λ cells. All (λ c. c ≡ black_cell) cells.items) }
+    ensures len { IfOk result (λ cells. length cells.items ≡ count) }
+{
+    let black = Cell {
+        rgb: Rgb::BLACK,
+        dirty: false,
+    };
+    Ok(vec![in alloc; black; count]?)
+}

@@ -1,0 +1,50 @@
+ghost use Rattle.std.specs.Prelude.{◌≡◌, ◌<◌, ◌≤◌, ◌+◌, ◌⊎◌, ℕ, length, slice_get, count_by};
+ghost use Rattle.std.specs.Option.{option_map};
+ghost use Rattle.be_span.specs.Slices.{source_at, painted};
+
+use crate::Cell;
+use crate::brush::{Brush, Source};
+use crate::slices::paint_cells;
+
+/// Writes over the cells from `start` on. How many of all are dirty is told and given back.
+pub(crate) fn overwrite(cells: &mut [Cell], start: usize, row: &[Cell], dirty: usize) -> usize
+    requires fits { start + length row.now ≤ length cells.old }
+    requires counted { dirty ≡ count_by (λ c. c.dirty) cells.old }
+    ensures len { length cells.new ≡ length cells.old }
+    ensures inside { (k : ℕ) → k < length row.now
+        → slice_get cells.new (start + k) ≡ slice_get row.now k }
+    ensures others { (q : ℕ) → (q < start) ⊎ (start + length row.now ≤ q)
+        → slice_get cells.new q ≡ slice_get cells.old q }
+    ensures counted { result ≡ count_by (λ c. c.dirty) cells.new }
+{
+    let end = start + row.len();
+    let lost = dirty_among(&cells[start..end]);
+    cells[start..end].copy_from_slice(row);
+    dirty - lost + dirty_among(row)
+}
+
+/// Paints `count` cells from `start` on.
+pub(crate) fn paint_part(
+    cells: &mut [Cell],
+    start: usize,
+    count: usize,
+    brush: Brush,
+    source: Source,
+)
+    requires { start + count ≤ length cells.old }
+    ensures len { length cells.new ≡ length cells.old }
+    ensures inside { (k : ℕ) → k < count → slice_get cells.new (start + k)
+        ≡ option_map (painted brush (source_at brush source k)) (slice_get cells.old (start + k)) }
+    ensures others { (q : ℕ) → (q < start) ⊎ (start + count ≤ q)
+        → slice_get cells.new q ≡ slice_get cells.old q }
+    ensures marks { count_by (λ c. c.dirty) cells.new ≡ count_by (λ c. c.dirty) cells.old }
+{
+    paint_cells(&mut cells[start..start + count], brush, source);
+}
+
+/// How many of the cells are dirty.
+fn dirty_among(cells: &[Cell]) -> usize
+    ensures { result ≡ count_by (λ c. c.dirty) cells.now }
+{
+    cells.iter().filter(|cell| cell.dirty).count()
+}

@@ -1,0 +1,124 @@
+ghost use Rattle.std.specs.Prelude.{◌≡◌, ℕ, ℤ, pos, ◌+◌, ◌-◌, ◌%◌, ◌<◌, ◌==◌, true, map, slice_get, length, count_by};
+ghost use Rattle.std.specs.Option.{option_map};
+ghost use Rattle.std.specs.Int.{bit_at};
+ghost use Rattle.be_color.specs.declared.colors.Color.TheVariants.{Solid};
+ghost use Rattle.be_color.specs.Pattern.{place_in_pattern};
+ghost use Rattle.be_span.specs.declared.brush.Source.TheVariants.{Bits};
+ghost use Rattle.be_span.specs.Slices.{source_at, painted, painted_by_bit};
+
+use crate::Cell;
+use crate::brush::{Brush, Source};
+use be_color::{Color, Mode, Rgb, blend, pick};
+
+/// Paints cells that stand side by side in a row.
+pub fn paint_cells(cells: &mut [Cell], brush: Brush, source: Source)
+    ensures cells { (k : ℕ) → slice_get cells.new k
+        ≡ option_map (painted brush (source_at brush source k)) (slice_get cells.old k) }
+    ensures marks { count_by (λ c. c.dirty) cells.new ≡ count_by (λ c. c.dirty) cells.old }
+{
+    match source {
+        Source::One(color) => paint_one(cells, brush, color),
+        Source::Bits { byte, column } => paint_byte(cells, brush, byte, column),
+    }
+}
+
+/// Paints each cell by its bit of the byte. The first cell is in this column of the window.
+fn paint_byte(cells: &mut [Cell], brush: Brush, byte: u8, column: i32)
+    ensures { (k : ℕ) → slice_get cells.new k
+        ≡ option_map (painted brush (source_at brush (Bits byte column) k)) (slice_get cells.old k) }
+{
+    let Brush { mode, high, low } = brush;
+    if byte == 0xff {
+        paint_one(cells, brush, pick(mode, true, high, low));
+    } else if byte == 0 {
+        paint_one(cells, brush, pick(mode, false, high, low));
+    } else {
+        paint_bits(cells, brush, byte, place_in_row(column));
+    }
+}
+
+/// Paints each cell with the same colour.
+fn paint_one(cells: &mut [Cell], brush: Brush, source: Color)
+    ensures { cells.new ≡ map (painted brush source) cells.old }
+{
+    let source = match source {
+        Color::Solid(rgb) => rgb,
+        Color::Clear => return,
+    };
+    let Brush { mode, high, low } = brush;
+    match mode {
+        Mode::Copy => paint_each(cells, Mode::Copy, source, high, low),
+        Mode::Over => paint_each(cells, Mode::Over, source, high, low),
+        Mode::Erase => paint_each(cells, Mode::Erase, source, high, low),
+        Mode::Invert => paint_each(cells, Mode::Invert, source, high, low),
+        Mode::Add => paint_each(cells, Mode::Add, source, high, low),
+        Mode::Subtract => paint_each(cells, Mode::Subtract, source, high, low),
+        Mode::Blend => paint_each(cells, Mode::Blend, source, high, low),
+        Mode::Min => paint_each(cells, Mode::Min, source, high, low),
+        Mode::Max => paint_each(cells, Mode::Max, source, high, low),
+        Mode::Select => paint_each(cells, Mode::Select, source, high, low),
+    }
+}
+
+/// The same in a mode. Each caller has a loop of its own, for its mode.
+#[inline(always)]
+fn paint_each(cells: &mut [Cell], mode: Mode, source: Rgb, high: Color, low: Color)
+    ensures { cells.new ≡ map (painted record { mode = mode; high = high; low = low } (Solid source)) cells.old }
+{
+    for cell in cells.iter_mut() {
+        cell.rgb = blend(mode, Color::Solid(source), cell.rgb, high, low);
+    }
+}
+
+/// Paints each cell by its bit of the byte. The first cell has the bit at `first`, from the left.
+fn paint_bits(cells: &mut [Cell], brush: Brush, byte: u8, first: usize)
+    requires { first < 8 }
+    ensures { (k : ℕ) → slice_get cells.new k
+        ≡ option_map (painted_by_bit brush byte (first + k)) (slice_get cells.old k) }
+{
+    let Brush { mode, high, low } = brush;
+    match mode {
+        Mode::Copy => paint_each_bit(cells, Mode::Copy, byte, first, high, low),
+        Mode::Over => paint_each_bit(cells, Mode::Over, byte, first, high, low),
+        Mode::Erase => paint_each_bit(cells, Mode::Erase, byte, first, high, low),
+        Mode::Invert => paint_each_bit(cells, Mode::Invert, byte, first, high, low),
+        Mode::Add => paint_each_bit(cells, Mode::Add, byte, first, high, low),
+        Mode::Subtract => paint_each_bit(cells, Mode::Subtract, byte, first, high, low),
+        Mode::Blend => paint_each_bit(cells, Mode::Blend, byte, first, high, low),
+        Mode::Min => paint_each_bit(cells, Mode::Min, byte, first, high, low),
+        Mode::Max => paint_each_bit(cells, Mode::Max, byte, first, high, low),
+        Mode::Select => paint_each_bit(cells, Mode::Select, byte, first, high, low),
+    }
+}
+
+/// The same in a mode. Each caller has a loop of its own, for its mode.
+#[inline(always)]
+fn paint_each_bit(cells: &mut [Cell], mode: Mode, byte: u8, first: usize, high: Color, low: Color)
+    requires { first < 8 }
+    ensures { (k : ℕ) → slice_get cells.new k ≡ option_map (painted_by_bit
+        record { mode = mode; high = high; low = low } byte (first + k)) (slice_get cells.old k) }
+{
+    let mut place = first;
+    for cell in cells.iter_mut() {
+        let source = pick(mode, has_bit(byte, place), high, low);
+        cell.rgb = blend(mode, source, cell.rgb, high, low);
+        place = (place + 1) % 8;
+    }
+}
+
+/// Whether the byte has this bit, counted from the left.
+fn has_bit(byte: u8, place: usize) -> bool
+    requires { place < 8 }
+    ensures { result ≡ (bit_at byte (7 - place) == 1) }
+{
+    byte >> (7 - place) & 1 == 1
+}
+
+/// Where a column falls in a pattern's row, 0 to 7.
+#[tactic(auto, unfolding(be_color::specs::Pattern::place_in_pattern))]
+fn place_in_row(column: i32) -> usize
+    ensures place { result ≡ place_in_pattern column }
+    ensures within { result < 8 }
+{
+    column.rem_euclid(8) as usize
+}
