@@ -1,5 +1,5 @@
 -- The cells of pixels, read and written side by side.
-use Rattle.std.proofs.Common.{◌≡◌, ℕ, zero, suc, ◌+◌, ◌-◌, ◌<◌, ◌≤◌, ℤ, pos, ◌+ℤ◌, true, false, ◌⊎◌, inl, inr, ◌↔◌, All, cond, List, [], ◌∷◌, ◌++◌, length, take, drop, slice_get, sum_by, count_by, Option, Some, None, refl, sym, ap, ◌∙◌, arith}
+use Rattle.std.proofs.Common.{◌≡◌, ℕ, zero, suc, ◌+◌, ◌-◌, ◌<◌, ◌≤◌, ℤ, pos, ◌+ℤ◌, true, false, ◌⊎◌, inl, inr, ◌↔◌, All, cond, List, [], ◌∷◌, ◌++◌, length, get_or, take, drop, slice_get, sum_by, count_by, Option, Some, None, refl, sym, ap, ◌∙◌, arith}
 use Rattle.std.specs.Prelude.{option_and_then}
 use Rattle.std.specs.Option.{option_map}
 use Rattle.std.proofs.lemmas.Int.{ints}
@@ -159,6 +159,12 @@ row_inside rs cells part start len x y run e whole =
     let some = run.some in
     (λ _. run_has rs start len x y run, λ _. omega arith)
 
+pub row_run : (rs : List Rect) (cells part : List Cell) (start len : ℕ) (x y : ℤ) → IsRunFrom rs start len x y → part ≡ take (start + len - start) (drop start cells) → length cells ≡ pixels_of rs → HasRun rs x y (length part)
+row_run rs cells part start len x y run e whole k less =
+    let fits = run.within in
+    let long = part_length cells part start len e (omega arith) in
+    place_has rs (x +ℤ pos k) y (start + k) (run.places k (omega arith))
+
 pub no_row_ends : (s : Spans) (x y : ℤ) → region_has s.rects x y ≡ false → cell_in s (x +ℤ pos 0) y ≡ None
 no_row_ends s x y e = ap (λ z. cell_in s z y) (at_zero x) ∙ cell_none s x y e
 
@@ -204,3 +210,12 @@ none_dirty (c ∷ cells) h =
     let rest = none_dirty cells (All-tail (λ (d : Cell). d ≡ black_cell) c cells h) in
     let sum = sum_by-cons mark_of c cells in
     omega arith
+
+-- a pixel of the region has a cell
+pub cell_some : (s : Spans) (x y : ℤ) → length s.cells ≡ pixels_of s.rects → region_has s.rects x y ≡ true → (c : Cell) × (cell_in s x y ≡ Some c)
+unfolding cell_in
+cell_some s x y whole h =
+    let found = place_found s.rects x y h in
+    let below = place_below s.rects x y found.0 found.1 in
+    let inside : found.0 < length s.cells = omega arith in
+    (get_or s.cells found.0 black_cell, ap (option_and_then (slice_get s.cells)) found.1 ∙ slice_get-get_or s.cells found.0 black_cell inside)

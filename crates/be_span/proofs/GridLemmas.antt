@@ -43,6 +43,12 @@ pub pos_abs : (z : ℤ) → pos 0 ≤ℤ z → pos (unsigned_abs z) ≡ z
 pos_abs (pos n) h = refl
 pos_abs (negsuc n) h = absurd (omega (arith, ints))
 
+pub wide_is : (r : Rect) → r.left ≤ℤ r.right → pos (width_of r) ≡ r.right -ℤ r.left +ℤ pos 1
+wide_is r h = pos_abs (r.right -ℤ r.left +ℤ pos 1) (omega (arith, ints))
+
+pub high_is : (r : Rect) → r.top ≤ℤ r.bottom → pos (height_of r) ≡ r.bottom -ℤ r.top +ℤ pos 1
+high_is r h = pos_abs (r.bottom -ℤ r.top +ℤ pos 1) (omega (arith, ints))
+
 -- the row and the column of a pixel, counted from the rectangle's left top
 pub record IsCellOf (r : Rect) (x y : ℤ) (row column width height : ℕ) : Type 0 where
   pub row_is : pos row ≡ y -ℤ r.top

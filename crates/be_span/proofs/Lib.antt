@@ -2,3 +2,4 @@ pub mod GridLemmas
 pub mod PlaceLemmas
 pub mod SliceLemmas
 pub mod CellLemmas
+pub mod LaidLemmas

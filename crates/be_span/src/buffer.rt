@@ -58,9 +58,15 @@ impl SpanBuf {
 
     /// The region whose pixels these are.
     pub fn region(&self) -> &Region
-        ensures { result.now ≡ self.now.rects }
+        ensures region { result.now ≡ self.now.rects }
+        ensures whole { length self.now.cells ≡ pixels_of self.now.rects }
     {
         &self.region
+    }
+
+    /// Where its memory comes from.
+    pub(crate) fn allocator(&self) -> Global {
+        *self.cells.allocator()
     }
 
     /// How many pixels are dirty. It is kept, so that no cell is looked at.
@@ -91,6 +97,7 @@ impl SpanBuf {
             → cell_in self.now (x +ℤ pos k) y ≡ slice_get result.now k }
         ensures ends { cell_in self.now (x +ℤ pos (length result.now)) y ≡ None }
         ensures inside { (0 < length result.now) ↔ (region_has self.now.rects x y ≡ true) }
+        ensures run { HasRun self.now.rects x y (length result.now) }
     {
         match run_from(&self.region, &self.starts, x, y) {
             Some(run) => &self.cells[run.start..run.start + run.len],
@@ -116,6 +123,7 @@ impl SpanBuf {
     /// Gives the pixels from (x, y) on to the right these cells.
     pub fn put_row(&mut self, x: i32, y: i32, cells: &[Cell])
         requires { HasRun self.old.rects x y (length cells.now) }
+        ensures whole { length self.old.cells ≡ pixels_of self.old.rects }
         ensures region { self.new.rects ≡ self.old.rects }
         ensures cells { (k : ℕ) → k < length cells.now
             → cell_in self.new (x +ℤ pos k) y ≡ slice_get cells.now k }

@@ -61,7 +61,7 @@ fn steps(edge: i16, z: i32) -> usize
 }
 
 /// How many columns there are.
-fn width_of(rect: Rect) -> usize
+pub(crate) fn width_of(rect: Rect) -> usize
     requires { rect.left ≤ℤ rect.right }
     ensures { result ≡ width_of rect }
 {
@@ -69,7 +69,7 @@ fn width_of(rect: Rect) -> usize
 }
 
 /// How many rows there are.
-fn height_of(rect: Rect) -> usize
+pub(crate) fn height_of(rect: Rect) -> usize
     requires { rect.top ≤ℤ rect.bottom }
     ensures { result ≡ height_of rect }
 {

@@ -1,0 +1,291 @@
+-- Cells laid on pixels.
+use Rattle.std.proofs.Common.{◌≡◌, ℕ, zero, suc, ◌+◌, ◌-◌, ◌<◌, ◌≤◌, ℤ, pos, negsuc, ◌+ℤ◌, ◌-ℤ◌, ◌≤ℤ◌, ◌<ℤ◌, Bool, true, false, ◌||◌, ◌&&◌, ◌⊎◌, inl, inr, List, [], ◌∷◌, length, get_or, take, min, Option, Some, None, slice_get, cond, refl, sym, ap, ◌∙◌, subst, arith, add-one}
+use Rattle.std.specs.Prelude.{unsigned_abs}
+use Rattle.std.proofs.lemmas.Int.{ints, by_lt_z}
+use Rattle.std.proofs.lemmas.Bool.{cases_lt, cond-true, cond-false, or_left, or_right, true≢false}
+use Rattle.std.proofs.lemmas.List.{take_all}
+use Rattle.std.proofs.lemmas.Option.{none-some, same_Some, slice_get-get_or}
+use Rattle.be_geom.specs.declared.rect.Rect.{Rect}
+use Rattle.be_geom.specs.Rects.{rect_has}
+use Rattle.be_region.specs.Regions.{region_has}
+use Rattle.be_region.specs.Runs.{IsRun}
+use Rattle.be_span.specs.declared.Cell.{Cell}
+use Rattle.be_span.specs.Laid.{IsLaidRun, IsLaidAbove}
+use Rattle.be_span.specs.Runs.{IsBeside}
+use Rattle.be_span.specs.Spans.{Spans, cell_in, laid, black_cell, pixels_of}
+use Rattle.be_span.proofs.GridLemmas.{either, pos_abs, IsIn, in_from, has_from}
+use Rattle.be_span.proofs.CellLemmas.{cell_none, cell_some}
+
+pub laid_nothing : (s d : Option Cell) → s ≡ None → laid s d ≡ d
+laid_nothing s d e = ap (λ o. laid o d) e
+
+laid_outside : (s : Option Cell) → laid s None ≡ None
+laid_outside (Some c) = refl
+laid_outside None = refl
+
+laid_twice : (s d : Option Cell) → laid s (laid s d) ≡ laid s d
+laid_twice (Some c) (Some d) = refl
+laid_twice (Some c) None = refl
+laid_twice None d = refl
+
+laid_some : (s d : Option Cell) (c e : Cell) → s ≡ Some c → d ≡ Some e → laid s d ≡ Some c
+laid_some s d c e is has = ap (λ o. laid o d) is ∙ ap (laid (Some c)) has
+
+-- a cell over the cell of a pixel of the region
+pub laid_put : (from : Option Cell) (now : Spans) (new : Option Cell) (row : List Cell) (k : ℕ) (x y : ℤ) → k < length row → from ≡ slice_get row k → length now.cells ≡ pixels_of now.rects → region_has now.rects x y ≡ true → new ≡ slice_get row k → new ≡ laid from (cell_in now x y)
+laid_put from now new row k x y less e whole has put =
+    let is = slice_get-get_or row k black_cell less in
+    let old = cell_some now x y whole has in
+    put ∙ is ∙ sym (laid_some from (cell_in now x y) (get_or row k black_cell) old.0 (e ∙ is) old.1)
+
+-- no pixel of a gap has a cell
+pub gap_none : (s : Spans) (x y last : ℤ) (len rest n k : ℕ) → IsRun (λ z. region_has s.rects z y) x last → region_has s.rects x y ≡ false → pos len ≡ last -ℤ x +ℤ pos 1 → n ≡ min len rest → k < n → cell_in s (x +ℤ pos k) y ≡ None
+gap_none s x y last len rest n k run out long e less =
+    let few : k < len = omega arith in
+    cell_none s (x +ℤ pos k) y (run.same (x +ℤ pos k) (omega (arith, ints)) (omega (arith, ints)) ∙ out)
+
+-- where no pixel that is laid has a place, all stay
+pub far_stays : (from to : Spans) (x y z w : ℤ) → (region_has from.rects z w ≡ true → region_has to.rects x y ≡ true → ⊥) → cell_in to x y ≡ laid (cell_in from z w) (cell_in to x y)
+far_stays from to x y z w far =
+    elim (either (region_has from.rects z w)) [
+      | inl e ↦ elim (either (region_has to.rects x y)) [
+        | inl f ↦ absurd (far e f)
+        | inr f ↦ cell_none to x y f ∙ sym (laid_outside (cell_in from z w)) ∙ ap (laid (cell_in from z w)) (sym (cell_none to x y f))
+      ]
+      | inr e ↦ sym (laid_nothing (cell_in from z w) (cell_in to x y) (cell_none from z w e))
+    ]
+
+-- rectangles that are too far from each other
+pub too_far : (old new : Rect) (least most way_x way_y x y : ℤ) (low high : ℤ) → least ≡ new.left -ℤ old.right → low ≡ new.top -ℤ old.bottom → most ≡ new.right -ℤ old.left → high ≡ new.bottom -ℤ old.top → (way_x <ℤ least) ⊎ (most <ℤ way_x) ⊎ (way_y <ℤ low) ⊎ (high <ℤ way_y) → rect_has old (x -ℤ way_x) (y -ℤ way_y) ≡ true → rect_has new x y ≡ true → ⊥
+too_far old new least most way_x way_y x y low high a b c d far e f = apart (in_from old (x -ℤ way_x) (y -ℤ way_y) e) (in_from new x y f) far
+  where
+    apart : IsIn old (x -ℤ way_x) (y -ℤ way_y) → IsIn new x y → (way_x <ℤ least) ⊎ (most <ℤ way_x) ⊎ (way_y <ℤ low) ⊎ (high <ℤ way_y) → ⊥
+    apart h k (inl far) = let p = h.right in let q = k.left in omega (arith, ints)
+    apart h k (inr (inl far)) = let p = h.left in let q = k.right in omega (arith, ints)
+    apart h k (inr (inr (inl far))) = let p = h.bottom in let q = k.top in omega (arith, ints)
+    apart h k (inr (inr (inr far))) = let p = h.top in let q = k.bottom in omega (arith, ints)
+
+-- ---- buffers made of others
+
+still : (z : ℤ) → z -ℤ pos 0 ≡ z
+still z = omega (arith, ints)
+
+found_is : (s : Spans) (x y : ℤ) → cell_in s (x -ℤ pos 0) (y -ℤ pos 0) ≡ cell_in s x y
+found_is s x y = ap (λ z. cell_in s z (y -ℤ pos 0)) (still x) ∙ ap (cell_in s x) (still y)
+
+-- a part of a buffer
+pub part_cell : (s : Spans) (b : Bool) (black new : Option Cell) (x y : ℤ) → length s.cells ≡ pixels_of s.rects → black ≡ cond (region_has s.rects x y && b) (Some black_cell) None → new ≡ laid (cell_in s (x -ℤ pos 0) (y -ℤ pos 0)) black → new ≡ cond b (cell_in s x y) None
+part_cell s b black new x y whole e f = f ∙ ap (λ o. laid o black) (found_is s x y) ∙ by_cases (region_has s.rects x y) b refl e
+  where
+    by_cases : (p q : Bool) → region_has s.rects x y ≡ p → black ≡ cond (p && q) (Some black_cell) None → laid (cell_in s x y) black ≡ cond q (cell_in s x y) None
+    by_cases true true h k = let c = cell_some s x y whole h in laid_some (cell_in s x y) black c.0 black_cell c.1 k ∙ sym c.1
+    by_cases true false h k = ap (laid (cell_in s x y)) k ∙ laid_outside (cell_in s x y)
+    by_cases false true h k = ap (laid (cell_in s x y)) k ∙ laid_outside (cell_in s x y) ∙ sym (cell_none s x y h)
+    by_cases false false h k = ap (laid (cell_in s x y)) k ∙ laid_outside (cell_in s x y)
+
+-- two buffers together
+pub joined_cell : (s t : Spans) (black now new : Option Cell) (x y : ℤ) → length s.cells ≡ pixels_of s.rects → length t.cells ≡ pixels_of t.rects → black ≡ cond (region_has s.rects x y || region_has t.rects x y) (Some black_cell) None → now ≡ laid (cell_in s (x -ℤ pos 0) (y -ℤ pos 0)) black → new ≡ laid (cell_in t (x -ℤ pos 0) (y -ℤ pos 0)) now → new ≡ cond (region_has t.rects x y) (cell_in t x y) (cell_in s x y)
+joined_cell s t black now new x y whole whole' e f g =
+    g ∙ ap (λ o. laid o now) (found_is t x y) ∙ ap (laid (cell_in t x y)) (f ∙ ap (λ o. laid o black) (found_is s x y)) ∙ by_cases (region_has s.rects x y) (region_has t.rects x y) refl refl e
+  where
+    by_cases : (p q : Bool) → region_has s.rects x y ≡ p → region_has t.rects x y ≡ q → black ≡ cond (p || q) (Some black_cell) None → laid (cell_in t x y) (laid (cell_in s x y) black) ≡ cond q (cell_in t x y) (cell_in s x y)
+    by_cases true true h k m =
+        let c = cell_some s x y whole h in let d = cell_some t x y whole' k in
+        laid_some (cell_in t x y) (laid (cell_in s x y) black) d.0 c.0 d.1 (laid_some (cell_in s x y) black c.0 black_cell c.1 m) ∙ sym d.1
+    by_cases true false h k m =
+        let c = cell_some s x y whole h in
+        laid_nothing (cell_in t x y) (laid (cell_in s x y) black) (cell_none t x y k) ∙ laid_some (cell_in s x y) black c.0 black_cell c.1 m ∙ sym c.1
+    by_cases false true h k m =
+        let d = cell_some t x y whole' k in
+        ap (laid (cell_in t x y)) (laid_nothing (cell_in s x y) black (cell_none s x y h)) ∙ laid_some (cell_in t x y) black d.0 black_cell d.1 m ∙ sym d.1
+    by_cases false false h k m =
+        ap (λ o. laid (cell_in t x y) (laid (cell_in s x y) o)) m ∙ ap (laid (cell_in t x y)) (laid_outside (cell_in s x y)) ∙ laid_outside (cell_in t x y) ∙ sym (cell_none s x y h)
+
+-- ---- a row
+
+pub run_none : (cells : ℕ → Option Cell) (old : Spans) (x y : ℤ) → IsLaidRun cells old old x y 0
+run_none cells old x y = record { inside = λ k less. absurd (omega arith); beside = λ z w h. refl }
+
+pub further : (x : ℤ) (m k : ℕ) → x +ℤ pos m +ℤ pos k ≡ x +ℤ pos (m + k)
+further x m k = omega (arith, ints)
+
+before_run : (x y : ℤ) (m n : ℕ) (k : ℕ) → k < m → IsBeside (x +ℤ pos m) y n (x +ℤ pos k) y
+before_run x y m n k less = inr (inl (omega (arith, ints)))
+
+beside_first : (x y : ℤ) (m n : ℕ) (z w : ℤ) → IsBeside x y (m + n) z w → IsBeside x y m z w
+beside_first x y m n z w (inl h) = inl h
+beside_first x y m n z w (inr (inl h)) = inr (inl h)
+beside_first x y m n z w (inr (inr h)) = inr (inr (omega (arith, ints)))
+
+beside_second : (x y : ℤ) (m n : ℕ) (z w : ℤ) → IsBeside x y (m + n) z w → IsBeside (x +ℤ pos m) y n z w
+beside_second x y m n z w (inl h) = inl h
+beside_second x y m n z w (inr (inl h)) = inr (inl (omega (arith, ints)))
+beside_second x y m n z w (inr (inr h)) = inr (inr (omega (arith, ints)))
+
+behind_run : (x y : ℤ) (m k : ℕ) → IsBeside x y m (x +ℤ pos (m + k)) y
+behind_run x y m k = inr (inr (omega (arith, ints)))
+
+-- some pixels more
+pub run_more : (from : Spans) (fx fy : ℤ) (old now new : Spans) (x y : ℤ) (m n : ℕ) → IsLaidRun (λ k. cell_in from (fx +ℤ pos k) fy) old now x y m → IsLaidRun (λ k. cell_in from (fx +ℤ pos m +ℤ pos k) fy) now new (x +ℤ pos m) y n → IsLaidRun (λ k. cell_in from (fx +ℤ pos k) fy) old new x y (m + n)
+run_more from fx fy old now new x y m n so_far more = record {
+  inside = λ k less. elim (cases_lt k m) [
+    | inl h ↦ more.beside (x +ℤ pos k) y (before_run x y m n k h) ∙ so_far.inside k h
+    | inr h ↦ later k (k - m) (omega arith) (omega arith)
+  ];
+  beside = λ z w h. more.beside z w (beside_second x y m n z w h) ∙ so_far.beside z w (beside_first x y m n z w h);
+}
+  where
+    later : (k j : ℕ) → k ≡ m + j → j < n → cell_in new (x +ℤ pos k) y ≡ laid (cell_in from (fx +ℤ pos k) fy) (cell_in old (x +ℤ pos k) y)
+    later k j e less =
+        ap (λ i. cell_in new (x +ℤ pos i) y) e
+        ∙ ap (λ z. cell_in new z y) (sym (further x m j))
+        ∙ more.inside j less
+        ∙ ap (λ z. laid (cell_in from z fy) (cell_in now (x +ℤ pos m +ℤ pos j) y)) (further fx m j)
+        ∙ ap (λ z. laid (cell_in from (fx +ℤ pos (m + j)) fy) (cell_in now z y)) (further x m j)
+        ∙ ap (laid (cell_in from (fx +ℤ pos (m + j)) fy)) (so_far.beside (x +ℤ pos (m + j)) y (behind_run x y m j))
+        ∙ ap (λ i. laid (cell_in from (fx +ℤ pos i) fy) (cell_in old (x +ℤ pos i) y)) (sym e)
+
+-- the same run, by other names
+pub run_at : (from : Spans) (fx fy gx gy : ℤ) (now new : Spans) (x y z w : ℤ) (n : ℕ) → fx ≡ gx → fy ≡ gy → x ≡ z → y ≡ w → IsLaidRun (λ k. cell_in from (fx +ℤ pos k) fy) now new x y n → IsLaidRun (λ k. cell_in from (gx +ℤ pos k) gy) now new z w n
+run_at from fx fy gx gy now new x y z w n a b c d h =
+    subst (λ (v : ℤ). IsLaidRun (λ k. cell_in from (gx +ℤ pos k) gy) now new z v n) d
+    (subst (λ (v : ℤ). IsLaidRun (λ k. cell_in from (gx +ℤ pos k) gy) now new v y n) c
+    (subst (λ (v : ℤ). IsLaidRun (λ k. cell_in from (gx +ℤ pos k) v) now new x y n) b
+    (subst (λ (v : ℤ). IsLaidRun (λ k. cell_in from (v +ℤ pos k) fy) now new x y n) a h)))
+
+-- the number of a column that isn't before the first
+column_at : (x z : ℤ) → x ≤ℤ z → (k : ℕ) × (x +ℤ pos k ≡ z)
+column_at x z h = (unsigned_abs (z -ℤ x), sum_is (unsigned_abs (z -ℤ x)) (pos_abs (z -ℤ x) (omega (arith, ints))))
+  where
+    sum_is : (k : ℕ) → pos k ≡ z -ℤ x → x +ℤ pos k ≡ z
+    sum_is k e = omega (arith, ints)
+
+-- ---- a rectangle
+
+pub above_none : (cells : ℤ → ℤ → Option Cell) (old : Spans) (r : Rect) (end : ℤ) → end ≡ r.top +ℤ pos 0 → IsLaidAbove cells old old r end
+above_none cells old r end e = record {
+  inside = λ x y left right from to. absurd (omega (arith, ints));
+  beside = λ x y h. refl;
+}
+
+≤_same : (z : ℤ) → z ≤ℤ z
+≤_same z = omega (arith, ints)
+
+-- one row more
+pub above_more : (from : Spans) (dx dy fx fy : ℤ) (old now new : Spans) (r : Rect) (y : ℤ) (n : ℕ) → r.top ≤ℤ y → fx ≡ r.left -ℤ dx → fy ≡ y -ℤ dy → pos n ≡ r.right -ℤ r.left +ℤ pos 1 → IsLaidAbove (λ x z. cell_in from (x -ℤ dx) (z -ℤ dy)) old now r y → IsLaidRun (λ k. cell_in from (fx +ℤ pos k) fy) now new r.left y n → IsLaidAbove (λ x z. cell_in from (x -ℤ dx) (z -ℤ dy)) old new r (y +ℤ pos 1)
+above_more from dx dy fx fy old now new r y n low across down long so_far row = record {
+  inside = λ x w left right top bottom. by_lt_z w y
+      (λ above. row.beside x w (inl (λ e. apart w above e)) ∙ so_far.inside x w left right top above)
+      (λ here. in_row x w left right (same w here bottom) (column_at r.left x left));
+  beside = λ x w h. row.beside x w (row_side x w h) ∙ so_far.beside x w (above_side x w h);
+}
+  where
+    apart : (w : ℤ) → w <ℤ y → w ≡ y → ⊥
+    apart w h e = omega (arith, ints)
+
+    same : (w : ℤ) → y ≤ℤ w → w <ℤ (y +ℤ pos 1) → y ≡ w
+    same w h k = omega (arith, ints)
+
+    moved : (k : ℕ) → fx +ℤ pos k ≡ r.left +ℤ pos k -ℤ dx
+    moved k = omega (arith, ints)
+
+    at_column : (x : ℤ) (k : ℕ) → r.left +ℤ pos k ≡ x → x ≤ℤ r.right → cell_in new x y ≡ laid (cell_in from (x -ℤ dx) (y -ℤ dy)) (cell_in now x y)
+    at_column x k e right =
+        ap (λ z. cell_in new z y) (sym e)
+        ∙ row.inside k (omega (arith, ints))
+        ∙ ap (λ z. laid (cell_in from z fy) (cell_in now (r.left +ℤ pos k) y)) (moved k)
+        ∙ ap (λ z. laid (cell_in from (r.left +ℤ pos k -ℤ dx) z) (cell_in now (r.left +ℤ pos k) y)) down
+        ∙ ap (λ z. laid (cell_in from (z -ℤ dx) (y -ℤ dy)) (cell_in now z y)) e
+
+    in_row : (x w : ℤ) → r.left ≤ℤ x → x ≤ℤ r.right → y ≡ w → (k : ℕ) × (r.left +ℤ pos k ≡ x) → cell_in new x w ≡ laid (cell_in from (x -ℤ dx) (w -ℤ dy)) (cell_in old x w)
+    in_row x w left right e found =
+        ap (cell_in new x) (sym e)
+        ∙ at_column x found.0 found.1 right
+        ∙ ap (laid (cell_in from (x -ℤ dx) (y -ℤ dy))) (so_far.beside x y (inr (inr (inr (≤_same y)))))
+        ∙ ap (λ v. laid (cell_in from (x -ℤ dx) (v -ℤ dy)) (cell_in old x v)) e
+
+    row_side : (x w : ℤ) → (x <ℤ r.left) ⊎ (r.right <ℤ x) ⊎ (w <ℤ r.top) ⊎ ((y +ℤ pos 1) ≤ℤ w) → IsBeside r.left y n x w
+    row_side x w (inl h) = inr (inl h)
+    row_side x w (inr (inl h)) = inr (inr (omega (arith, ints)))
+    row_side x w (inr (inr (inl h))) = inl (λ e. omega (arith, ints))
+    row_side x w (inr (inr (inr h))) = inl (λ e. omega (arith, ints))
+
+    above_side : (x w : ℤ) → (x <ℤ r.left) ⊎ (r.right <ℤ x) ⊎ (w <ℤ r.top) ⊎ ((y +ℤ pos 1) ≤ℤ w) → (x <ℤ r.left) ⊎ (r.right <ℤ x) ⊎ (w <ℤ r.top) ⊎ (y ≤ℤ w)
+    above_side x w (inl h) = inl h
+    above_side x w (inr (inl h)) = inr (inl h)
+    above_side x w (inr (inr (inl h))) = inr (inr (inl h))
+    above_side x w (inr (inr (inr h))) = inr (inr (inr (omega (arith, ints))))
+
+-- a pixel outside a rectangle lies on one of its sides
+out_of : (r : Rect) (x y : ℤ) → rect_has r x y ≡ false → (x <ℤ r.left) ⊎ (r.right <ℤ x) ⊎ (y <ℤ r.top) ⊎ ((r.bottom +ℤ pos 1) ≤ℤ y)
+out_of r x y e =
+    by_lt_z x r.left inl (λ left. by_lt_z r.right x (λ h. inr (inl h)) (λ right. by_lt_z y r.top (λ h. inr (inr (inl h))) (λ top. by_lt_z r.bottom y (λ h. inr (inr (inr (omega (arith, ints))))) (λ bottom. absurd (true≢false (sym (has_from r x y record { left = left; right = right; top = top; bottom = bottom }) ∙ e))))))
+
+pub above_next : (cells : ℤ → ℤ → Option Cell) (old new : Spans) (r : Rect) (m : ℕ) → IsLaidAbove cells old new r (r.top +ℤ pos m +ℤ pos 1) → IsLaidAbove cells old new r (r.top +ℤ pos (m + 1))
+above_next cells old new r m h = subst (IsLaidAbove cells old new r) (sum_is r.top) h
+  where
+    sum_is : (z : ℤ) → z +ℤ pos m +ℤ pos 1 ≡ z +ℤ pos (m + 1)
+    sum_is z = omega (arith, ints)
+
+pub above_end : (cells : ℤ → ℤ → Option Cell) (old new : Spans) (r : Rect) (m : ℕ) → pos m ≡ r.bottom -ℤ r.top +ℤ pos 1 → IsLaidAbove cells old new r (r.top +ℤ pos m) → IsLaidAbove cells old new r (r.bottom +ℤ pos 1)
+above_end cells old new r m e h = subst (IsLaidAbove cells old new r) sum_is h
+  where
+    sum_is : r.top +ℤ pos m ≡ r.bottom +ℤ pos 1
+    sum_is = omega (arith, ints)
+
+-- a row of a rectangle of the region is in the region
+pub row_has : (rs : List Rect) (r : Rect) (x y : ℤ) (row width height k : ℕ) → ((x y : ℤ) → rect_has r x y ≡ true → region_has rs x y ≡ true) → x ≡ r.left → y ≡ r.top +ℤ pos row → row < height → pos height ≡ r.bottom -ℤ r.top +ℤ pos 1 → pos width ≡ r.right -ℤ r.left +ℤ pos 1 → k < width → region_has rs (x +ℤ pos k) y ≡ true
+row_has rs r x y row width height k inside across down less high wide few =
+    inside (x +ℤ pos k) y (has_from r (x +ℤ pos k) y record { left = omega (arith, ints); right = omega (arith, ints); top = omega (arith, ints); bottom = omega (arith, ints) })
+
+pub above_all : (cells : ℤ → ℤ → Option Cell) (old new : Spans) (r : Rect) (x y : ℤ) → IsLaidAbove cells old new r (r.bottom +ℤ pos 1) → cell_in new x y ≡ cond (rect_has r x y) (laid (cells x y) (cell_in old x y)) (cell_in old x y)
+above_all cells old new r x y h =
+    elim (either (rect_has r x y)) [
+      | inl e ↦ inside (in_from r x y e) ∙ sym (cond-true (rect_has r x y) (laid (cells x y) (cell_in old x y)) (cell_in old x y) e)
+      | inr e ↦ h.beside x y (out_of r x y e) ∙ sym (cond-false (rect_has r x y) (laid (cells x y) (cell_in old x y)) (cell_in old x y) e)
+    ]
+  where
+    inside : IsIn r x y → cell_in new x y ≡ laid (cells x y) (cell_in old x y)
+    inside i = let low = i.bottom in h.inside x y i.left i.right i.top (omega (arith, ints))
+
+-- ---- all rectangles
+
+has_more : (rs : List Rect) (m : ℕ) (r : Rect) (x y : ℤ) → slice_get rs m ≡ Some r → region_has (take (suc m) rs) x y ≡ (region_has (take m rs) x y || rect_has r x y)
+has_more [] m r x y e = absurd (none-some r e)
+has_more (q ∷ rs) zero r x y e = or_false (rect_has q x y) ∙ ap (λ s. rect_has s x y) (same_Some q r e)
+  where
+    or_false : (b : Bool) → (b || false) ≡ b
+    or_false true = refl
+    or_false false = refl
+has_more (q ∷ rs) (suc m) r x y e = ap (λ b. rect_has q x y || b) (has_more rs m r x y e) ∙ or_turned (rect_has q x y) (region_has (take m rs) x y) (rect_has r x y)
+  where
+    or_turned : (a b c : Bool) → (a || (b || c)) ≡ ((a || b) || c)
+    or_turned true b c = refl
+    or_turned false b c = refl
+
+step : (p q : Bool) (s d now new : Option Cell) → now ≡ cond p (laid s d) d → new ≡ cond q (laid s now) now → new ≡ cond (p || q) (laid s d) d
+step true true s d now new e f = f ∙ ap (laid s) e ∙ laid_twice s d
+step true false s d now new e f = f ∙ e
+step false true s d now new e f = f ∙ ap (laid s) e
+step false false s d now new e f = f ∙ e
+
+-- one rectangle more
+pub all_more : (cells : ℤ → ℤ → Option Cell) (old now new : Spans) (rs : List Rect) (m : ℕ) (r : Rect) → slice_get rs m ≡ Some r → ((x y : ℤ) → cell_in now x y ≡ cond (region_has (take m rs) x y) (laid (cells x y) (cell_in old x y)) (cell_in old x y)) → ((x y : ℤ) → cell_in new x y ≡ cond (rect_has r x y) (laid (cells x y) (cell_in now x y)) (cell_in now x y)) → (x y : ℤ) → cell_in new x y ≡ cond (region_has (take (m + 1) rs) x y) (laid (cells x y) (cell_in old x y)) (cell_in old x y)
+all_more cells old now new rs m r e so_far more x y =
+    step (region_has (take m rs) x y) (rect_has r x y) (cells x y) (cell_in old x y) (cell_in now x y) (cell_in new x y) (so_far x y) (more x y)
+    ∙ ap (λ b. cond b (laid (cells x y) (cell_in old x y)) (cell_in old x y)) (sym (rw add-one (has_more rs m r x y e)))
+
+pub all_laid : (cells : ℤ → ℤ → Option Cell) (old new : Spans) (m : ℕ) → length old.rects ≤ m → ((x y : ℤ) → cell_in new x y ≡ cond (region_has (take m old.rects) x y) (laid (cells x y) (cell_in old x y)) (cell_in old x y)) → (x y : ℤ) → cell_in new x y ≡ laid (cells x y) (cell_in old x y)
+all_laid cells old new m all h x y =
+    h x y
+    ∙ ap (λ l. cond (region_has l x y) (laid (cells x y) (cell_in old x y)) (cell_in old x y)) (take_all m old.rects all)
+    ∙ elim (either (region_has old.rects x y)) [
+      | inl e ↦ cond-true (region_has old.rects x y) (laid (cells x y) (cell_in old x y)) (cell_in old x y) e
+      | inr e ↦ cond-false (region_has old.rects x y) (laid (cells x y) (cell_in old x y)) (cell_in old x y) e ∙ cell_none old x y e ∙ sym (laid_outside (cells x y)) ∙ ap (laid (cells x y)) (sym (cell_none old x y e))
+    ]
+
+-- the rectangles of a region have its pixels
+pub rect_inside : (rs : List Rect) (m : ℕ) (r : Rect) (x y : ℤ) → slice_get rs m ≡ Some r → rect_has r x y ≡ true → region_has rs x y ≡ true
+rect_inside [] m r x y e h = absurd (none-some r e)
+rect_inside (q ∷ rs) zero r x y e h = or_left (rect_has q x y) (region_has rs x y) (ap (λ s. rect_has s x y) (same_Some q r e) ∙ h)
+rect_inside (q ∷ rs) (suc m) r x y e h = or_right (rect_has q x y) (region_has rs x y) (rect_inside rs m r x y e h)
