@@ -1,4 +1,4 @@
-ghost use Rattle.std.specs.Prelude.{◌≡◌, ◌&&◌, ℤ, false, IfOk, OnOk, IfErr, OnErr, if◌then◌else◌};
+ghost use Rattle.std.specs.Prelude.{◌≡◌, ℤ, IfOk, OnOk, IfErr, OnErr, if◌then◌else◌};
 ghost use Rattle.be_region.specs.Regions.{region_has, IsUnion};
 ghost use Rattle.be_span.specs.Spans.{cell_in};
 
@@ -18,9 +18,8 @@ pub enum AppendFault {
 impl SpanBuf {
     ghost use Rattle.be_span.specs.Faults.{HandsBack};
 
-    /// Adds the pixels of another buffer, which has none of these, with their cells.
+    /// Adds the pixels of another buffer with their cells. A pixel of both gets the other's cell.
     pub fn append(&mut self, other: SpanBuf) -> Result<(), AppendFault>
-        requires { (x y : ℤ) → (region_has self.old.rects x y && region_has other.rects x y) ≡ false }
         ensures region { OnOk result (IsUnion self.new.rects self.old.rects other.rects) }
         ensures cells { OnOk result ((x y : ℤ) → cell_in self.new x y
             ≡ (if region_has other.rects x y then cell_in other x y else cell_in self.old x y)) }

@@ -1,5 +1,5 @@
 -- The cells of each.
-use Rattle.std.proofs.Common.{◌≡◌, ap, ◌∙◌, cond, Some, None, ◌||◌}
+use Rattle.std.proofs.Common.{ap, ◌∙◌, cond, Some, None, ◌||◌}
 use Rattle.be_region.specs.Regions.{region_has}
 use Rattle.be_span.specs.Spans.{cell_in, black_cell}
 use Rattle.be_span.proofs.LaidLemmas.{joined_cell}

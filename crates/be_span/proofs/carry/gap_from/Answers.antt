@@ -1,5 +1,5 @@
 -- No pixel up to the end of the gap is in the region.
-use Rattle.std.proofs.Common.{ap, ◌∙◌, ℤ, rules, SFits, w32, subst, List}
+use Rattle.std.proofs.Common.{rules, SFits, w32, subst, List}
 use Rattle.std.proofs.lemmas.Int.{to_z-of_z}
 use Rattle.be_geom.specs.declared.rect.Rect.{Rect}
 use Rattle.be_region.specs.Regions.{region_has}

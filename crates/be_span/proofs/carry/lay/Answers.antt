@@ -1,5 +1,5 @@
 -- Rectangle by rectangle.
-use Rattle.std.proofs.Common.{ap, sym, ◌∙◌, refl, arith, length, ◌-ℤ◌}
+use Rattle.std.proofs.Common.{ap, sym, ◌∙◌, arith, length, ◌-ℤ◌}
 use Rattle.be_region.specs.Regions.{region_has}
 use Rattle.be_span.specs.Spans.{cell_in}
 use Rattle.be_span.proofs.LaidLemmas.{rect_inside, all_more, all_laid}

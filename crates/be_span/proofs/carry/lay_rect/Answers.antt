@@ -1,5 +1,5 @@
 -- Row by row.
-use Rattle.std.proofs.Common.{◌≡◌, arith, ap, ◌∙◌, refl, pos, ℤ, ◌+ℤ◌, ◌-ℤ◌}
+use Rattle.std.proofs.Common.{◌≡◌, arith, ap, ◌∙◌, refl, pos, ◌+ℤ◌, ◌-ℤ◌}
 use Rattle.std.proofs.lemmas.Int.{ints}
 use Rattle.be_region.specs.Regions.{region_has}
 use Rattle.be_span.specs.Spans.{cell_in}

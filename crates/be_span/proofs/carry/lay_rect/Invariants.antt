@@ -1,4 +1,4 @@
-use Rattle.std.proofs.Common.{◌≡◌, pos, ◌+ℤ◌, ◌-ℤ◌, ◌≤ℤ◌}
+use Rattle.std.proofs.Common.{◌≡◌, pos, ◌+ℤ◌, ◌-ℤ◌}
 use Rattle.be_span.specs.Laid.{IsLaidAbove}
 use Rattle.be_span.specs.Spans.{cell_in}
 use Rattle.be_span.proofs.carry.lay_rect.Given as goal

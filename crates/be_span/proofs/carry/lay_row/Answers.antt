@@ -1,8 +1,6 @@
 -- A row, from its left on.
-use Rattle.std.proofs.Common.{◌≡◌, arith, ap, sym, ◌∙◌, refl, rules, subst, pos, ℤ, ◌+ℤ◌, ◌+◌, true}
+use Rattle.std.proofs.Common.{arith, ap, ◌∙◌, refl, pos, ◌+ℤ◌, ◌+◌}
 use Rattle.be_region.specs.Regions.{region_has}
-use Rattle.be_span.specs.Laid.{IsLaidRun}
-use Rattle.be_span.specs.Spans.{cell_in}
 use Rattle.be_span.proofs.LaidLemmas.{run_none, run_at, run_more, further}
 use Rattle.be_span.proofs.carry.lay_row.Goals as goal
 

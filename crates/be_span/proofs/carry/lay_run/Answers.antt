@@ -1,5 +1,5 @@
 -- Cells over cells, or none.
-use Rattle.std.proofs.Common.{◌≡◌, arith, ap, sym, subst, ◌∙◌, refl, length, take, pos, ◌+ℤ◌, slice_get, ◌<◌, rules, SFits, w32}
+use Rattle.std.proofs.Common.{◌≡◌, arith, sym, subst, ◌∙◌, refl, length, take, pos, ◌+ℤ◌, rules, SFits, w32}
 use Rattle.std.proofs.lemmas.Int.{to_z-of_z}
 use Rattle.std.proofs.lemmas.List.{length-take}
 use Rattle.be_span.specs.Runs.{IsBeside}
