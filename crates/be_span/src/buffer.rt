@@ -110,7 +110,8 @@ impl SpanBuf {
         ensures inside { result ≡ region_has self.old.rects x y }
         ensures region { self.new.rects ≡ self.old.rects }
         ensures cell { result ≡ true → cell_in self.new x y ≡ Some cell }
-        ensures others { (z w : ℤ) → IsBeside x y 1 z w → cell_in self.new z w ≡ cell_in self.old z w }
+        ensures others { (z w : ℤ) → IsBeside x y 1 z w
+            → cell_in self.new z w ≡ cell_in self.old z w }
         ensures refused { result ≡ false → self.new ≡ self.old }
     {
         if !self.region.contains(x, y) {
@@ -141,7 +142,8 @@ impl SpanBuf {
         requires { HasRun self.old.rects x y count }
         ensures region { self.new.rects ≡ self.old.rects }
         ensures painted { (k : ℕ) → k < count → cell_in self.new (x +ℤ pos k) y
-            ≡ option_map (painted brush (source_at brush source k)) (cell_in self.old (x +ℤ pos k) y) }
+            ≡ option_map (painted brush (source_at brush source k))
+            (cell_in self.old (x +ℤ pos k) y) }
         ensures others { (z w : ℤ) → IsBeside x y count z w
             → cell_in self.new z w ≡ cell_in self.old z w }
         ensures marks { count_by (λ c. c.dirty) self.new.cells

@@ -25,7 +25,8 @@ pub fn paint_cells(cells: &mut [Cell], brush: Brush, source: Source)
 /// Paints each cell by its bit of the byte. The first cell is in this column of the window.
 fn paint_byte(cells: &mut [Cell], brush: Brush, byte: u8, column: i32)
     ensures { (k : ℕ) → slice_get cells.new k
-        ≡ option_map (painted brush (source_at brush (Bits byte column) k)) (slice_get cells.old k) }
+        ≡ option_map (painted brush (source_at brush (Bits byte column) k))
+        (slice_get cells.old k) }
 {
     let Brush { mode, high, low } = brush;
     if byte == 0xff {
@@ -63,7 +64,8 @@ fn paint_one(cells: &mut [Cell], brush: Brush, source: Color)
 /// The same in a mode. Each caller has a loop of its own, for its mode.
 #[inline(always)]
 fn paint_each(cells: &mut [Cell], mode: Mode, source: Rgb, high: Color, low: Color)
-    ensures { cells.new ≡ map (painted record { mode = mode; high = high; low = low } (Solid source)) cells.old }
+    ensures { cells.new
+        ≡ map (painted record { mode = mode; high = high; low = low } (Solid source)) cells.old }
 {
     for cell in cells.iter_mut() {
         cell.rgb = blend(mode, Color::Solid(source), cell.rgb, high, low);
