@@ -1,10 +1,10 @@
 -- Bands that are made from the top down.
-use Rattle.std.proofs.Common.{◌≡◌, ℕ, ◌+◌, ◌<◌, ◌≤◌, ℤ, pos, ◌+ℤ◌, ◌-ℤ◌, ◌≤ℤ◌, ◌<ℤ◌, ◌⊎◌, inl, inr, Bool, true, false, not, ◌||◌, ◌&&◌, List, [], ◌∷◌, ◌++◌, length, get_or, take, All, arith, refl, sym, ap, ◌∙◌}
+use Rattle.std.proofs.Common.{◌≡◌, ℕ, ◌+◌, ◌<◌, ◌≤◌, ℤ, pos, ◌+ℤ◌, ◌-ℤ◌, ◌≤ℤ◌, ◌<ℤ◌, ◌⊎◌, inl, inr, Bool, true, false, not, ◌||◌, ◌&&◌, List, [], ◌∷◌, ◌++◌, length, get_or, take, drop, All, arith, refl, sym, ap, ◌∙◌}
 use Rattle.std.specs.Prelude.{◌==◌}
 use Rattle.std.specs.List.{AllPairs}
 use Rattle.std.proofs.lemmas.Int.{ints, by_lt_z}
 use Rattle.std.proofs.lemmas.Bool.{or_from, or_left}
-use Rattle.std.proofs.lemmas.List.{append_assoc, map_more, take_all}
+use Rattle.std.proofs.lemmas.List.{append_assoc, drop_all, drop-append-le, length-append, map_more, take_all, take-append-drop, take-append-le}
 use Rattle.std.proofs.lemmas.List.Elements.{All-nil, All-head, All-tail, All-cons, All-append, All-map, All-weaker}
 use Rattle.be_geom.specs.declared.rect.Rect.{Rect}
 use Rattle.be_geom.specs.Points.{between}
@@ -14,7 +14,7 @@ use Rattle.be_region.specs.declared.bands.Bands.{Bands}
 use Rattle.be_region.specs.Regions.{region_has, IsNotEmpty}
 use Rattle.be_region.specs.Bands.{IsBefore, RowsDiffer, AreBands}
 use Rattle.be_region.specs.Rows.{AreAbove}
-use Rattle.be_region.specs.Spans.{spans_have, AreSpans, AreWithin, AreOpenBands, rect_of, rects_of, bands_of}
+use Rattle.be_region.specs.Spans.{spans_have, AreSpans, AreWithin, AreOpenBands, rect_of, rects_of, done_of, bands_of}
 use Rattle.be_region.proofs.CountLemmas.{has-append}
 use Rattle.be_region.proofs.DifferLemmas.{spans_differ}
 use Rattle.be_region.proofs.LineLemmas.{not_between_left, not_between_right, is_between}
@@ -92,7 +92,7 @@ top_before r top full h = let down = full.down in omega (arith, ints)
 
 pub all_bands : (b : Bands) → AreOpenBands b → AreBands (bands_of b)
 all_bands b h =
-    let rs = b.rects.items in
+    let rs = done_of b in
     let last = rects_of b.spans.items b.top b.bottom in
     record {
       none_empty = All-append IsNotEmpty rs last h.done.none_empty (rects_full b.spans.items b.top b.bottom h.apart h.down);
@@ -100,14 +100,15 @@ all_bands b h =
       merged = All-append (λ r. RowsDiffer (rs ++ last) (r.top -ℤ pos 1) r.top) rs last (λ k d m. differ_above rs b.spans.items b.top b.bottom (get_or rs k d) (h.done.merged k d m) (top_before (get_or rs k d) b.top (h.done.none_empty k d m) (h.above k d m))) (All-map (λ r. RowsDiffer (rs ++ last) (r.top -ℤ pos 1) r.top) (rect_of b.top b.bottom) b.spans.items (λ k d m. differ_in rs b.spans.items b.top b.bottom h.above h.down (h.differs k d m)));
     }
 
-pub open_first : (b : Bands) → b.rects.items ≡ [] → b.spans.items ≡ [] → b.top ≤ℤ b.bottom → AreOpenBands b
-open_first b e f down = record {
-  done = none_bands b.rects.items e;
+pub open_first : (b : Bands) → b.kept ≤ length b.rects.items → done_of b ≡ [] → b.spans.items ≡ [] → b.top ≤ℤ b.bottom → AreOpenBands b
+open_first b kept e f down = record {
+  kept = kept;
+  done = none_bands (done_of b) e;
   above = rw e (All-nil (λ (r : Rect). r.bottom <ℤ b.top));
   down = down;
   apart = rw f (pos 0, (pos 1, omega (arith, ints)));
   first = λ k. e;
-  differs = rw f (All-nil (λ (s : Span). (x : ℤ) × (region_has b.rects.items x (b.top -ℤ pos 1) ≡ not (spans_have [] x))));
+  differs = rw f (All-nil (λ (s : Span). (x : ℤ) × (region_has (done_of b) x (b.top -ℤ pos 1) ≡ not (spans_have [] x))));
 }
 
 -- one more span is a rectangle
@@ -126,6 +127,7 @@ no_span = record { left = pos 0; right = pos 0 }
 
 pub grown_open : (b : Bands) (bottom : ℤ) → AreOpenBands b → b.top ≤ℤ bottom → AreOpenBands (record b { bottom = bottom })
 grown_open b bottom h k = record {
+  kept = h.kept;
   done = h.done;
   above = h.above;
   down = k;
@@ -191,17 +193,18 @@ bottom_of rs (s ∷ spans) top bottom next h k = last_of rs (rect_of top bottom 
 pub new_differs : (b : Bands) (spans : List Span) (top : ℤ) → AreOpenBands b → AreAbove top (bands_of b) → AreSpans spans → (b.spans.items ≡ spans → (b.bottom +ℤ pos 1) ≡ top → ⊥) → 0 < length spans → (x : ℤ) × (region_has (bands_of b) x (top -ℤ pos 1) ≡ not (spans_have spans x))
 new_differs b spans top h above apart other some =
     let P : Type 0 = (x : ℤ) × (region_has (bands_of b) x (top -ℤ pos 1) ≡ not (spans_have spans x)) in
-    elim (some_or_none b.spans.items) [ inl none ↦ after_gap (bands_of b) spans (top -ℤ pos 1) apart some (λ x. rw (h.first none, none) refl) | inr there ↦ let before = bottom_of b.rects.items b.spans.items b.top b.bottom top above there in let down = h.down in by_lt_z {P = P} (b.bottom +ℤ pos 1) top (λ k. after_gap (bands_of b) spans (top -ℤ pos 1) apart some (λ x. row_below b.rects.items b.spans.items b.top b.bottom x (top -ℤ pos 1) h.above h.down (omega (arith, ints)))) (λ k. let at : (b.bottom +ℤ pos 1) ≡ top = omega (arith, ints) in let found = spans_differ b.spans.items spans h.apart apart (λ e. other e at) in (found.0, row_in b.rects.items b.spans.items b.top b.bottom found.0 (top -ℤ pos 1) h.above (omega (arith, ints)) (omega (arith, ints)) ∙ found.1)) ]
+    elim (some_or_none b.spans.items) [ inl none ↦ after_gap (bands_of b) spans (top -ℤ pos 1) apart some (λ x. rw (h.first none, none) refl) | inr there ↦ let before = bottom_of (done_of b) b.spans.items b.top b.bottom top above there in let down = h.down in by_lt_z {P = P} (b.bottom +ℤ pos 1) top (λ k. after_gap (bands_of b) spans (top -ℤ pos 1) apart some (λ x. row_below (done_of b) b.spans.items b.top b.bottom x (top -ℤ pos 1) h.above h.down (omega (arith, ints)))) (λ k. let at : (b.bottom +ℤ pos 1) ≡ top = omega (arith, ints) in let found = spans_differ b.spans.items spans h.apart apart (λ e. other e at) in (found.0, row_in (done_of b) b.spans.items b.top b.bottom found.0 (top -ℤ pos 1) h.above (omega (arith, ints)) (omega (arith, ints)) ∙ found.1)) ]
 
 no_spans : (spans : List Span) → 0 < length spans → spans ≡ [] → ⊥
 no_spans [] h e = absurd (omega arith)
 no_spans (s ∷ spans) h e = cc
 
 -- the last band is done, and another is the last
-pub next_open : (b n : Bands) → AreOpenBands b → AreAbove n.top (bands_of b) → AreSpans n.spans.items → (b.spans.items ≡ n.spans.items → (b.bottom +ℤ pos 1) ≡ n.top → ⊥) → 0 < length n.spans.items → n.rects.items ≡ bands_of b → n.top ≤ℤ n.bottom → AreOpenBands n
-next_open b n h above apart other some e down =
+pub next_open : (b n : Bands) → AreOpenBands b → AreAbove n.top (bands_of b) → AreSpans n.spans.items → (b.spans.items ≡ n.spans.items → (b.bottom +ℤ pos 1) ≡ n.top → ⊥) → 0 < length n.spans.items → n.kept ≤ length n.rects.items → done_of n ≡ bands_of b → n.top ≤ℤ n.bottom → AreOpenBands n
+next_open b n h above apart other some kept e down =
     let found = new_differs b n.spans.items n.top h above apart other some in
     record {
+      kept = kept;
       done = rw e (all_bands b h);
       above = rw e above;
       down = down;
@@ -213,3 +216,26 @@ next_open b n h above apart other some e down =
 pub some_spans : (spans : List Span) (n : ℕ) → n ≡ length spans → false ≡ (n == 0) → 0 < length spans
 some_spans [] n e h = cc
 some_spans (s ∷ spans) n e h = omega arith
+
+-- ---- the rectangles that stay
+
+pub kept_pushed : (kept : ℕ) (rs more new : List Rect) → kept ≤ length rs → new ≡ rs ++ more → take kept new ≡ take kept rs
+kept_pushed kept rs more new h e = rw e (take-append-le kept rs more h)
+
+pub done_pushed : (kept : ℕ) (rs more new : List Rect) → kept ≤ length rs → new ≡ rs ++ more → drop kept new ≡ drop kept rs ++ more
+done_pushed kept rs more new h e = rw e (drop-append-le kept rs more h)
+
+pub long_pushed : (kept : ℕ) (rs more new : List Rect) → kept ≤ length rs → new ≡ rs ++ more → kept ≤ length new
+long_pushed kept rs more new h e = rw e (omega (arith, length-append rs more))
+
+pub all_pushed_behind : (kept : ℕ) (rs more new : List Rect) → new ≡ rs ++ more → new ≡ take kept rs ++ (drop kept rs ++ more)
+all_pushed_behind kept rs more new e =
+    e ∙ ap (λ (xs : List Rect). xs ++ more) (sym (take-append-drop kept rs)) ∙ append_assoc (take kept rs) (drop kept rs) more
+
+pub first_stays : (first kept made : List Rect) → kept ≡ first → take (length first) (kept ++ made) ≡ first
+first_stays first kept made e =
+    rw e (take-append-le (length first) first made (omega arith) ∙ take_all (length first) first (omega arith))
+
+pub made_behind : (first kept made : List Rect) → kept ≡ first → drop (length first) (kept ++ made) ≡ made
+made_behind first kept made e =
+    rw (e, drop-append-le (length first) first made (omega arith), drop_all (length first) first (omega arith)) refl

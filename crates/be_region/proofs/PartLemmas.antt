@@ -5,7 +5,7 @@ use Rattle.std.specs.List.{AllPairs, AllWithin}
 use Rattle.std.specs.List.Sorted.{IsPartitionedBy}
 use Rattle.std.proofs.lemmas.Int.{ints}
 use Rattle.std.proofs.lemmas.Bool.{cases_order}
-use Rattle.std.proofs.lemmas.List.{take-append-drop, length-take, length-drop, get_or-take, get_or-drop}
+use Rattle.std.proofs.lemmas.List.{append_assoc, take-append-drop, length-take, length-drop, get_or-take, get_or-drop}
 use Rattle.std.proofs.lemmas.List.Elements.{All-nil, All-head, All-tail, All-cons, All-weaker, All-take}
 use Rattle.be_geom.specs.declared.rect.Rect.{Rect}
 use Rattle.be_region.specs.Regions.{region_has, IsNotEmpty}
@@ -128,3 +128,10 @@ middle_full rs above middle below first last h full =
 pub middle_order : (rs above middle below : List Rect) (first last : ℤ) → IsCut rs first last above middle below → AllPairs IsBefore rs → AllPairs IsBefore middle
 middle_order rs above middle below first last h order =
     pairs_left IsBefore middle below (pairs_right IsBefore above (middle ++ below) (rw h.whole at order))
+
+-- ---- the bands above, those that are made and those below
+
+pub three_parts : (above first made below all : List Rect) → first ≡ above → take (length first) made ≡ first → all ≡ made ++ below → all ≡ above ++ (drop (length first) made ++ below)
+three_parts above first made below all e f g =
+    let n = length first in
+    g ∙ ap (λ (rs : List Rect). rs ++ below) (sym (take-append-drop n made)) ∙ ap (λ (rs : List Rect). (rs ++ drop n made) ++ below) (f ∙ e) ∙ append_assoc above (drop n made) below

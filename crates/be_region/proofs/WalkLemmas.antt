@@ -10,7 +10,7 @@ use Rattle.be_region.specs.declared.span.Span.{Span}
 use Rattle.be_region.specs.Regions.{region_has}
 use Rattle.be_region.specs.Rules.{keeps}
 use Rattle.be_region.specs.Rows.{line_has, AreFrom, AreAbove}
-use Rattle.be_region.specs.Spans.{spans_have, AreOpenBands, bands_of}
+use Rattle.be_region.specs.Spans.{spans_have, AreOpenBands, kept_of, bands_of}
 use Rattle.be_region.proofs.LineLemmas.{not_between_left, is_between}
 use Rattle.be_region.proofs.MergeLemmas.{keeps_none}
 use Rattle.be_region.proofs.RowLemmas.{none_above}
@@ -21,12 +21,13 @@ pub record IsRest (all rest : List Rect) (y : ℤ) : Type 0 where
   pub from : AreFrom y rest
 
 -- the rows before y are made
-pub record AreRowsMade (rule : Rule) (one other : List Rect) (bands : Bands) (a b : List Rect) (y : ℤ) : Type 0 where
+pub record AreRowsMade (rule : Rule) (kept one other : List Rect) (bands : Bands) (a b : List Rect) (y : ℤ) : Type 0 where
   pub made : (x z : ℤ) → z <ℤ y → region_has (bands_of bands) x z ≡ keeps rule (region_has one x z) (region_has other x z)
   pub one_rest : IsRest one a y
   pub other_rest : IsRest other b y
   pub above : AreAbove y (bands_of bands)
   pub is_open : AreOpenBands bands
+  pub stays : kept_of bands ≡ kept
   pub low : negsuc 32767 ≤ℤ y
   pub high : y ≤ℤ pos 32768
 
@@ -51,13 +52,14 @@ rest_first all first y h from = record {
   from = λ k d m. let ends = from k d m in omega (arith, ints);
 }
 
-pub rows_first : (rule : Rule) (one other : List Rect) (bands : Bands) (y e f : ℤ) → y ≡ int_min e f → AreFrom e one → AreFrom f other → ((x z : ℤ) → z <ℤ e → region_has one x z ≡ false) → ((x z : ℤ) → z <ℤ f → region_has other x z ≡ false) → bands_of bands ≡ [] → AreOpenBands bands → negsuc 32767 ≤ℤ e → negsuc 32767 ≤ℤ f → e ≤ℤ pos 32768 → AreRowsMade rule one other bands one other y
-rows_first rule one other bands y e f m he hf ne nf none is_open low low' high = record {
+pub rows_first : (rule : Rule) (kept one other : List Rect) (bands : Bands) (y e f : ℤ) → y ≡ int_min e f → AreFrom e one → AreFrom f other → ((x z : ℤ) → z <ℤ e → region_has one x z ≡ false) → ((x z : ℤ) → z <ℤ f → region_has other x z ≡ false) → bands_of bands ≡ [] → AreOpenBands bands → kept_of bands ≡ kept → negsuc 32767 ≤ℤ e → negsuc 32767 ≤ℤ f → e ≤ℤ pos 32768 → AreRowsMade rule kept one other bands one other y
+rows_first rule kept one other bands y e f m he hf ne nf none is_open stays low low' high = record {
   made = λ x z k. rw (none, ne x z (omega (arith, ints, clamps)), nf x z (omega (arith, ints, clamps))) (sym (keeps_none rule));
   one_rest = rest_first one e y (omega (arith, ints, clamps)) he;
   other_rest = rest_first other f y (omega (arith, ints, clamps)) hf;
   above = rw none (λ k d h. absurd (omega arith));
   is_open = is_open;
+  stays = stays;
   low = omega (arith, ints, clamps);
   high = omega (arith, ints, clamps);
 }
@@ -86,23 +88,24 @@ or_none : (a : Bool) → (a || false) ≡ a
 or_none true = refl
 or_none false = refl
 
-pub made_more : (rule : Rule) (one other : List Rect) (bands new : Bands) (a b : List Rect) (y bottom : ℤ) (spans : List Span) (line line' : List Rect) → AreRowsMade rule one other bands a b y → ((x z : ℤ) → region_has (bands_of new) x z ≡ (region_has (bands_of bands) x z || (between y z bottom && spans_have spans x))) → ((x : ℤ) → spans_have spans x ≡ keeps rule (line_has line x) (line_has line' x)) → ((x z : ℤ) → y ≤ℤ z → z ≤ℤ bottom → region_has one x z ≡ line_has line x) → ((x z : ℤ) → y ≤ℤ z → z ≤ℤ bottom → region_has other x z ≡ line_has line' x) → (x z : ℤ) → z <ℤ (bottom +ℤ pos 1) → region_has (bands_of new) x z ≡ keeps rule (region_has one x z) (region_has other x z)
-made_more rule one other bands new a b y bottom spans line line' h pixels columns p q x z k =
+pub made_more : (rule : Rule) (kept one other : List Rect) (bands new : Bands) (a b : List Rect) (y bottom : ℤ) (spans : List Span) (line line' : List Rect) → AreRowsMade rule kept one other bands a b y → ((x z : ℤ) → region_has (bands_of new) x z ≡ (region_has (bands_of bands) x z || (between y z bottom && spans_have spans x))) → ((x : ℤ) → spans_have spans x ≡ keeps rule (line_has line x) (line_has line' x)) → ((x z : ℤ) → y ≤ℤ z → z ≤ℤ bottom → region_has one x z ≡ line_has line x) → ((x z : ℤ) → y ≤ℤ z → z ≤ℤ bottom → region_has other x z ≡ line_has line' x) → (x z : ℤ) → z <ℤ (bottom +ℤ pos 1) → region_has (bands_of new) x z ≡ keeps rule (region_has one x z) (region_has other x z)
+made_more rule kept one other bands new a b y bottom spans line line' h pixels columns p q x z k =
     pixels x z ∙ by_lt_z {P = (region_has (bands_of bands) x z || (between y z bottom && spans_have spans x)) ≡ keeps rule (region_has one x z) (region_has other x z)} z y (λ m. rw (not_between_left y z bottom m) (or_none (region_has (bands_of bands) x z) ∙ h.made x z m)) (λ m. rw (none_above y (bands_of bands) h.above x z m, is_between y z bottom m (omega (arith, ints)), columns x, p x z m (omega (arith, ints)), q x z m (omega (arith, ints))) refl)
 
-pub rows_next : (rule : Rule) (one other : List Rect) (bands new : Bands) (a b a' b' : List Rect) (y bottom : ℤ) (spans : List Span) (line line' : List Rect) → AreRowsMade rule one other bands a b y → y ≤ℤ bottom → bottom ≤ℤ pos 32767 → ((x z : ℤ) → y ≤ℤ z → z ≤ℤ bottom → region_has a x z ≡ region_has a x y) → ((x z : ℤ) → y ≤ℤ z → z ≤ℤ bottom → region_has b x z ≡ region_has b x y) → ((x : ℤ) → line_has line x ≡ region_has a x y) → ((x : ℤ) → line_has line' x ≡ region_has b x y) → ((x : ℤ) → spans_have spans x ≡ keeps rule (line_has line x) (line_has line' x)) → AreOpenBands new → AreAbove (bottom +ℤ pos 1) (bands_of new) → ((x z : ℤ) → region_has (bands_of new) x z ≡ (region_has (bands_of bands) x z || (between y z bottom && spans_have spans x))) → AreFrom (bottom +ℤ pos 1) a' → AreFrom (bottom +ℤ pos 1) b' → ((x z : ℤ) → bottom <ℤ z → region_has a' x z ≡ region_has a x z) → ((x z : ℤ) → bottom <ℤ z → region_has b' x z ≡ region_has b x z) → AreRowsMade rule one other new a' b' (bottom +ℤ pos 1)
-rows_next rule one other bands new a b a' b' y bottom spans line line' h down low sa sb la lb columns is_open above pixels fa fb na nb = record {
-  made = made_more rule one other bands new a b y bottom spans line line' h pixels columns (rest_rows one a line y bottom bottom h.one_rest down (omega (arith, ints)) la sa) (rest_rows other b line' y bottom bottom h.other_rest down (omega (arith, ints)) lb sb);
+pub rows_next : (rule : Rule) (kept one other : List Rect) (bands new : Bands) (a b a' b' : List Rect) (y bottom : ℤ) (spans : List Span) (line line' : List Rect) → AreRowsMade rule kept one other bands a b y → y ≤ℤ bottom → bottom ≤ℤ pos 32767 → ((x z : ℤ) → y ≤ℤ z → z ≤ℤ bottom → region_has a x z ≡ region_has a x y) → ((x z : ℤ) → y ≤ℤ z → z ≤ℤ bottom → region_has b x z ≡ region_has b x y) → ((x : ℤ) → line_has line x ≡ region_has a x y) → ((x : ℤ) → line_has line' x ≡ region_has b x y) → ((x : ℤ) → spans_have spans x ≡ keeps rule (line_has line x) (line_has line' x)) → AreOpenBands new → kept_of new ≡ kept_of bands → AreAbove (bottom +ℤ pos 1) (bands_of new) → ((x z : ℤ) → region_has (bands_of new) x z ≡ (region_has (bands_of bands) x z || (between y z bottom && spans_have spans x))) → AreFrom (bottom +ℤ pos 1) a' → AreFrom (bottom +ℤ pos 1) b' → ((x z : ℤ) → bottom <ℤ z → region_has a' x z ≡ region_has a x z) → ((x z : ℤ) → bottom <ℤ z → region_has b' x z ≡ region_has b x z) → AreRowsMade rule kept one other new a' b' (bottom +ℤ pos 1)
+rows_next rule kept one other bands new a b a' b' y bottom spans line line' h down low sa sb la lb columns is_open stays above pixels fa fb na nb = record {
+  made = made_more rule kept one other bands new a b y bottom spans line line' h pixels columns (rest_rows one a line y bottom bottom h.one_rest down (omega (arith, ints)) la sa) (rest_rows other b line' y bottom bottom h.other_rest down (omega (arith, ints)) lb sb);
   one_rest = rest_next one a a' y bottom h.one_rest down fa na;
   other_rest = rest_next other b b' y bottom h.other_rest down fb nb;
   above = above;
   is_open = is_open;
+  stays = stays ∙ h.stays;
   low = let l = h.low in omega (arith, ints);
   high = omega (arith, ints);
 }
 
 -- ---- the end
 
-pub all_made : (rule : Rule) (one other : List Rect) (bands : Bands) (a b : List Rect) (y : ℤ) → AreRowsMade rule one other bands a b y → a ≡ [] → b ≡ [] → (x z : ℤ) → region_has (bands_of bands) x z ≡ keeps rule (region_has one x z) (region_has other x z)
-all_made rule one other bands a b y h p q x z =
+pub all_made : (rule : Rule) (kept one other : List Rect) (bands : Bands) (a b : List Rect) (y : ℤ) → AreRowsMade rule kept one other bands a b y → a ≡ [] → b ≡ [] → (x z : ℤ) → region_has (bands_of bands) x z ≡ keeps rule (region_has one x z) (region_has other x z)
+all_made rule kept one other bands a b y h p q x z =
     by_lt_z {P = region_has (bands_of bands) x z ≡ keeps rule (region_has one x z) (region_has other x z)} z y (λ m. h.made x z m) (λ m. none_above y (bands_of bands) h.above x z m ∙ sym (rw (h.one_rest.same x z m, h.other_rest.same x z m, p, q) (keeps_none rule)))

@@ -1,5 +1,5 @@
 -- The spans of a band that is being made (this project's own).
-use Rattle.std.specs.Prelude.{◌≡◌, ℤ, pos, ◌+ℤ◌, ◌-ℤ◌, ◌≤ℤ◌, ◌<ℤ◌, Bool, not, List, [], ◌∷◌, ◌++◌, map, All}
+use Rattle.std.specs.Prelude.{◌≡◌, ℤ, pos, ◌+ℤ◌, ◌-ℤ◌, ◌≤◌, ◌≤ℤ◌, ◌<ℤ◌, Bool, not, List, [], ◌∷◌, ◌++◌, length, take, drop, map, All}
 use Rattle.std.specs.List.{list_any}
 use Rattle.be_geom.specs.declared.rect.Rect.{Rect}
 use Rattle.be_geom.specs.Points.{between}
@@ -36,15 +36,24 @@ rect_of top bottom s = record { left = s.left; top = top; right = s.right; botto
 abbrev pub rects_of : List Span → ℤ → ℤ → List Rect
 rects_of spans top bottom = map (rect_of top bottom) spans
 
+-- the rectangles that stay
+abbrev pub kept_of : Bands → List Rect
+kept_of b = take b.kept b.rects.items
+
+-- the rectangles of the bands that are done
+abbrev pub done_of : Bands → List Rect
+done_of b = drop b.kept b.rects.items
+
 -- the rectangles of all bands, the last among them
 abbrev pub bands_of : Bands → List Rect
-bands_of b = b.rects.items ++ rects_of b.spans.items b.top b.bottom
+bands_of b = done_of b ++ rects_of b.spans.items b.top b.bottom
 
 -- the bands that are done, and the last one, which may still grow
 pub record AreOpenBands (b : Bands) : Type 0 where
-  pub done : AreBands b.rects.items
-  pub above : AreAbove b.top b.rects.items
+  pub kept : b.kept ≤ length b.rects.items
+  pub done : AreBands (done_of b)
+  pub above : AreAbove b.top (done_of b)
   pub down : b.top ≤ℤ b.bottom
   pub apart : AreSpans b.spans.items
-  pub first : b.spans.items ≡ [] → b.rects.items ≡ []
-  pub differs : All (λ s. (x : ℤ) × (region_has b.rects.items x (b.top -ℤ pos 1) ≡ not (spans_have b.spans.items x))) b.spans.items
+  pub first : b.spans.items ≡ [] → done_of b ≡ []
+  pub differs : All (λ s. (x : ℤ) × (region_has (done_of b) x (b.top -ℤ pos 1) ≡ not (spans_have b.spans.items x))) b.spans.items

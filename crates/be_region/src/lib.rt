@@ -11,10 +11,10 @@
 //! strip costs a few steps for each span of the two bands there, or of the result alone where one
 //! of them has all columns of the other in one span. So a band of n spans that has its rows in
 //! common with m bands of the other region, which cover it in part, costs n times m steps, also
-//! where the result has few rectangles. Each takes as much memory as the result, the walked part of
-//! it once more, and two lines of spans. `contains` and `run_at` find their band by bisection, and
-//! `count` and `rect_at` take a constant number of steps. Every other call takes a few steps for
-//! each rectangle.
+//! where the result has few rectangles. Each takes the memory of the result, which has room for at
+//! most 16 rectangles more or for twice its own, and two lines of spans, which allocate nothing up
+//! to 8 spans. `contains` and `run_at` find their band by bisection, and `count` and `rect_at` take
+//! a constant number of steps. Every other call takes a few steps for each rectangle.
 #![tactic(auto)]
 
 mod bands;

@@ -5,12 +5,12 @@ ghost use Rattle.be_region.specs.Spans.{spans_have, AreSpans};
 
 use crate::merge::{intersect, subtract, unite};
 use crate::rule::Rule;
-use crate::span::Span;
+use crate::span::{Span, Spans};
 use be_geom::{NoMemory, Rect};
 
 /// The spans of the columns that are kept of two lines, in place of those that were there.
 pub(crate) fn keep_columns(
-    spans: &mut Vec<Span>,
+    spans: &mut Spans,
     one: &[Rect],
     other: &[Rect],
     rule: Rule,
@@ -69,7 +69,7 @@ fn covers(whole: &[Rect], line: &[Rect]) -> bool
 }
 
 /// The spans of a line, in place of those that were there.
-fn copy_line(spans: &mut Vec<Span>, line: &[Rect]) -> Result<(), NoMemory>
+fn copy_line(spans: &mut Spans, line: &[Rect]) -> Result<(), NoMemory>
     requires { IsLine line.now }
     ensures apart { OnOk result (AreSpans spans.new.items) }
     ensures columns { OnOk result ((x : ℤ) → spans_have spans.new.items x ≡ line_has line.now x) }

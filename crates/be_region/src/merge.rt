@@ -4,7 +4,7 @@ ghost use Rattle.be_geom.specs.Points.{between};
 ghost use Rattle.be_region.specs.Rows.{line_has, IsLine, edge_of};
 ghost use Rattle.be_region.specs.Spans.{spans_have, span_of, AreSpans, AreWithin};
 
-use crate::span::Span;
+use crate::span::{Span, Spans};
 use be_geom::{NoMemory, Rect};
 
 /// What stands for the first column of a line without columns.
@@ -20,7 +20,7 @@ struct First<'a> {
 }
 
 /// The spans of the columns of either line, in place of those that were there.
-pub(crate) fn unite(spans: &mut Vec<Span>, one: &[Rect], other: &[Rect]) -> Result<(), NoMemory>
+pub(crate) fn unite(spans: &mut Spans, one: &[Rect], other: &[Rect]) -> Result<(), NoMemory>
     requires one { IsLine one.now }
     requires other { IsLine other.now }
     ensures apart { OnOk result (AreSpans spans.new.items) }
@@ -100,7 +100,7 @@ fn span_of(rect: Rect) -> Span
 
 /// The last span with one that doesn't begin left of it; where they don't touch, the first is done.
 #[inline(always)]
-fn grown(spans: &mut Vec<Span>, last: Span, more: Span) -> Result<Span, NoMemory>
+fn grown(spans: &mut Spans, last: Span, more: Span) -> Result<Span, NoMemory>
     requires order { last.left ≤ℤ more.left }
     requires last_full { last.left ≤ℤ last.right }
     requires full { more.left ≤ℤ more.right }
@@ -134,7 +134,7 @@ struct Meeting<'a> {
 }
 
 /// The spans of the columns of both lines, in place of those that were there.
-pub(crate) fn intersect(spans: &mut Vec<Span>, one: &[Rect], other: &[Rect]) -> Result<(), NoMemory>
+pub(crate) fn intersect(spans: &mut Spans, one: &[Rect], other: &[Rect]) -> Result<(), NoMemory>
     requires one { IsLine one.now }
     requires other { IsLine other.now }
     ensures apart { OnOk result (AreSpans spans.new.items) }
@@ -192,7 +192,7 @@ fn meeting_of<'a>(one: &'a [Rect], other: &'a [Rect]) -> Option<Meeting<'a>>
 
 /// Adds a span, unless it is empty.
 #[inline(always)]
-fn push_some(spans: &mut Vec<Span>, left: i32, right: i32) -> Result<(), NoMemory>
+fn push_some(spans: &mut Spans, left: i32, right: i32) -> Result<(), NoMemory>
     requires low { negsuc 32767 ≤ℤ left }
     requires high { right ≤ℤ pos 32767 }
     ensures apart { OnOk result ((low high : ℤ) → AreWithin low spans.old.items left
@@ -222,7 +222,7 @@ struct CutOff<'a> {
 
 /// The spans of the columns of the first line that the second lacks, in place of those that were
 /// there.
-pub(crate) fn subtract(spans: &mut Vec<Span>, one: &[Rect], other: &[Rect]) -> Result<(), NoMemory>
+pub(crate) fn subtract(spans: &mut Spans, one: &[Rect], other: &[Rect]) -> Result<(), NoMemory>
     requires one { IsLine one.now }
     requires other { IsLine other.now }
     ensures apart { OnOk result (AreSpans spans.new.items) }

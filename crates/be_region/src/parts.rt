@@ -7,6 +7,9 @@ ghost use Rattle.be_region.specs.Parts.{IsCut};
 use be_geom::{NoMemory, Rect};
 use std::alloc::Global;
 
+/// For how many rectangles there is room at first, beside those above and those below.
+const ROOM: usize = 16;
+
 /// Bands, cut between rows.
 #[derive(Clone, Copy)]
 pub(crate) struct Parts<'a> {
@@ -78,22 +81,24 @@ pub(crate) fn rows_beside(rects: &[Rect]) -> Option<(i32, i32)>
     Some((i32::from(first.top) - 1, i32::from(last.bottom) + 1))
 }
 
-/// The rectangles of all three, one after another.
-pub(crate) fn joined(
-    alloc: Global,
-    above: &[Rect],
-    middle: &[Rect],
-    below: &[Rect],
-) -> Result<Vec<Rect>, NoMemory>
-    ensures { IfOk result (λ v. v.items ≡ above.now ++ (middle.now ++ below.now)) }
+/// A copy of the rectangles above, with room for those below and a few more.
+pub(crate) fn begun(alloc: Global, parts: Parts<'_>) -> Result<Vec<Rect>, NoMemory>
+    ensures { IfOk result (λ v. v.items ≡ parts.entry.above.now) }
 {
-    let count = above
+    let count = parts
+        .above
         .len()
-        .saturating_add(middle.len())
-        .saturating_add(below.len());
+        .saturating_add(parts.below.len())
+        .saturating_add(ROOM);
     let mut rects = Vec::with_capacity(alloc, count)?;
-    rects.extend_from_slice(above)?;
-    rects.extend_from_slice(middle)?;
-    rects.extend_from_slice(below)?;
+    rects.extend_from_slice(parts.above)?;
+    Ok(rects)
+}
+
+/// The rectangles, and behind them a copy of those below.
+pub(crate) fn ended(mut rects: Vec<Rect>, parts: Parts<'_>) -> Result<Vec<Rect>, NoMemory>
+    ensures { IfOk result (λ v. v.items ≡ rects.items ++ parts.entry.below.now) }
+{
+    rects.extend_from_slice(parts.below)?;
     Ok(rects)
 }

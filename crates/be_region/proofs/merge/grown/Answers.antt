@@ -11,11 +11,11 @@ returns-then-from-clause-apart c = λ low h.
     let f : SFits w16 c.args.last.right = search rules in
     let g : SFits w16 c.args.more.left = search rules in
     let t = c.if-from.true in
-    pushed_within low c.args.spans.now.items c.push.new.self.items c.args.last c.args.more.left c.in_ok-push.ensures.items h c.requires.last_full (omega (arith, ints))
+    pushed_within low c.args.spans.now.items c.push.new.self.items c.args.last c.args.more.left c.in_ok-push.ensures.ok h c.requires.last_full (omega (arith, ints))
 
 pub returns-then-from-clause-columns : goal.returns-then-from-clause-columns
 returns-then-from-clause-columns c = λ x.
-    pushed_has c.args.spans.now.items c.push.new.self.items c.args.last (between c.args.more.left x c.args.more.right) x c.in_ok-push.ensures.items
+    pushed_has c.args.spans.now.items c.push.new.self.items c.args.last (between c.args.more.left x c.args.more.right) x c.in_ok-push.ensures.ok
 
 pub returns-clause-columns : goal.returns-clause-columns
 returns-clause-columns c = λ x.

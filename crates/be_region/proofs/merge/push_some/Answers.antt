@@ -12,7 +12,7 @@ returns-in_ok-push-clause-apart c =
     let h = c.requires.low in
     let k = c.requires.high in
     let t = c.if-left-right.true in
-    pushed_some_within c.args.spans.now.items c.push.new.self.items _ c.args.left c.args.right c.in_ok-push.ensures.items (omega (arith, ints)) (omega (arith, ints)) (omega (arith, ints))
+    pushed_some_within c.args.spans.now.items c.push.new.self.items _ c.args.left c.args.right c.in_ok-push.ensures.ok (omega (arith, ints)) (omega (arith, ints)) (omega (arith, ints))
 
 pub returns-else-left-right-clause-apart : goal.returns-else-left-right-clause-apart
 returns-else-left-right-clause-apart c = λ low high h k m.

@@ -17,4 +17,4 @@ rects-preserved c =
 
 pub returns-clause-apart : goal.returns-clause-apart
 returns-clause-apart c =
-    united_apart c.args.one.now c.args.other.now c.rects.spans.items c.push.new.self.items c.rects.last c.rects.rest.one.now c.rects.rest.other.now c.rects.invariant c.in_ok-push.ensures.items
+    united_apart c.args.one.now c.args.other.now c.rects.spans.items c.push.new.self.items c.rects.last c.rects.rest.one.now c.rects.rest.other.now c.rects.invariant c.in_ok-push.ensures.ok
