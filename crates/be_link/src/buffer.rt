@@ -11,7 +11,8 @@ use std::marker::Model;
 /// How many commands a buffer holds.
 pub(crate) const MOST: usize = 32;
 
-/// The commands that a looper made and didn't flush yet, each with its number among its window's, from 1.
+/// The commands that a looper made and didn't flush yet, each with its number among its window's,
+/// from 1.
 #[derive(Debug, Drop)]
 pub struct Buffer {
     pub(crate) ring: HeapCircularBuffer<(u64, Command)>,

@@ -13,7 +13,8 @@ use std::marker::Model;
 /// How many commands a link holds.
 const MOST: usize = 256;
 
-/// The commands of a window that its twin has still to execute, with the numbers that they had in the buffer.
+/// The commands of a window that its twin has still to execute, with the numbers that they had in
+/// the buffer.
 #[derive(Debug, Drop)]
 pub struct Link {
     ring: HeapCircularBuffer<(u64, Command)>,
@@ -40,8 +41,8 @@ impl Link {
         })
     }
 
-    /// Takes over all commands of a buffer in their order, or none where there is no room for all: `BView::Flush`.
-    /// Gives how many went over.
+    /// Takes over all commands of a buffer in their order, or none where there is no room for all:
+    /// `BView::Flush`. Gives how many went over.
     pub fn append(&mut self, buffer: &mut Buffer) -> Result<u32, LinkFull>
         ensures full { IsErr result ↔ (fits buffer.old self.old ≡ false) }
         ensures count { IfOk result (λ count. count ≡ length buffer.old.commands) }

@@ -3,8 +3,8 @@ use be_command::Command;
 use std::process::Abort;
 use std::test::Fail;
 
-/// What is asked of a buffer and a link, and what is due. A command is known by its view, which has the number
-/// that the command is to have.
+/// What is asked of a buffer and a link, and what is due. A command is known by its view, which has
+/// the number that the command is to have.
 #[derive(Clone, Copy, Debug, PartialEq, Eq)]
 enum Step {
     /// So many commands are put; the last has this number.

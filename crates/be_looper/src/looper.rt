@@ -92,8 +92,8 @@ impl Looper {
         Ok(())
     }
 
-    /// Takes a letter into a free looper's hand: the begin of `BLooper::DispatchMessage`. The message is the
-    /// one that the letter's bytes spell, and the route is its own.
+    /// Takes a letter into a free looper's hand: the begin of `BLooper::DispatchMessage`. The
+    /// message is the one that the letter's bytes spell, and the route is its own.
     pub fn begin(
         &mut self,
         letter: Letter,
@@ -154,8 +154,8 @@ impl Looper {
         }
     }
 
-    /// Gives the duty that goes with the message in hand where it is forwarded: `BLooper::DetachCurrentMessage`.
-    /// It isn't left here.
+    /// Gives the duty that goes with the message in hand where it is forwarded:
+    /// `BLooper::DetachCurrentMessage`. It isn't left here.
     pub fn detach(&mut self) -> Result<Duty, NoMessage>
         ensures refused { IsErr result ↔ (self.old.hand ≡ None) }
         ensures duty { IfOk result (λ duty. option_map duty_handed_on (duty_of self.old) ≡ Some duty) }

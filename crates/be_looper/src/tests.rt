@@ -56,8 +56,8 @@ fn begin(rt: &impl Alloc<A = Global>, looper: &mut Looper, duty: Duty) -> Option
     ))
 }
 
-/// The duty that is left of the letter in hand; the route, the message and the rest of the letter are as
-/// they were begun.
+/// The duty that is left of the letter in hand; the route, the message and the rest of the letter
+/// are as they were begun.
 fn in_hand(looper: &Looper) -> Option<Duty> {
     let letter = looper.letter()?;
     let whole = letter.number == 9
