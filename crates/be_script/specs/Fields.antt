@@ -93,7 +93,7 @@ is_datum_in_range (int z) = between (negsuc 2147483647) z (pos 2147483647)
 is_datum_in_range (text t) = true
 is_datum_in_range (point p) = in_range p.x && in_range p.y
 is_datum_in_range (rect r) = in_range r.left && in_range r.top && in_range r.right && in_range r.bottom
-is_datum_in_range (message what fields) = true
+is_datum_in_range (message what fs) = true
 
 abbrev is_in_range : Word → Bool
 is_in_range (value name datum) = is_datum_in_range datum
