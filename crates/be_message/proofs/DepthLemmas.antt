@@ -20,7 +20,7 @@ values_set [] i d = omega arith
 values_set (x ∷ xs) zero d = omega arith
 values_set (x ∷ xs) (suc i) d = omega (arith, values_set xs i d)
 
-fields_push : (fs : List Field) (g : Field) → fields_depth (all_fields (fs ++ g ∷ [])) ≡ max (fields_depth (all_fields fs)) (values_depth (all_values g.values))
+pub fields_push : (fs : List Field) (g : Field) → fields_depth (all_fields (fs ++ g ∷ [])) ≡ max (fields_depth (all_fields fs)) (values_depth (all_values g.values))
 fields_push [] g = omega arith
 fields_push (f ∷ fs) g = omega (arith, fields_push fs g)
 

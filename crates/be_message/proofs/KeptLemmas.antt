@@ -1,19 +1,19 @@
 -- What a message becomes is a message.
-use Rattle.std.proofs.Common.{◌≡◌, ℕ, ◌<◌, ◌≤◌, inl, inr, Bool, true, false, not, cond, List, [], ◌∷◌, ◌++◌, length, Option, Some, None, Result, Ok, Err, arith, refl}
+use Rattle.std.proofs.Common.{◌≡◌, ℕ, ◌<◌, ◌≤◌, inl, inr, Bool, true, false, not, cond, List, [], ◌∷◌, ◌++◌, length, Option, Some, None, Result, Ok, Err, arith, refl, sym, ◌∙◌}
 use Rattle.std.specs.List.{list_any, filter}
 use Rattle.std.proofs.lemmas.List.{length-map, length-set, length_push}
 use Rattle.std.proofs.lemmas.Bool.{cond-true, cond-false, cases_Bool, leb-true, leb-false}
 use Rattle.be_message.specs.declared.fault.FindFault.{FindFault}
 use Rattle.be_message.specs.declared.fault.FindFault.TheVariants as missing
-use Rattle.be_message.specs.Depths.{datum_depth, depth_of}
+use Rattle.be_message.specs.Depths.{datum_depth, fields_depth, values_depth, depth_of}
 use Rattle.be_message.specs.Kinds.{is_kind}
-use Rattle.be_message.specs.Messages.{Datum, bool, int, text, point, rect, message, Field, Message, all_fields}
+use Rattle.be_message.specs.Messages.{Datum, bool, int, text, point, rect, message, Field, Message, all_fields, all_values}
 use Rattle.be_message.specs.Fields.{Refusal, bad_value, has_name, field_named, changed_at, is_allowed, refused_by, unless_found, found_in, value_or_missing, new_field, with_one_more, with_other, with_value_in, with_value, with_replaced, without}
 use Rattle.be_message.specs.Names.{is_name}
 use Rattle.be_message.specs.Sound.{kind_of, IsSound, AreSoundFields, IsMessage}
-use Rattle.be_message.proofs.PlaceLemmas.{are_apart, named_none}
-use Rattle.be_message.proofs.SoundLemmas.{IsSoundField, count_is, values_are, sound_push, sound_set, sound_changed, sound_filtered, filtered_is_no_longer, sound_with_last, same_kind}
-use Rattle.be_message.proofs.DepthLemmas.{depth_added, depth_replaced, depth_filtered}
+use Rattle.be_message.proofs.PlaceLemmas.{are_apart, named_none, name_is}
+use Rattle.be_message.proofs.SoundLemmas.{IsSoundField, count_is, values_are, sound_push, sound_set, sound_changed, sound_filtered, filtered_is_no_longer, sound_with_last, same_kind, sound_head}
+use Rattle.be_message.proofs.DepthLemmas.{depth_added, depth_replaced, depth_filtered, fields_push}
 
 -- ---- what no refusal says
 
@@ -119,3 +119,32 @@ removed_is_message m name is =
 
 pub removed_is_flat : (m : Message) (name : List ℕ) → depth_of m ≤ 1 → depth_of (without m name) ≡ 1
 removed_is_flat m name flat = omega (arith, depth_filtered (λ f. not (has_name name f)) m.fields)
+
+-- ---- a field of another message
+
+-- what is true of the field of a name
+pub record IsNamed (name : List ℕ) (fs : List Field) (f : Field) : Type 0 where
+  pub named : f.name ≡ name
+  pub sound : IsSoundField f
+  pub depth : values_depth (all_values f.values) ≤ fields_depth (all_fields fs)
+
+is_named : (name : List ℕ) (fs : List Field) (f : Field) → AreSoundFields (all_fields fs) → field_named name fs ≡ Some f → IsNamed name fs f
+is_named name [] f s h = absurd (cc)
+is_named name (g ∷ gs) f s h =
+    elim (cases_Bool (has_name name g)) [
+      | inl t ↦
+          let e : f ≡ g = let all : Some g ≡ Some f = sym (cond-true _ _ _ t) ∙ h in cc in
+          rw e (record { named = name_is name g t; sound = sound_head g gs s; depth = omega arith })
+      | inr t ↦
+          let more = is_named name gs f s.5 (sym (cond-false _ _ _ t) ∙ h) in
+          record { named = more.named; sound = more.sound; depth = omega (arith, more.depth) }
+    ]
+
+pub copied_is_message : (m from : Message) (name : List ℕ) (f : Field) → IsMessage m → IsMessage from → list_any (has_name name) m.fields ≡ false → length m.fields < 255 → field_named name from.fields ≡ Some f → IsMessage (record m { fields = m.fields ++ f ∷ [] })
+copied_is_message m from name f is other new room named =
+    let one = is_named name from.fields f other.sound.2 named in
+    let apart : list_any (has_name f.name) m.fields ≡ false = rw one.named new in
+    record {
+      sound = (is.sound.0, omega (arith, count_is (m.fields ++ f ∷ []), length_push m.fields f), sound_with_last m.fields f one.sound apart is.sound.2);
+      depth = omega (arith, is.depth, other.depth, fields_push m.fields f, one.depth);
+    }

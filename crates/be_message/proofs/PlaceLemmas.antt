@@ -31,7 +31,7 @@ pub are_apart : (fs : List Field) → AreSoundFields (all_fields fs) → AreApar
 are_apart [] s = tt
 are_apart (f ∷ fs) s = (no_field f.name fs s.1, are_apart fs s.5)
 
-name_is : (name : List ℕ) (f : Field) → has_name name f ≡ true → f.name ≡ name
+pub name_is : (name : List ℕ) (f : Field) → has_name name f ≡ true → f.name ≡ name
 name_is name f h = (bytes_eq-Decides f.name name).0 h
 
 -- where the name is missing

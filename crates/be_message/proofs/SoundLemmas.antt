@@ -44,7 +44,7 @@ pub record IsSoundField (f : Field) : Type 0 where
 sound_cons : (f : Field) (fs : List Field) → IsSoundField f → is_new f.name (all_fields fs) ≡ true → AreSoundFields (all_fields fs) → AreSoundFields (all_fields (f ∷ fs))
 sound_cons f fs s n more = (s.name, n, s.some, s.most, s.values, more)
 
-sound_head : (f : Field) (fs : List Field) → AreSoundFields (all_fields (f ∷ fs)) → IsSoundField f
+pub sound_head : (f : Field) (fs : List Field) → AreSoundFields (all_fields (f ∷ fs)) → IsSoundField f
 sound_head f fs s = record { name = s.0; some = s.2; most = s.3; values = s.4 }
 
 new_changed : (n name : List ℕ) (change : Field → Field) → ((f : Field) → (change f).name ≡ f.name) → (fs : List Field) → is_new n (all_fields (changed_at name change fs)) ≡ is_new n (all_fields fs)

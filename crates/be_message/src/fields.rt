@@ -101,7 +101,8 @@ pub(crate) fn depth_within(fields: &[Field]) -> u8
     depth
 }
 
-fn depth_of_values(values: &[Value]) -> u8
+/// How many messages lie within one another in the values.
+pub(crate) fn depth_of_values(values: &[Value]) -> u8
     ensures depth { result ≡ values_depth (all_values (seen_values values.now)) }
     ensures most { result ≤ most_depth }
 {

@@ -1,15 +1,15 @@
-ghost use Rattle.std.specs.Prelude.{◌≡◌, ◌↔◌, [], true, length, slice_get, None, Ok, IsOk, IfOk, OnOk, IfErr, OnErr};
+ghost use Rattle.std.specs.Prelude.{◌≡◌, ◌<◌, ◌↔◌, [], ◌++◌, true, false, length, slice_get, None, Ok, IsOk, IfOk, OnOk, IfErr, OnErr, option_to_list};
 ghost use Rattle.std.specs.List.{list_any};
 ghost use Rattle.std.specs.Option.{option_map};
 ghost use Rattle.be_message.specs.Depths.{depth_of};
 ghost use Rattle.be_message.specs.Faults.{IsAddFault, IsReplaceFault};
 ghost use Rattle.be_message.specs.Fields.{count_of, field_named, has_name, found, add_refusal, with_value, replace_refusal, with_replaced, without};
 ghost use Rattle.be_message.specs.Sound.{kind_of, IsMessage};
-ghost use Rattle.be_message.specs.Views.{seen_value, seen_fields, Gives};
+ghost use Rattle.be_message.specs.Views.{seen_value, seen_field, seen_fields, Gives};
 
 use crate::fault::{AddFault, FindFault, NameNotFound, ReplaceFault};
 use crate::field::Field;
-use crate::fields::{add_value, depth_within, place_of, replace_value};
+use crate::fields::{add_value, depth_of_values, depth_within, place_of, replace_value};
 use crate::kind::Kind;
 use crate::names::is_name;
 use crate::value::Value;
@@ -85,6 +85,17 @@ impl Message {
         ensures limits { IsMessage self.now }
     {
         self.depth
+    }
+
+    /// The field of a name.
+    fn field(&self, name: &str) -> Option<&Field>
+        ensures field { option_map (λ f. seen_field f.now) result ≡ field_named name.now self.now.fields }
+        ensures limits { IsMessage self.now }
+    {
+        match place_of(&self.fields, name) {
+            Some(place) => Some(&self.fields[place]),
+            None => None,
+        }
     }
 
     /// How many fields there are.
@@ -185,6 +196,24 @@ impl Message {
         if self.depth > 1 {
             self.depth = depth_within(&self.fields) + 1;
         }
+        Ok(())
+    }
+
+    /// Adds a copy of another message's field of this name, with all its values, behind the fields that there are.
+    /// Nothing is added where that one has none of the name.
+    pub fn copy_field(&mut self, from: &Message, name: &str) -> Result<(), NoMemory>
+        requires new { list_any (has_name name.now) self.old.fields ≡ false }
+        requires room { length self.old.fields < 255 }
+        ensures copied { OnOk result (self.new ≡ record self.old { fields = self.old.fields ++ option_to_list (field_named name.now from.now.fields) }) }
+        ensures stays { OnErr result (self.new ≡ self.old) }
+    {
+        let Some(found) = from.field(name) else {
+            return Ok(());
+        };
+        let field = found.copy()?;
+        let depth = self.depth.max(depth_of_values(field.values()) + 1);
+        self.fields.push(field)?;
+        self.depth = depth;
         Ok(())
     }
 

@@ -268,3 +268,36 @@ fn fields_stand_in_order_of_first_adding(rt: HostRuntime) -> Result<(), Fail> {
     assert_eq!(rt; number_at(&before, "a", 1), Ok(2));
     Ok(())
 }
+
+/// Copies a field where its name is new and there is room.
+fn copy_new(to: &mut Message, from: &Message, name: &str) -> Result<(), Fail> {
+    if !to.has(name) && to.field_count() < 255 {
+        to.copy_field(from, name)?;
+    }
+    Ok(())
+}
+
+#[test]
+fn a_field_is_copied_with_all_its_values_and_their_depth(rt: HostRuntime) -> Result<(), Fail> {
+    let alloc = rt.alloc();
+    let mut from = nested(alloc, 16)?;
+    from.add("n", Value::Int(5))?;
+    from.add("n", Value::Int(6))?;
+    let mut to = Message::new(alloc, PING);
+    to.add("a", Value::Bool(true))?;
+    copy_new(&mut to, &from, "n")?;
+    copy_new(&mut to, &from, "x")?;
+    let flat = Value::Message(Box::new(alloc, to.copy()?)?);
+    copy_new(&mut to, &from, "m")?;
+    let names = [Some("a"), Some("n"), Some("m"), None];
+    for (place, want) in names.iter().enumerate() {
+        assert_eq!(rt; to.name_at(place), *want, "at {place}");
+    }
+    assert_eq!(rt; number_at(&to, "n", 0), Ok(5));
+    assert_eq!(rt; number_at(&to, "n", 1), Ok(6));
+    assert_eq!(rt; to.count("n"), 2);
+    let deepest = Value::Message(Box::new(alloc, to)?);
+    assert_eq!(rt; answer_to_add(&mut from, "to", deepest), Answer::BadValue);
+    assert_eq!(rt; answer_to_add(&mut from, "to", flat), Answer::Done);
+    Ok(())
+}

@@ -83,9 +83,9 @@ impl Value {
         }
     }
 
-    /// The same value.
+    /// The same value, in memory of its own.
     #[cycle(copy)]
-    pub(crate) fn copy(&self, alloc: Global) -> Result<Value, NoMemory>
+    pub fn copy(&self, alloc: Global) -> Result<Value, NoMemory>
         ensures { IfOk result (λ value. seen_value value ≡ seen_value self.now) }
     {
         Ok(match self {
