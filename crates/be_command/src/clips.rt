@@ -22,6 +22,16 @@ impl Clip {
         Ok(Clip { rects, region })
     }
 
+    // The same rectangles and pixels, in memory of their own.
+    pub(crate) fn copy(&self, alloc: Global) -> Result<Clip, NoMemory>
+        ensures { IfOk result (λ clip. clip ≡ self.now) }
+    {
+        Ok(Clip {
+            rects: Vec::from_slice(alloc, &self.rects)?,
+            region: self.region.copy()?,
+        })
+    }
+
     pub(crate) fn rects(&self) -> &[Rect]
         ensures { result.now ≡ self.now }
     {

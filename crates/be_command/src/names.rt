@@ -95,15 +95,15 @@ impl Names {
         self.bitmaps.are_names();
     }
 
-    // The number of a window.
-    pub(crate) fn window(&self, name: &[u8]) -> Option<u16>
+    /// The number of a window.
+    pub fn window(&self, name: &[u8]) -> Option<u16>
         ensures { result ≡ number_in self.now.windows name.now }
     {
         self.windows.number(name, 0)
     }
 
-    // The number of a view.
-    pub(crate) fn view(&self, name: &[u8]) -> Option<u16>
+    /// The number of a view; 0 is the root.
+    pub fn view(&self, name: &[u8]) -> Option<u16>
         ensures { result ≡ number_in self.now.views name.now }
     {
         let beside_the_root = &self.views;
@@ -113,8 +113,8 @@ impl Names {
         beside_the_root.number(name, 1)
     }
 
-    // The number of a bitmap.
-    pub(crate) fn bitmap(&self, name: &[u8]) -> Option<u16>
+    /// The number of a bitmap.
+    pub fn bitmap(&self, name: &[u8]) -> Option<u16>
         ensures { result ≡ number_in self.now.bitmaps name.now }
     {
         self.bitmaps.number(name, 0)

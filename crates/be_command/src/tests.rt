@@ -392,3 +392,59 @@ fn bitmaps_are_64(rt: HostRuntime) -> Result<(), Fail> {
     assert_eq!(rt; names.add_bitmap("b64"), Err(NameFault::TooMany));
     Ok(())
 }
+
+/// Asserts that a copy of a line's command is written as the line.
+fn assert_copied(rt: &impl Abort, names: &Names, alloc: Global, line: &str) {
+    let command = read_command(alloc, line.as_bytes(), names).expect(rt, "a command");
+    let copy = command.copy(alloc).expect(rt, "memory");
+    let written = write_command(alloc, &copy, names).expect(rt, "memory");
+    assert_eq!(rt; written.as_slice(), line.as_bytes());
+}
+
+#[test]
+fn each_command_is_copied(rt: HostRuntime) {
+    let alloc = rt.alloc();
+    let names = names(alloc).expect(&rt, "names");
+    for line in [
+        "fill pad 3 4 1 2 low",
+        "frame ok 1 2 3 4 55aa55aa55aa55aa",
+        "line root 0 0 -5 6 mixed",
+        "text pad  two  words ",
+        "text pad ",
+        "bitmap root pic 3 -4",
+        "high root clear",
+        "low ok ffffff",
+        "viewcolor pad 0a0b0c",
+        "mode root blend",
+        "pensize root 32",
+        "pen root -32768 32767",
+        "origin ok 32767 -32768",
+        "clip root none",
+        "clip root 0 0 1 1 5 5 4 4",
+        "push root",
+        "pop pad",
+        "copybits root 0 0 9 9 20 21",
+        "invalidate pad -1 2 3 -4",
+        "behind edit",
+    ] {
+        assert_copied(&rt, &names, alloc, line);
+    }
+    let copy = Command::EndUpdate.copy(alloc).expect(&rt, "memory");
+    assert!(rt; matches!(copy, Command::EndUpdate));
+}
+
+#[test]
+fn numbers_are_found_by_names(rt: HostRuntime) {
+    let names = names(rt.alloc()).expect(&rt, "names");
+    for (name, window, view, bitmap) in [
+        (b"term".as_slice(), Some(0), None, None),
+        (b"edit", Some(1), None, None),
+        (b"root", None, Some(0), None),
+        (b"ok", None, Some(2), None),
+        (b"pic", None, None, Some(0)),
+    ] {
+        assert_eq!(rt; names.window(name), window);
+        assert_eq!(rt; names.view(name), view);
+        assert_eq!(rt; names.bitmap(name), bitmap);
+    }
+}
