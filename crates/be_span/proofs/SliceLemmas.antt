@@ -12,8 +12,7 @@ use Rattle.std.proofs.lemmas.Option.{none-some, same_Some, slice_get-map, slice_
 use Rattle.std.proofs.lemmas.List.Sums.{sum_by-cons}
 use Rattle.be_color.specs.declared.colors.Color.{Color}
 use Rattle.be_color.specs.declared.colors.Color.TheVariants.{Clear}
-use Rattle.be_color.specs.declared.colors.Rgb.{Rgb}
-use Rattle.be_color.specs.Pixel.{picked, blended}
+use Rattle.be_color.specs.Pixel.{picked}
 use Rattle.be_color.specs.Pattern.{place_in_pattern}
 use Rattle.be_span.specs.declared.Cell.{Cell}
 use Rattle.be_span.specs.declared.brush.Brush.{Brush}
@@ -71,10 +70,10 @@ marks_same f (d ∷ old) (c ∷ new) h stays =
 
 -- ---- one colour
 
-pub paint_step : (brush : Brush) (source : Color) (old new : List Cell) (i : ℕ) (d : Cell) (r : Rgb) → i < length old → i < length new → new ≡ map (painted brush source) (take i old) ++ drop i old → r ≡ blended brush.mode source (get_or new i d).rgb brush.high brush.low → set new i record { rgb = r; dirty = (get_or new i d).dirty } ≡ map (painted brush source) (take (i + 1) old) ++ drop (i + 1) old
-paint_step brush source old new i d r less within so_far e =
-    ap (λ (q : Rgb). set new i record { rgb = q; dirty = (get_or new i d).dirty }) e
-    ∙ map_over_more (painted brush source) old new i (get_or new i d) less so_far (get_or_default new i d (get_or new i d) within)
+-- one cell more
+pub each_step : (f : Cell → Cell) (old new : List Cell) (i : ℕ) (d c : Cell) → i < length old → i < length new → new ≡ map f (take i old) ++ drop i old → c ≡ f (get_or new i d) → set new i c ≡ map f (take (i + 1) old) ++ drop (i + 1) old
+each_step f old new i d c less within so_far e =
+    ap (set new i) e ∙ map_over_more f old new i (get_or new i d) less so_far (get_or_default new i d (get_or new i d) within)
 
 pub painted_clear : (brush : Brush) (cells : List Cell) → cells ≡ map (painted brush Clear) cells
 painted_clear brush [] = refl

@@ -68,7 +68,19 @@ fn paint_each(cells: &mut [Cell], mode: Mode, source: Rgb, high: Color, low: Col
         ≡ map (painted record { mode = mode; high = high; low = low } (Solid source)) cells.old }
 {
     for cell in cells.iter_mut() {
-        cell.rgb = blend(mode, Color::Solid(source), cell.rgb, high, low);
+        *cell = painted(*cell, mode, source, high, low);
+    }
+}
+
+/// The cell painted in a mode. It is stored as a whole, so that many cells are at once.
+#[inline(always)]
+fn painted(cell: Cell, mode: Mode, source: Rgb, high: Color, low: Color) -> Cell
+    ensures { result
+        ≡ painted record { mode = mode; high = high; low = low } (Solid source) cell }
+{
+    Cell {
+        rgb: blend(mode, Color::Solid(source), cell.rgb, high, low),
+        dirty: cell.dirty,
     }
 }
 
