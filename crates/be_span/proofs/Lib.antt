@@ -3,3 +3,4 @@ pub mod PlaceLemmas
 pub mod SliceLemmas
 pub mod CellLemmas
 pub mod LaidLemmas
+pub mod MarkLemmas

@@ -1,5 +1,5 @@
 -- A region's pixels, each with its cell: one row of cells for each row of each rectangle (this project's own).
-use Rattle.std.specs.Prelude.{ℕ, ℤ, pos, ◌+◌, ◌*◌, ◌+ℤ◌, ◌-ℤ◌, unsigned_abs, false, List, [], ◌∷◌, Option, Some, None, slice_get, if◌then◌else◌, option_and_then}
+use Rattle.std.specs.Prelude.{ℕ, ℤ, pos, ◌+◌, ◌*◌, ◌+ℤ◌, ◌-ℤ◌, unsigned_abs, Bool, false, List, [], ◌∷◌, Option, Some, None, slice_get, if◌then◌else◌, option_and_then}
 use Rattle.std.specs.Option.{option_map}
 use Rattle.be_geom.specs.declared.rect.Rect.{Rect}
 use Rattle.be_geom.specs.Rects.{rect_has}
@@ -43,6 +43,11 @@ cell_in s x y = option_and_then (slice_get s.cells) (place_of s.rects x y)
 -- black, and nothing waits
 abbrev pub black_cell : Cell
 black_cell = record { rgb = record { red = 0; green = 0; blue = 0 }; dirty = false }
+
+-- whether a pixel has a cell that waits to be drawn
+abbrev pub is_dirty : Option Cell → Bool
+is_dirty (Some c) = c.dirty
+is_dirty None = false
 
 -- the cell that one of them has where both have one; else the second's answer
 abbrev pub laid : Option Cell → Option Cell → Option Cell

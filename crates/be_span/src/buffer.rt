@@ -9,7 +9,7 @@ ghost use Rattle.be_span.specs.Slices.{source_at, painted};
 use crate::Cell;
 use crate::brush::{Brush, Source};
 use crate::places::{run_from, starts_of};
-use crate::rows::{overwrite, paint_part};
+use crate::rows::{dirty_among, dirty_of, overwrite, paint_part};
 use be_color::Rgb;
 use be_geom::NoMemory;
 use be_region::Region;
@@ -131,10 +131,33 @@ impl SpanBuf {
         ensures others { (z w : ℤ) → IsBeside x y (length cells.now) z w
             → cell_in self.new z w ≡ cell_in self.old z w }
     {
+        self.put_counted(x, y, cells, dirty_among(cells));
+    }
+
+    /// The same, where it is known how many of these cells are dirty.
+    pub(crate) fn put_counted(&mut self, x: i32, y: i32, cells: &[Cell], more: usize)
+        requires run { HasRun self.old.rects x y (length cells.now) }
+        requires more { more ≡ count_by (λ c. c.dirty) cells.now }
+        ensures whole { length self.old.cells ≡ pixels_of self.old.rects }
+        ensures region { self.new.rects ≡ self.old.rects }
+        ensures cells { (k : ℕ) → k < length cells.now
+            → cell_in self.new (x +ℤ pos k) y ≡ slice_get cells.now k }
+        ensures others { (z w : ℤ) → IsBeside x y (length cells.now) z w
+            → cell_in self.new z w ≡ cell_in self.old z w }
+    {
         let Some(run) = run_from(&self.region, &self.starts, x, y) else {
             return;
         };
-        self.dirty = overwrite(&mut self.cells, run.start, cells, self.dirty);
+        self.dirty = overwrite(&mut self.cells, run.start, cells, more, self.dirty);
+    }
+
+    /// How many of some of its cells are dirty. Where none of all is, no cell is looked at.
+    pub(crate) fn dirty_in(&self, some: &[Cell]) -> usize
+        requires { count_by (λ c. c.dirty) self.now.cells ≡ 0
+            → count_by (λ c. c.dirty) some.now ≡ 0 }
+        ensures { result ≡ count_by (λ c. c.dirty) some.now }
+    {
+        dirty_of(some, self.dirty)
     }
 
     /// Paints the `count` pixels from (x, y) on to the right. Their marks stay.

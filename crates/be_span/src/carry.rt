@@ -186,7 +186,8 @@ fn lay_run(from: &SpanBuf, source: Pixel, to: &mut SpanBuf, target: Pixel, rest:
         return gap_from(from, source, rest);
     }
     let count = row.len().min(rest);
-    to.put_row(target.x, target.y, &row[..count]);
+    let row = &row[..count];
+    to.put_counted(target.x, target.y, row, from.dirty_in(row));
     count
 }
 

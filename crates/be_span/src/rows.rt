@@ -6,9 +6,17 @@ use crate::Cell;
 use crate::brush::{Brush, Source};
 use crate::slices::paint_cells;
 
-/// Writes over the cells from `start` on. How many of all are dirty is told and given back.
-pub(crate) fn overwrite(cells: &mut [Cell], start: usize, row: &[Cell], dirty: usize) -> usize
+/// Writes over the cells from `start` on, by a row of which `more` are dirty. How many of all are
+/// dirty is told and given back.
+pub(crate) fn overwrite(
+    cells: &mut [Cell],
+    start: usize,
+    row: &[Cell],
+    more: usize,
+    dirty: usize,
+) -> usize
     requires fits { start + length row.now ≤ length cells.old }
+    requires more { more ≡ count_by (λ c. c.dirty) row.now }
     requires counted { dirty ≡ count_by (λ c. c.dirty) cells.old }
     ensures len { length cells.new ≡ length cells.old }
     ensures inside { (k : ℕ) → k < length row.now
@@ -18,9 +26,9 @@ pub(crate) fn overwrite(cells: &mut [Cell], start: usize, row: &[Cell], dirty: u
     ensures counted { result ≡ count_by (λ c. c.dirty) cells.new }
 {
     let end = start + row.len();
-    let lost = dirty_among(&cells[start..end]);
+    let lost = dirty_of(&cells[start..end], dirty);
     cells[start..end].copy_from_slice(row);
-    dirty - lost + dirty_among(row)
+    dirty - lost + more
 }
 
 /// Paints `count` cells from `start` on.
@@ -42,9 +50,21 @@ pub(crate) fn paint_part(
     paint_cells(&mut cells[start..start + count], brush, source);
 }
 
+/// How many of some cells are dirty, where so many of all are: if none is, no cell is looked at.
+pub(crate) fn dirty_of(some: &[Cell], dirty: usize) -> usize
+    requires { dirty ≡ 0 → count_by (λ c. c.dirty) some.now ≡ 0 }
+    ensures { result ≡ count_by (λ c. c.dirty) some.now }
+{
+    if dirty == 0 { 0 } else { dirty_among(some) }
+}
+
 /// How many of the cells are dirty.
-fn dirty_among(cells: &[Cell]) -> usize
+pub(crate) fn dirty_among(cells: &[Cell]) -> usize
     ensures { result ≡ count_by (λ c. c.dirty) cells.now }
 {
-    cells.iter().filter(|cell| cell.dirty).count()
+    let mut count = 0;
+    for cell in cells {
+        count += usize::from(cell.dirty);
+    }
+    count
 }

@@ -8,7 +8,7 @@ pub overflow_sub-result : goal.overflow_sub-result
 overflow_sub-result c =
     let part = part_sum (λ (x : Cell). cond x.dirty 1 0) c.args.start (c.args.start + length c.args.row.now - c.args.start) c.args.cells.now in
     let all = c.requires.counted in
-    omega (arith, c.dirty_among-lost.ensures)
+    omega (arith, c.dirty_of-lost.ensures)
 
 pub returns-clause-inside : goal.returns-clause-inside
 returns-clause-inside c k less =
@@ -30,7 +30,13 @@ returns-clause-counted c =
     let put = put_sum (λ (x : Cell). cond x.dirty 1 0) c.args.start (c.args.start + length c.args.row.now - c.args.start) c.args.cells.now c.copy_from_slice.new.self in
     let row = ap (sum_by (λ (x : Cell). cond x.dirty 1 0)) c.copy_from_slice.ensures.after in
     let all = c.requires.counted in
-    let lost = c.dirty_among-lost.ensures in
-    let found = c.dirty_among.ensures in
+    let lost = c.dirty_of-lost.ensures in
+    let found = c.requires.more in
     let part = part_sum (λ (x : Cell). cond x.dirty 1 0) c.args.start (c.args.start + length c.args.row.now - c.args.start) c.args.cells.now in
+    omega arith
+
+pub dirty_of-lost-requires : goal.dirty_of-lost-requires
+dirty_of-lost-requires c none =
+    let part = part_sum (λ (x : Cell). cond x.dirty 1 0) c.args.start (c.args.start + length c.args.row.now - c.args.start) c.args.cells.now in
+    let all = c.requires.counted in
     omega arith
