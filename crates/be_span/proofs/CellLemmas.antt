@@ -38,12 +38,12 @@ module _ {X : Type 0} where
   slice_get-drop (suc n) (x ∷ xs) k zero e = absurd (omega arith)
   slice_get-drop (suc n) (x ∷ xs) k (suc m) e = slice_get-drop n xs k m (omega arith)
 
-  append_left : (xs ys : List X) (k : ℕ) → k < length xs → slice_get (xs ++ ys) k ≡ slice_get xs k
+  pub append_left : (xs ys : List X) (k : ℕ) → k < length xs → slice_get (xs ++ ys) k ≡ slice_get xs k
   append_left [] ys k h = absurd (omega arith)
   append_left (x ∷ xs) ys zero h = refl
   append_left (x ∷ xs) ys (suc k) h = append_left xs ys k (omega arith)
 
-  append_right : (xs ys : List X) (k m : ℕ) → m ≡ length xs + k → slice_get (xs ++ ys) m ≡ slice_get ys k
+  pub append_right : (xs ys : List X) (k m : ℕ) → m ≡ length xs + k → slice_get (xs ++ ys) m ≡ slice_get ys k
   append_right [] ys k m e = ap (slice_get ys) (same e)
     where
       same : m ≡ 0 + k → m ≡ k
@@ -93,7 +93,7 @@ part_length xs part start len e h =
 
 -- ---- cells of pixels
 
-abbrev spans : List Rect → List Cell → Spans
+abbrev pub spans : List Rect → List Cell → Spans
 spans rs cells = record { rects = rs; cells = cells }
 
 pub cell_none : (s : Spans) (x y : ℤ) → region_has s.rects x y ≡ false → cell_in s x y ≡ None

@@ -1,12 +1,13 @@
 -- Where the pixels of one rectangle stand.
-use Rattle.std.proofs.Common.{◌≡◌, ℕ, ◌+◌, ◌*◌, ◌<◌, ℤ, pos, negsuc, ◌+ℤ◌, ◌-ℤ◌, ◌≤ℤ◌, Bool, true, false, ◌⊎◌, inl, inr, refl, arith}
+use Rattle.std.proofs.Common.{◌≡◌, ℕ, ◌+◌, ◌*◌, ◌/◌, ◌%◌, ◌<◌, ℤ, pos, negsuc, ◌+ℤ◌, ◌-ℤ◌, ◌≤ℤ◌, ◌<ℤ◌, Bool, true, false, ◌⊎◌, inl, inr, refl, ap, ◌∙◌, arith}
 use Rattle.std.specs.Prelude.{unsigned_abs}
 use Rattle.std.proofs.lemmas.Int.{ints}
-use Rattle.std.proofs.lemmas.Nat.{mul-add-lt, same_from_place}
+use Rattle.std.proofs.lemmas.Nat.{mul-add-lt, same_from_place, div_below, div-add-mod'}
 use Rattle.std.proofs.lemmas.Bool.{and_parts}
 use Rattle.be_geom.specs.declared.rect.Rect.{Rect}
 use Rattle.be_geom.specs.Points.{between}
 use Rattle.be_geom.specs.Rects.{rect_has}
+use Rattle.be_region.specs.Regions.{IsNotEmpty}
 use Rattle.be_span.specs.Spans.{width_of, height_of, area_of, place_in}
 
 -- a test says yes or no
@@ -106,3 +107,48 @@ place_in_next r x y k h m = next (unsigned_abs (y -ℤ r.top) * width_of r) _ _ 
   where
     next : (a column column' k : ℕ) → pos column ≡ x -ℤ r.left → pos column' ≡ x +ℤ pos k -ℤ r.left → a + column' ≡ a + column + k
     next a column column' k e f = omega (arith, ints)
+
+-- the cells of the rows above one come before its own
+pub place_above : (r : Rect) (x y : ℤ) (m : ℕ) → IsIn r x y → y <ℤ (r.top +ℤ pos m) → place_in r x y < m * width_of r
+unfolding place_in
+place_above r x y m h above =
+    let c = cell_of r x y h in
+    before (row_in r y) (width_of r) (column_in r x) m (row_below (row_in r y) c.row_is) (column_below r x y _ _ _ _ h c).1
+  where
+    row_below : (row : ℕ) → pos row ≡ y -ℤ r.top → row < m
+    row_below row e = omega (arith, ints)
+
+    before : (a w b m : ℕ) → a < m → b < w → a * w + b < m * w
+    before a w b m p q = omega (arith, mul-add-lt a w b m p q)
+
+pub place_in_row : (r : Rect) (x y : ℤ) (m k : ℕ) → IsIn r x y → r.top +ℤ pos m ≡ y → r.left +ℤ pos k ≡ x → place_in r x y ≡ m * width_of r + k
+unfolding place_in
+place_in_row r x y m k h down across =
+    let c = cell_of r x y h in
+    same (row_in r y) (column_in r x) (width_of r) (row_same (row_in r y) c.row_is) (column_same (column_in r x) c.column_is)
+  where
+    row_same : (row : ℕ) → pos row ≡ y -ℤ r.top → row ≡ m
+    row_same row e = omega (arith, ints)
+
+    column_same : (column : ℕ) → pos column ≡ x -ℤ r.left → column ≡ k
+    column_same column e = omega (arith, ints)
+
+    same : (row column w : ℕ) → row ≡ m → column ≡ k → row * w + column ≡ m * w + k
+    same row column w e f = ap (λ n. n * w + column) e ∙ ap (λ n. m * w + n) f
+
+-- each of a rectangle's cells is some pixel's
+pub pixel_in_rect : (r : Rect) (n : ℕ) → IsNotEmpty r → n < area_of r → (x : ℤ) × ((y : ℤ) × ((rect_has r x y ≡ true) × (place_in r x y ≡ n)))
+unfolding area_of
+pixel_in_rect r n some less =
+    let across = some.across in
+    let wide = wide_is r across in
+    let high = high_is r some.down in
+    let some_wide : 0 < width_of r = omega (arith, ints) in
+    let row = div_below n (width_of r) (height_of r) some_wide less in
+    let column : n % width_of r < width_of r = omega arith in
+    let inside = is_in (width_of r) (height_of r) (n / width_of r) (n % width_of r) wide high row column in
+    (r.left +ℤ pos (n % width_of r), (r.top +ℤ pos (n / width_of r), (has_from r _ _ inside, place_in_row r _ _ (n / width_of r) (n % width_of r) inside refl refl ∙ div-add-mod' n (width_of r))))
+  where
+    is_in : (w h row column : ℕ) → pos w ≡ r.right -ℤ r.left +ℤ pos 1 → pos h ≡ r.bottom -ℤ r.top +ℤ pos 1 → row < h → column < w → IsIn r (r.left +ℤ pos column) (r.top +ℤ pos row)
+    is_in w h row column wide high down across =
+        record { left = omega (arith, ints); right = omega (arith, ints); top = omega (arith, ints); bottom = omega (arith, ints) }

@@ -1,5 +1,5 @@
 -- Cells laid on pixels.
-use Rattle.std.proofs.Common.{◌≡◌, ℕ, zero, suc, ◌+◌, ◌-◌, ◌<◌, ◌≤◌, ℤ, pos, ◌+ℤ◌, ◌-ℤ◌, ◌≤ℤ◌, ◌<ℤ◌, Bool, true, false, ◌||◌, ◌&&◌, ◌⊎◌, inl, inr, List, [], ◌∷◌, length, get_or, take, min, Option, Some, None, slice_get, cond, refl, sym, ap, ◌∙◌, subst, arith, add-one}
+use Rattle.std.proofs.Common.{◌≡◌, ℕ, zero, suc, ◌+◌, ◌-◌, ◌<◌, ◌≤◌, ℤ, pos, ◌+ℤ◌, ◌-ℤ◌, ◌≤ℤ◌, ◌<ℤ◌, Bool, true, false, ◌||◌, ◌⊎◌, inl, inr, List, [], ◌∷◌, length, get_or, take, min, Option, Some, None, slice_get, cond, refl, sym, ap, ◌∙◌, subst, arith, add-one}
 use Rattle.std.specs.Prelude.{unsigned_abs}
 use Rattle.std.proofs.lemmas.Int.{ints, by_lt_z}
 use Rattle.std.proofs.lemmas.Bool.{cases_lt, cond-true, cond-false, or_left, or_right, true≢false}
@@ -65,42 +65,6 @@ too_far old new least most way_x way_y x y low high a b c d far e f = apart (in_
     apart h k (inr (inr (inl far))) = let p = h.bottom in let q = k.top in omega (arith, ints)
     apart h k (inr (inr (inr far))) = let p = h.top in let q = k.bottom in omega (arith, ints)
 
--- ---- buffers made of others
-
-still : (z : ℤ) → z -ℤ pos 0 ≡ z
-still z = omega (arith, ints)
-
-found_is : (s : Spans) (x y : ℤ) → cell_in s (x -ℤ pos 0) (y -ℤ pos 0) ≡ cell_in s x y
-found_is s x y = ap (λ z. cell_in s z (y -ℤ pos 0)) (still x) ∙ ap (cell_in s x) (still y)
-
--- a part of a buffer
-pub part_cell : (s : Spans) (b : Bool) (black new : Option Cell) (x y : ℤ) → length s.cells ≡ pixels_of s.rects → black ≡ cond (region_has s.rects x y && b) (Some black_cell) None → new ≡ laid (cell_in s (x -ℤ pos 0) (y -ℤ pos 0)) black → new ≡ cond b (cell_in s x y) None
-part_cell s b black new x y whole e f = f ∙ ap (λ o. laid o black) (found_is s x y) ∙ by_cases (region_has s.rects x y) b refl e
-  where
-    by_cases : (p q : Bool) → region_has s.rects x y ≡ p → black ≡ cond (p && q) (Some black_cell) None → laid (cell_in s x y) black ≡ cond q (cell_in s x y) None
-    by_cases true true h k = let c = cell_some s x y whole h in laid_some (cell_in s x y) black c.0 black_cell c.1 k ∙ sym c.1
-    by_cases true false h k = ap (laid (cell_in s x y)) k ∙ laid_outside (cell_in s x y)
-    by_cases false true h k = ap (laid (cell_in s x y)) k ∙ laid_outside (cell_in s x y) ∙ sym (cell_none s x y h)
-    by_cases false false h k = ap (laid (cell_in s x y)) k ∙ laid_outside (cell_in s x y)
-
--- two buffers together
-pub joined_cell : (s t : Spans) (black now new : Option Cell) (x y : ℤ) → length s.cells ≡ pixels_of s.rects → length t.cells ≡ pixels_of t.rects → black ≡ cond (region_has s.rects x y || region_has t.rects x y) (Some black_cell) None → now ≡ laid (cell_in s (x -ℤ pos 0) (y -ℤ pos 0)) black → new ≡ laid (cell_in t (x -ℤ pos 0) (y -ℤ pos 0)) now → new ≡ cond (region_has t.rects x y) (cell_in t x y) (cell_in s x y)
-joined_cell s t black now new x y whole whole' e f g =
-    g ∙ ap (λ o. laid o now) (found_is t x y) ∙ ap (laid (cell_in t x y)) (f ∙ ap (λ o. laid o black) (found_is s x y)) ∙ by_cases (region_has s.rects x y) (region_has t.rects x y) refl refl e
-  where
-    by_cases : (p q : Bool) → region_has s.rects x y ≡ p → region_has t.rects x y ≡ q → black ≡ cond (p || q) (Some black_cell) None → laid (cell_in t x y) (laid (cell_in s x y) black) ≡ cond q (cell_in t x y) (cell_in s x y)
-    by_cases true true h k m =
-        let c = cell_some s x y whole h in let d = cell_some t x y whole' k in
-        laid_some (cell_in t x y) (laid (cell_in s x y) black) d.0 c.0 d.1 (laid_some (cell_in s x y) black c.0 black_cell c.1 m) ∙ sym d.1
-    by_cases true false h k m =
-        let c = cell_some s x y whole h in
-        laid_nothing (cell_in t x y) (laid (cell_in s x y) black) (cell_none t x y k) ∙ laid_some (cell_in s x y) black c.0 black_cell c.1 m ∙ sym c.1
-    by_cases false true h k m =
-        let d = cell_some t x y whole' k in
-        ap (laid (cell_in t x y)) (laid_nothing (cell_in s x y) black (cell_none s x y h)) ∙ laid_some (cell_in t x y) black d.0 black_cell d.1 m ∙ sym d.1
-    by_cases false false h k m =
-        ap (λ o. laid (cell_in t x y) (laid (cell_in s x y) o)) m ∙ ap (laid (cell_in t x y)) (laid_outside (cell_in s x y)) ∙ laid_outside (cell_in t x y) ∙ sym (cell_none s x y h)
-
 -- ---- a row
 
 pub run_none : (cells : ℕ → Option Cell) (old : Spans) (x y : ℤ) → IsLaidRun cells old old x y 0
@@ -154,7 +118,7 @@ run_at from fx fy gx gy now new x y z w n a b c d h =
     (subst (λ (v : ℤ). IsLaidRun (λ k. cell_in from (v +ℤ pos k) fy) now new x y n) a h)))
 
 -- the number of a column that isn't before the first
-column_at : (x z : ℤ) → x ≤ℤ z → (k : ℕ) × (x +ℤ pos k ≡ z)
+pub column_at : (x z : ℤ) → x ≤ℤ z → (k : ℕ) × (x +ℤ pos k ≡ z)
 column_at x z h = (unsigned_abs (z -ℤ x), sum_is (unsigned_abs (z -ℤ x)) (pos_abs (z -ℤ x) (omega (arith, ints))))
   where
     sum_is : (k : ℕ) → pos k ≡ z -ℤ x → x +ℤ pos k ≡ z

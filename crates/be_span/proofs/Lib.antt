@@ -4,3 +4,4 @@ pub mod SliceLemmas
 pub mod CellLemmas
 pub mod LaidLemmas
 pub mod MarkLemmas
+pub mod GatherLemmas

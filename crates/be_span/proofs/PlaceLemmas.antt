@@ -1,19 +1,21 @@
 -- Where the cells of pixels stand among those of all rectangles.
-use Rattle.std.proofs.Common.{◌≡◌, ℕ, zero, suc, ◌+◌, ◌<◌, ◌≤◌, ℤ, pos, ◌+ℤ◌, ◌-ℤ◌, ◌-◌, true, false, ◌||◌, ◌⊎◌, inl, inr, List, [], ◌∷◌, ◌++◌, length, get_or, take, slice_get, Option, Some, None, refl, sym, ap, ◌∙◌, arith, add-one, below_more, cond}
+use Rattle.std.proofs.Common.{◌≡◌, ℕ, zero, suc, ◌+◌, ◌<◌, ◌≤◌, ℤ, pos, ◌+ℤ◌, ◌-ℤ◌, ◌-◌, true, false, ◌||◌, ◌⊎◌, inl, inr, All, List, [], ◌∷◌, ◌++◌, length, get_or, take, slice_get, Option, Some, None, refl, sym, ap, ◌∙◌, arith, add-one, below_more, cond}
 use Rattle.std.specs.Option.{option_map}
-use Rattle.std.specs.List.{AllWithin}
+use Rattle.std.specs.List.{AllWithin, AllPairs}
 use Rattle.std.proofs.lemmas.Int.{ints}
-use Rattle.std.proofs.lemmas.Bool.{or_parts, or_left, or_right, true≢false}
+use Rattle.std.proofs.lemmas.Bool.{cases_lt, or_parts, or_left, or_right, true≢false}
 use Rattle.std.proofs.lemmas.Option.{same_Some, none-some, slice_get_within, get_or_from_slice_get}
 use Rattle.std.proofs.lemmas.List.{get_or_at}
+use Rattle.std.proofs.lemmas.List.Elements.{All-head, All-tail}
 use Rattle.std.proofs.Math.ListN.{get_or-append}
 use Rattle.be_geom.specs.declared.rect.Rect.{Rect}
 use Rattle.be_geom.specs.Rects.{rect_has}
-use Rattle.be_region.specs.Regions.{region_has}
+use Rattle.be_region.specs.Bands.{IsBefore}
+use Rattle.be_region.specs.Regions.{region_has, IsNotEmpty}
 use Rattle.be_region.specs.Places.{IsSpanAt}
 use Rattle.be_span.specs.Spans.{area_of, pixels_of, place_in, place_of}
 use Rattle.be_span.specs.Runs.{IsRunFrom}
-use Rattle.be_span.proofs.GridLemmas.{either, IsIn, in_from, has_from, place_in_below, place_in_same, place_in_next}
+use Rattle.be_span.proofs.GridLemmas.{either, IsIn, pixel_in_rect, in_from, has_from, place_in_below, place_in_same, place_in_next}
 
 -- ---- one rectangle more
 
@@ -93,6 +95,59 @@ place_at (q ∷ rs) (suc m) r x y less e none h =
     place_later q rs x y (none 0 r (omega arith) (omega arith))
     ∙ ap (later q) (place_at rs m r x y (omega arith) e (λ i d low high. none (suc i) d (omega arith) (omega arith)) h)
     ∙ ap Some (omega arith)
+
+-- ---- each cell is some pixel's
+
+apart : (r s : Rect) (x y : ℤ) → IsBefore r s → rect_has s x y ≡ true → rect_has r x y ≡ false
+apart r s x y before has =
+    elim (either (rect_has r x y)) [ inl h ↦ absurd (both (in_from r x y h) (in_from s x y has) before) | inr h ↦ h ]
+  where
+    both : IsIn r x y → IsIn s x y → IsBefore r s → ⊥
+    both a b (inl h) = let right = a.right in let left = b.left in let gap = h.2 in omega (arith, ints)
+    both a b (inr h) = let bottom = a.bottom in let top = b.top in omega (arith, ints)
+
+-- a rectangle before all others has none of their pixels
+before_all : (r : Rect) (rs : List Rect) (x y : ℤ) → ((k : ℕ) (d : Rect) → k < length rs → IsBefore r (get_or rs k d)) → region_has rs x y ≡ true → rect_has r x y ≡ false
+before_all r [] x y before has = absurd (true≢false (sym has))
+before_all r (q ∷ rs) x y before has =
+    elim (either (rect_has q x y)) [
+      | inl h ↦ apart r q x y (before 0 q (omega arith)) h
+      | inr h ↦ before_all r rs x y (λ k d less. before (suc k) d (omega arith)) (sym (ap (λ b. b || region_has rs x y) h) ∙ has)
+    ]
+
+pub pixel_of : (rs : List Rect) (n : ℕ) → All IsNotEmpty rs → AllPairs IsBefore rs → n < pixels_of rs → (x : ℤ) × ((y : ℤ) × (place_of rs x y ≡ Some n))
+pixel_of [] n full order less = absurd (omega arith)
+pixel_of (r ∷ rs) n full order less =
+    elim (cases_lt n (area_of r)) [
+      | inl h ↦
+          let found = pixel_in_rect r n (All-head IsNotEmpty r rs full) h in
+          (found.0, (found.1.0, place_first r rs found.0 found.1.0 found.1.1.0 ∙ ap Some found.1.1.1))
+      | inr h ↦
+          let rest = pixel_of rs (n - area_of r) (All-tail IsNotEmpty r rs full) (λ i j d low high. order (suc i) (suc j) d (omega arith) (omega arith)) (omega arith) in
+          let x = rest.0 in
+          let y = rest.1.0 in
+          let none = before_all r rs x y (λ k d low. order 0 (suc k) d (omega arith) (omega arith)) (place_has rs x y (n - area_of r) rest.1.1) in
+          (x, (y, place_later r rs x y none ∙ ap (later r) rest.1.1 ∙ ap Some (omega arith)))
+    ]
+
+-- which pixels have the cells of the m-th rectangle
+pub place_of_rect : (rs : List Rect) (m : ℕ) (r : Rect) (x y : ℤ) (n : ℕ) → slice_get rs m ≡ Some r → place_of rs x y ≡ Some n → pixels_of (take m rs) ≤ n → n < pixels_of (take m rs) + area_of r → (rect_has r x y ≡ true) × (n ≡ pixels_of (take m rs) + place_in r x y)
+place_of_rect [] m r x y n there e low high = absurd (none-some r there)
+place_of_rect (q ∷ rs) zero r x y n there e low high =
+    let same : q ≡ r = same_Some q r there in
+    let size = ap area_of same in
+    elim (place_parts q rs x y n e) [
+      | inl h ↦ (ap (λ s. rect_has s x y) (sym same) ∙ h.0, let is = h.1 in let at = ap (λ s. place_in s x y) same in omega arith)
+      | inr h ↦ absurd (let is = h.1.1.1 in omega arith)
+    ]
+place_of_rect (q ∷ rs) (suc m) r x y n there e low high =
+    elim (place_parts q rs x y n e) [
+      | inl h ↦ absurd (let less = place_in_below q x y (in_from q x y h.0) in let is = h.1 in omega arith)
+      | inr h ↦
+          let is = h.1.1.1 in
+          let rest = place_of_rect rs m r x y h.1.0 there h.1.1.0 (omega arith) (omega arith) in
+          (rest.0, let at = rest.1 in omega arith)
+    ]
 
 pixels_take : (rs : List Rect) (m : ℕ) (r : Rect) → m < length rs → r ≡ get_or rs m r → pixels_of (take m rs) + area_of r ≤ pixels_of rs
 pixels_take [] m r less e = absurd (omega arith)

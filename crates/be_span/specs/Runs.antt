@@ -1,6 +1,7 @@
 -- Pixels side by side in a row (this project's own).
 use Rattle.std.specs.Prelude.{◌≡◌, ◌+◌, ◌<◌, ◌≤◌, ◌⊎◌, ℕ, ℤ, pos, ◌+ℤ◌, ◌≤ℤ◌, ◌<ℤ◌, true, false, List, length, count_by, take, slice_index, Some}
 use Rattle.be_geom.specs.declared.rect.Rect.{Rect}
+use Rattle.be_region.specs.Bands.{AreBands}
 use Rattle.be_region.specs.Regions.{region_has}
 use Rattle.be_span.specs.declared.Cell.{Cell}
 use Rattle.be_span.specs.Spans.{pixels_of, place_of}
@@ -22,6 +23,7 @@ pub record IsRunFrom (rs : List Rect) (start len : ℕ) (x y : ℤ) : Type 0 whe
 
 -- what is kept of a region's cells: how many come before those of each rectangle, and how many are dirty
 pub record AreRows (rs : List Rect) (starts : List ℕ) (cells : List Cell) (dirty : ℕ) : Type 0 where
+  pub bands : AreBands rs
   pub each : length starts ≡ length rs
   pub before : (k : ℕ) → k < length rs → slice_index starts k ≡ pixels_of (take k rs)
   pub whole : length cells ≡ pixels_of rs

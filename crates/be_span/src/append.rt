@@ -3,7 +3,7 @@ ghost use Rattle.be_region.specs.Regions.{region_has, IsUnion};
 ghost use Rattle.be_span.specs.Spans.{cell_in};
 
 use crate::buffer::SpanBuf;
-use crate::carry::{STILL, lay};
+use crate::gather::gathered;
 use be_geom::NoMemory;
 use thiserror::Error;
 
@@ -45,8 +45,5 @@ fn joined(one: &SpanBuf, other: &SpanBuf) -> Result<SpanBuf, NoMemory>
 {
     let mut both = one.region().copy()?;
     both.include(other.region())?;
-    let mut whole = SpanBuf::prepare(one.allocator(), both)?;
-    lay(one, STILL, &mut whole);
-    lay(other, STILL, &mut whole);
-    Ok(whole)
+    gathered(both, one, other)
 }

@@ -3,7 +3,7 @@ ghost use Rattle.std.specs.Option.{option_map};
 ghost use Rattle.be_region.specs.Regions.{region_has};
 ghost use Rattle.be_region.specs.Bands.{AreBands};
 ghost use Rattle.be_span.specs.Spans.{cell_in, black_cell, pixels_of};
-ghost use Rattle.be_span.specs.Runs.{HasRun, IsBeside};
+ghost use Rattle.be_span.specs.Runs.{AreRows, HasRun, IsBeside};
 ghost use Rattle.be_span.specs.Slices.{source_at, painted};
 
 use crate::Cell;
@@ -54,6 +54,25 @@ impl SpanBuf {
             cells,
             dirty: 0,
         })
+    }
+
+    /// The pixels of the region with these cells, of which so many are dirty.
+    pub(crate) fn from_parts(
+        region: Region,
+        starts: Vec<usize>,
+        cells: Vec<Cell>,
+        dirty: usize,
+    ) -> SpanBuf
+        requires { AreRows region starts.items cells.items dirty }
+        ensures region { result.rects ≡ region }
+        ensures cells { result.cells ≡ cells.items }
+    {
+        SpanBuf {
+            region,
+            starts,
+            cells,
+            dirty,
+        }
     }
 
     /// The region whose pixels these are.

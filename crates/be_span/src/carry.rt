@@ -16,9 +16,6 @@ pub(crate) struct Pixel {
     pub y: i32,
 }
 
-/// Where nothing moves.
-pub(crate) const STILL: Pixel = Pixel { x: 0, y: 0 };
-
 impl SpanBuf {
     /// Gives each pixel of `to` the cell of the pixel `dx` further left and `dy` further up in
     /// `from`, where there is one. Which cells `from` has afterwards isn't said.
@@ -91,7 +88,7 @@ fn is_far(least: Pixel, way: Pixel, most: Pixel) -> bool
 }
 
 /// The same, where a pixel of the one region may come to be one of the other.
-pub(crate) fn lay(from: &SpanBuf, way: Pixel, to: &mut SpanBuf)
+fn lay(from: &SpanBuf, way: Pixel, to: &mut SpanBuf)
     requires across { IsNear way.x }
     requires down { IsNear way.y }
     ensures region { to.new.rects ≡ to.old.rects }
@@ -124,7 +121,7 @@ fn lay_rect(from: &SpanBuf, way: Pixel, to: &mut SpanBuf, rect: Rect)
 }
 
 /// The first pixel of a row of the rectangle, counted from its top.
-fn row_of(rect: Rect, row: usize) -> Pixel
+pub(crate) fn row_of(rect: Rect, row: usize) -> Pixel
     requires { (rect.top +ℤ pos row) ≤ℤ rect.bottom }
     ensures across { result.x ≡ rect.left }
     ensures down { result.y ≡ rect.top +ℤ pos row }
@@ -192,7 +189,7 @@ fn lay_run(from: &SpanBuf, source: Pixel, to: &mut SpanBuf, target: Pixel, rest:
 }
 
 /// How many pixels from one on to the right aren't in the region, at most `rest`.
-fn gap_from(spans: &SpanBuf, pixel: Pixel, rest: usize) -> usize
+pub(crate) fn gap_from(spans: &SpanBuf, pixel: Pixel, rest: usize) -> usize
     requires some { 0 < rest }
     requires outside { region_has spans.now.rects pixel.x pixel.y ≡ false }
     ensures some { 0 < result }
@@ -213,7 +210,7 @@ fn columns(x: i32, last: i32) -> usize
 }
 
 /// The pixel so many columns further right.
-fn ahead(pixel: Pixel, count: usize) -> Pixel
+pub(crate) fn ahead(pixel: Pixel, count: usize) -> Pixel
     requires low { negsuc 98303 ≤ℤ pixel.x }
     requires high { pixel.x ≤ℤ pos 98304 }
     requires few { count ≤ 65536 }

@@ -3,7 +3,7 @@ ghost use Rattle.be_region.specs.Regions.{region_has, IsIntersection};
 ghost use Rattle.be_span.specs.Spans.{cell_in};
 
 use crate::buffer::SpanBuf;
-use crate::carry::{STILL, lay};
+use crate::gather::gathered;
 use be_geom::NoMemory;
 use be_region::Region;
 
@@ -17,8 +17,6 @@ impl SpanBuf {
     {
         let mut both = self.region().copy()?;
         both.intersect(region)?;
-        let mut part = SpanBuf::prepare(self.allocator(), both)?;
-        lay(self, STILL, &mut part);
-        Ok(part)
+        gathered(both, self, self)
     }
 }

@@ -1,5 +1,6 @@
 ghost use Rattle.std.specs.Prelude.{◌≡◌, ◌<◌, ◌≤ℤ◌, ◌+ℤ◌, ◌-ℤ◌, ◌+◌, pos, unsigned_abs, ℕ, ◌^◌, false, length, take, slice_index, IfNone, IfSome, IfOk};
 ghost use Rattle.be_geom.specs.Rects.{rect_has};
+ghost use Rattle.be_region.specs.Bands.{AreBands};
 ghost use Rattle.be_region.specs.Regions.{region_has};
 ghost use Rattle.be_span.specs.Spans.{pixels_of, place_in, width_of, height_of, area_of};
 ghost use Rattle.be_span.specs.Runs.{IsRunFrom};
@@ -88,6 +89,7 @@ fn area_of(rect: Rect) -> usize
 
 /// How many cells come before those of each rectangle, and how many there are.
 pub(crate) fn starts_of(alloc: Global, region: &Region) -> Result<(Vec<usize>, usize), NoMemory>
+    ensures bands { AreBands region.now }
     ensures each { IfOk result (λ s. length s.0.items ≡ length region.now) }
     ensures before { IfOk result (λ s. (k : ℕ) → k < length region.now
         → slice_index s.0.items k ≡ pixels_of (take k region.now)) }

@@ -14,6 +14,7 @@ returns-clause-black c x y =
 
 pub invariant_of-result : goal.invariant_of-result
 invariant_of-result c = record {
+  bands = c.in_ok-starts.ensures.bands;
   each = c.in_ok-starts.ensures.each;
   before = c.in_ok-starts.ensures.before;
   whole = let count = c.in_ok-starts.ensures.whole in let len = c.in_ok-cells.ensures.len in omega arith;
