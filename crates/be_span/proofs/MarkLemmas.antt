@@ -1,9 +1,17 @@
 -- Which cells are dirty, and how many.
-use Rattle.std.proofs.Common.{◌≡◌, ℕ, zero, suc, ◌<◌, ℤ, pos, ◌+ℤ◌, Bool, true, false, cond, List, [], ◌∷◌, length, slice_get, count_by, Option, Some, None, refl, sym, ap, ◌∙◌, arith}
+use Rattle.std.proofs.Common.{◌≡◌, ℕ, zero, suc, ◌<◌, ℤ, pos, ◌+ℤ◌, ◌↔◌, IsTrue, eqb, Bool, true, false, cond, List, [], ◌∷◌, length, map, slice_get, count_by, Option, Some, None, refl, sym, ap, ◌∙◌, arith}
 use Rattle.std.specs.Prelude.{option_and_then}
 use Rattle.std.proofs.lemmas.List.Sums.{sum_by-cons}
+use Rattle.std.specs.Option.{option_map}
+use Rattle.std.proofs.lemmas.Option.{slice_get-map}
+use Rattle.std.proofs.lemmas.Bool.{eqb-true, eq-eqb}
+use Rattle.be_geom.specs.declared.rect.Rect.{Rect}
+use Rattle.be_region.specs.Bands.{AreBands}
 use Rattle.be_span.specs.declared.Cell.{Cell}
-use Rattle.be_span.specs.Spans.{Spans, place_of, cell_in, is_dirty}
+use Rattle.be_span.specs.Cells.{unmarked}
+use Rattle.be_span.specs.Spans.{Spans, pixels_of, place_of, cell_in, is_dirty}
+use Rattle.be_span.proofs.PlaceLemmas.{pixel_of}
+use Rattle.be_span.proofs.CellLemmas.{spans}
 
 abbrev mark : Bool → ℕ
 mark b = cond b 1 0
@@ -42,3 +50,42 @@ pixel_clean s x y e = at_place (place_of s.rects x y)
 pub row_clean : (s : Spans) (row : List Cell) (x y : ℤ) → ((k : ℕ) → k < length row → cell_in s (x +ℤ pos k) y ≡ slice_get row k) → count_by (λ c. c.dirty) s.cells ≡ 0 → count_by (λ c. c.dirty) row ≡ 0
 row_clean s row x y here e =
     all_clean row (λ k less. ap is_dirty (sym (here k less)) ∙ pixel_clean s (x +ℤ pos k) y e)
+
+-- where no pixel is dirty, no cell is: each is some pixel's
+pub clean_count : (s : Spans) → AreBands s.rects → length s.cells ≡ pixels_of s.rects → ((x y : ℤ) → is_dirty (cell_in s x y) ≡ false) → count_by (λ c. c.dirty) s.cells ≡ 0
+unfolding cell_in
+clean_count s bands whole h =
+    all_clean s.cells (λ k less. at_pixel k (pixel_of s.rects k bands.none_empty bands.in_order (omega arith)))
+  where
+    at_pixel : (k : ℕ) → (x : ℤ) × ((y : ℤ) × (place_of s.rects x y ≡ Some k)) → is_dirty (slice_get s.cells k) ≡ false
+    at_pixel k found =
+        ap (λ o. is_dirty (option_and_then (slice_get s.cells) o)) (sym found.1.1) ∙ h found.0 found.1.0
+
+-- the count that is kept tells it
+pub clean_test : (dirty : ℕ) (s : Spans) → AreBands s.rects → length s.cells ≡ pixels_of s.rects → dirty ≡ count_by (λ c. c.dirty) s.cells → IsTrue (eqb dirty 0) ↔ ((x y : ℤ) → is_dirty (cell_in s x y) ≡ false)
+clean_test dirty s bands whole counted =
+    (λ none x y. pixel_clean s x y (sym counted ∙ eqb-true dirty 0 none), λ h. eq-eqb dirty 0 (counted ∙ clean_count s bands whole h))
+
+-- ---- marks taken away
+
+clean_same : (o : Option Cell) → is_dirty o ≡ false → o ≡ option_map unmarked o
+clean_same None e = refl
+clean_same (Some c) e = ap (λ b. let d : Cell = record { rgb = c.rgb; dirty = b } in Some d) e
+
+pub already_clean : (s : Spans) (x y : ℤ) → count_by (λ c. c.dirty) s.cells ≡ 0 → cell_in s x y ≡ option_map unmarked (cell_in s x y)
+already_clean s x y e = clean_same (cell_in s x y) (pixel_clean s x y e)
+
+pub cell_unmarked : (rs : List Rect) (old new : List Cell) (x y : ℤ) → new ≡ map unmarked old → cell_in (spans rs new) x y ≡ option_map unmarked (cell_in (spans rs old) x y)
+unfolding cell_in
+cell_unmarked rs old new x y e = ap (λ l. option_and_then (slice_get l) (place_of rs x y)) e ∙ at_place (place_of rs x y)
+  where
+    at_place : (o : Option ℕ) → option_and_then (slice_get (map unmarked old)) o ≡ option_map unmarked (option_and_then (slice_get old) o)
+    at_place None = refl
+    at_place (Some n) = slice_get-map unmarked old n
+
+pub none_marked : (cells : List Cell) → count_by (λ c. c.dirty) (map unmarked cells) ≡ 0
+none_marked cells = all_clean (map unmarked cells) (λ k less. ap is_dirty (slice_get-map unmarked cells k) ∙ at_cell (slice_get cells k))
+  where
+    at_cell : (o : Option Cell) → is_dirty (option_map unmarked o) ≡ false
+    at_cell None = refl
+    at_cell (Some c) = refl

@@ -2,14 +2,15 @@ ghost use Rattle.std.specs.Prelude.{◌≡◌, ◌<◌, ◌↔◌, ℕ, ℤ, pos
 ghost use Rattle.std.specs.Option.{option_map};
 ghost use Rattle.be_region.specs.Regions.{region_has};
 ghost use Rattle.be_region.specs.Bands.{AreBands};
-ghost use Rattle.be_span.specs.Spans.{cell_in, black_cell, pixels_of};
+ghost use Rattle.be_span.specs.Cells.{unmarked};
+ghost use Rattle.be_span.specs.Spans.{cell_in, is_dirty, black_cell, pixels_of};
 ghost use Rattle.be_span.specs.Runs.{AreRows, HasRun, IsBeside};
 ghost use Rattle.be_span.specs.Slices.{source_at, painted};
 
 use crate::Cell;
 use crate::brush::{Brush, Source};
 use crate::places::{run_from, starts_of};
-use crate::rows::{dirty_among, dirty_of, overwrite, paint_part};
+use crate::rows::{dirty_among, dirty_of, overwrite, paint_part, unmark_all};
 use be_color::Rgb;
 use be_geom::NoMemory;
 use be_region::Region;
@@ -97,9 +98,25 @@ impl SpanBuf {
 
     /// Whether no pixel is dirty.
     pub fn is_clean(&self) -> bool
-        ensures { IsTrue result ↔ (count_by (λ c. c.dirty) self.now.cells ≡ 0) }
+        ensures count { IsTrue result ↔ (count_by (λ c. c.dirty) self.now.cells ≡ 0) }
+        ensures pixels { IsTrue result
+            ↔ ((x y : ℤ) → is_dirty (cell_in self.now x y) ≡ false) }
     {
         self.dirty == 0
+    }
+
+    /// Takes the marks of all pixels away. Where none is dirty, no cell is looked at.
+    pub fn clear_marks(&mut self)
+        ensures region { self.new.rects ≡ self.old.rects }
+        ensures cells { (x y : ℤ) → cell_in self.new x y
+            ≡ option_map unmarked (cell_in self.old x y) }
+        ensures clean { count_by (λ c. c.dirty) self.new.cells ≡ 0 }
+    {
+        if self.dirty == 0 {
+            return;
+        }
+        unmark_all(&mut self.cells);
+        self.dirty = 0;
     }
 
     /// The cell of a pixel. None outside the region.

@@ -1,5 +1,6 @@
-ghost use Rattle.std.specs.Prelude.{◌≡◌, ◌<◌, ◌≤◌, ◌+◌, ◌⊎◌, ℕ, length, slice_get, count_by};
+ghost use Rattle.std.specs.Prelude.{◌≡◌, ◌<◌, ◌≤◌, ◌+◌, ◌⊎◌, ℕ, length, map, slice_get, count_by};
 ghost use Rattle.std.specs.Option.{option_map};
+ghost use Rattle.be_span.specs.Cells.{unmarked};
 ghost use Rattle.be_span.specs.Slices.{source_at, painted};
 
 use crate::Cell;
@@ -67,4 +68,24 @@ pub(crate) fn dirty_among(cells: &[Cell]) -> usize
         count += usize::from(cell.dirty);
     }
     count
+}
+
+/// Takes the marks of all cells away.
+pub(crate) fn unmark_all(cells: &mut [Cell])
+    ensures { cells.new ≡ map unmarked cells.old }
+{
+    for cell in cells.iter_mut() {
+        *cell = unmarked(*cell);
+    }
+}
+
+/// The cell without a mark. It is stored as a whole, so that many cells are at once.
+#[inline(always)]
+fn unmarked(cell: Cell) -> Cell
+    ensures { result ≡ unmarked cell }
+{
+    Cell {
+        rgb: cell.rgb,
+        dirty: false,
+    }
 }

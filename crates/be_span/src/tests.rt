@@ -147,6 +147,22 @@ fn a_hole_moves_a_row_down(rt: HostRuntime) -> Result<(), Fail> {
     Ok(())
 }
 
+#[test]
+fn marks_are_taken_away(rt: HostRuntime) -> Result<(), Fail> {
+    let mut spans = with_a_hole(rt.alloc())?;
+    spans.clear_marks();
+    for (x, y, due) in [
+        (1, 0, None),
+        (2, 0, Some(rgb(2, 0, 0))),
+        (1, 1, Some(rgb(1, 1, 0))),
+        (2, 1, Some(rgb(2, 1, 0))),
+    ] {
+        assert_eq!(rt; color_at(&spans, x, y), due, "at {x}, {y}");
+    }
+    assert!(rt; spans.is_clean());
+    Ok(())
+}
+
 /// The second and the third column of all rows.
 fn two_columns(alloc: Global) -> Result<Region, NoMemory> {
     Region::from_rect(
