@@ -21,7 +21,8 @@ pub record IsRunFrom (rs : List Rect) (start len : ℕ) (x y : ℤ) : Type 0 whe
   pub ends : region_has rs (x +ℤ pos len) y ≡ false
   pub within : start + len ≤ pixels_of rs
 
--- what is kept of a region's cells: how many come before those of each rectangle, and how many are dirty
+-- what is kept of a region's cells: how many come before those of each rectangle, and how many are dirty; the region's
+-- rectangles are bands, so that each pixel is in one at most
 pub record AreRows (rs : List Rect) (starts : List ℕ) (cells : List Cell) (dirty : ℕ) : Type 0 where
   pub bands : AreBands rs
   pub each : length starts ≡ length rs

@@ -28,7 +28,7 @@ pub(crate) fn gathered(region: Region, under: &SpanBuf, over: &SpanBuf) -> Resul
     Ok(SpanBuf::from_parts(region, starts, cells, dirty))
 }
 
-/// How many cells are dirty that are those of two buffers. Where none of theirs is, none is looked at.
+/// How many cells from two buffers are dirty. Where none of theirs is, no cell is looked at.
 fn dirty_from(cells: &[Cell], under: &SpanBuf, over: &SpanBuf) -> usize
     requires { count_by (λ c. c.dirty) under.now.cells ≡ 0
         → count_by (λ c. c.dirty) over.now.cells ≡ 0 → count_by (λ c. c.dirty) cells.now ≡ 0 }
