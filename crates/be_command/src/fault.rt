@@ -89,8 +89,8 @@ impl Fault {
 }
 
 impl Reason {
-    // Its place in the order in which reasons are looked for.
-    fn rank(self) -> u8
+    /// Its place in the order in which reasons are looked for.
+    pub fn rank(self) -> u8
         ensures { result ≡ rank_of self }
     {
         self as u8

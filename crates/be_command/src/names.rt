@@ -95,14 +95,14 @@ impl Names {
         self.bitmaps.are_names();
     }
 
-    /// The number of a window.
+    /// The number of a window. None where it has no such name.
     pub fn window(&self, name: &[u8]) -> Option<u16>
         ensures { result ≡ number_in self.now.windows name.now }
     {
         self.windows.number(name, 0)
     }
 
-    /// The number of a view; 0 is the root.
+    /// The number of a view, 0 of the root. None where it has no such name.
     pub fn view(&self, name: &[u8]) -> Option<u16>
         ensures { result ≡ number_in self.now.views name.now }
     {
@@ -113,7 +113,7 @@ impl Names {
         beside_the_root.number(name, 1)
     }
 
-    /// The number of a bitmap.
+    /// The number of a bitmap. None where it has no such name.
     pub fn bitmap(&self, name: &[u8]) -> Option<u16>
         ensures { result ≡ number_in self.now.bitmaps name.now }
     {

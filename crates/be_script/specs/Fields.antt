@@ -16,13 +16,13 @@ use Rattle.be_message.specs.Messages.{Datum, bool, int, text, point, rect, messa
 -- ---- a value, with numbers of any size
 
 -- the two or four numbers between commas
-abbrev point_in : List (List ℕ) → Option Datum
+abbrev pub point_in : List (List ℕ) → Option Datum
 point_in [] = None
 point_in (x ∷ []) = None
 point_in (x ∷ y ∷ []) = Some (point (record { x = number_of x; y = number_of y }))
 point_in (x ∷ y ∷ z ∷ more) = None
 
-abbrev rect_in : List (List ℕ) → Option Datum
+abbrev pub rect_in : List (List ℕ) → Option Datum
 rect_in [] = None
 rect_in (l ∷ []) = None
 rect_in (l ∷ t ∷ []) = None
@@ -32,24 +32,24 @@ rect_in (l ∷ t ∷ r ∷ b ∷ []) =
 rect_in (l ∷ t ∷ r ∷ b ∷ c ∷ more) = None
 
 -- what stands between the commas, where each is a number
-abbrev numbers_in : List ℕ → List (List ℕ)
+abbrev pub numbers_in : List ℕ → List (List ℕ)
 numbers_in bytes = slice_split (λ b. b == 44) bytes
 
-abbrev of_numbers : (List (List ℕ) → Option Datum) → List ℕ → Option Datum
+abbrev pub of_numbers : (List (List ℕ) → Option Datum) → List ℕ → Option Datum
 of_numbers read bytes = if list_all is_number (numbers_in bytes) then read (numbers_in bytes) else None
 
 -- a text has at most 1,024 bytes
-abbrev text_in : List ℕ → Option Datum
+abbrev pub text_in : List ℕ → Option Datum
 text_in bytes = if nat_le (length bytes) 1024 then Some (text bytes) else None
 
-abbrev int_in : List ℕ → Option Datum
+abbrev pub int_in : List ℕ → Option Datum
 int_in bytes = if is_number bytes then Some (int (number_of bytes)) else None
 
-abbrev truth_in : List ℕ → Option Datum
+abbrev pub truth_in : List ℕ → Option Datum
 truth_in bytes = if bytes_eq bytes (codes "true") then Some (bool true) else if bytes_eq bytes (codes "false") then Some (bool false) else None
 
 -- by the letter in front and the colon behind it
-abbrev datum_of : List ℕ → Option Datum
+abbrev pub datum_of : List ℕ → Option Datum
 datum_of bytes =
     if bytes_eq (take 2 bytes) (codes "b:") then truth_in (drop 2 bytes)
     else if bytes_eq (take 2 bytes) (codes "i:") then int_in (drop 2 bytes)
@@ -61,15 +61,15 @@ datum_of bytes =
 -- ---- a word
 
 -- a word with a name: `cur`, or a value
-abbrev named_word : Bool → List ℕ → List ℕ → Option Word
+abbrev pub named_word : Bool → List ℕ → List ℕ → Option Word
 named_word has_message name bytes =
     if bytes_eq bytes (codes "cur") then (if has_message then Some (current name) else None) else option_map (value name) (datum_of bytes)
 
-abbrev with_name : Bool → List ℕ × List ℕ → Option Word
+abbrev pub with_name : Bool → List ℕ × List ℕ → Option Word
 with_name has_message cut = if is_field_name cut.0 then named_word has_message cut.0 cut.1 else None
 
 -- all values of a field of the current message
-abbrev copied_word : Bool → List ℕ → Option Word
+abbrev pub copied_word : Bool → List ℕ → Option Word
 copied_word has_message name = if has_message && is_field_name name then Some (copied name) else None
 
 -- the word of a draft that a word of the line is; the current message is there in the body of a handler alone
@@ -87,7 +87,7 @@ all_there (None ∷ more) = None
 all_there (Some x ∷ more) = option_map (λ xs. x ∷ xs) (all_there more)
 
 -- the numbers of a value are in their ranges
-abbrev is_datum_in_range : Datum → Bool
+abbrev pub is_datum_in_range : Datum → Bool
 is_datum_in_range (bool b) = true
 is_datum_in_range (int z) = between (negsuc 2147483647) z (pos 2147483647)
 is_datum_in_range (text t) = true
@@ -95,16 +95,16 @@ is_datum_in_range (point p) = in_range p.x && in_range p.y
 is_datum_in_range (rect r) = in_range r.left && in_range r.top && in_range r.right && in_range r.bottom
 is_datum_in_range (message what fs) = true
 
-abbrev is_in_range : Word → Bool
+abbrev pub is_in_range : Word → Bool
 is_in_range (value name datum) = is_datum_in_range datum
 is_in_range (current name) = true
 is_in_range (copied name) = true
 
-abbrev ranged : List Word → Result (List Word) Reason
+abbrev pub ranged : List Word → Result (List Word) Reason
 ranged words = if list_all is_in_range words then Ok words else Err Range
 
 -- words that go together, and then numbers in their ranges
-abbrev together : Option (List Word) → Result (List Word) Reason
+abbrev pub together : Option (List Word) → Result (List Word) Reason
 together (Some words) = if all_go_together words then ranged words else Err Shape
 together None = Err Shape
 

@@ -8,13 +8,18 @@ use Rattle.be_command.specs.declared.fault.Reason.TheVariants.{Place, NotHere}
 use Rattle.be_command.specs.declared.first_word.FirstWord.{FirstWord}
 use Rattle.be_command.specs.declared.first_word.FirstWord.TheVariants as first
 use Rattle.be_command.specs.Forms.{first_word_of}
+use Rattle.be_script.specs.declared.site.Seat.{Seat}
+use Rattle.be_script.specs.declared.site.Seat.TheVariants as seat
+use Rattle.be_script.specs.declared.site.Site.{Site}
+use Rattle.be_script.specs.declared.site.Site.TheVariants as site
 use Rattle.be_script.specs.declared.statement.Statement.{Statement}
 use Rattle.be_script.specs.declared.statement.Statement.TheVariants as statement
 
 -- ---- the words
 
-abbrev pub statement_words : List (List ℕ × Statement)
-statement_words =
+-- what is declared, and what comes in
+abbrev pub declaration_words : List (List ℕ × Statement)
+declaration_words =
     (codes "screen", statement.Screen)
     ∷ (codes "bitmap", statement.Bitmap)
     ∷ (codes "row", statement.Row)
@@ -30,7 +35,12 @@ statement_words =
     ∷ (codes "point", statement.Point)
     ∷ (codes "key", statement.Key)
     ∷ (codes "after", statement.After)
-    ∷ (codes "end", statement.End)
+    ∷ []
+
+-- what stands in bodies and programs, beside commands
+abbrev pub instruction_words : List (List ℕ × Statement)
+instruction_words =
+    (codes "end", statement.End)
     ∷ (codes "note", statement.Note)
     ∷ (codes "post", statement.Post)
     ∷ (codes "send", statement.Send)
@@ -42,36 +52,19 @@ statement_words =
     ∷ (codes "sync", statement.Sync)
     ∷ []
 
+abbrev pub in_body : List ℕ → Option Statement
+in_body word = option_or (lookup (bytes_eq word) instruction_words) (option_map statement.Command (first_word_of word))
+
 -- one of these, or the first word of a command
 unfoldable pub statement_of : List ℕ → Option Statement
-statement_of word = option_or (lookup (bytes_eq word) statement_words) (option_map statement.Command (first_word_of word))
+statement_of word = option_or (lookup (bytes_eq word) declaration_words) (in_body word)
 
 -- ---- where they stand
 
--- between which lines one stands
-pub data Site : Type 0 where
-  -- before the screen's line
-  at_start : Site
-  -- behind it, and outside of all that is closed later
-  outside : Site
-  -- where rows of a bitmap are missing
-  among_rows : Site
-  -- in the body of a handler, in a Draw body, and in a program without a lock and under one
-  in_handler : Site
-  in_draw : Site
-  in_program : Site
-  under_lock : Site
-
--- where a statement has its place
-pub data Seat : Type 0 where
-  -- the screen's
-  first_line : Seat
-  -- outside of all that is closed later
-  apart : Seat
-  -- a row's
-  a_row : Seat
-  -- in bodies and programs, and in which of them: bodies of handlers, Draw bodies, programs without a lock and under one
-  inside : Bool → Bool → Bool → Bool → Seat
+-- in which bodies and programs an instruction may stand: bodies of handlers, Draw bodies, programs without a lock and
+-- under one
+abbrev pub inside : Bool → Bool → Bool → Bool → Seat
+inside h d p l = seat.Inside (record { in_handler = h; in_draw = d; in_program = p; under_lock = l })
 
 -- a command of the first group, which a Draw body may have: it draws, or sets what drawing goes by
 abbrev pub is_of_drawing : FirstWord → Bool
@@ -104,21 +97,21 @@ is_of_drawing first.Close = false
 
 -- the table of places
 abbrev pub seat_of : Statement → Seat
-seat_of statement.Screen = first_line
-seat_of statement.Bitmap = apart
-seat_of statement.Row = a_row
-seat_of statement.Window = apart
-seat_of statement.View = apart
-seat_of statement.Handler = apart
-seat_of statement.Filter = apart
-seat_of statement.On = apart
-seat_of statement.Draw = apart
-seat_of statement.App = apart
-seat_of statement.Press = apart
-seat_of statement.Release = apart
-seat_of statement.Point = apart
-seat_of statement.Key = apart
-seat_of statement.After = apart
+seat_of statement.Screen = seat.FirstLine
+seat_of statement.Bitmap = seat.Apart
+seat_of statement.Row = seat.ARow
+seat_of statement.Window = seat.Apart
+seat_of statement.View = seat.Apart
+seat_of statement.Handler = seat.Apart
+seat_of statement.Filter = seat.Apart
+seat_of statement.On = seat.Apart
+seat_of statement.Draw = seat.Apart
+seat_of statement.App = seat.Apart
+seat_of statement.Press = seat.Apart
+seat_of statement.Release = seat.Apart
+seat_of statement.Point = seat.Apart
+seat_of statement.Key = seat.Apart
+seat_of statement.After = seat.Apart
 seat_of statement.End = inside true true true false
 seat_of statement.Note = inside true true true true
 seat_of statement.Post = inside true false true true
@@ -161,45 +154,45 @@ as_command statement.Sync = statement.Sync
 as_command (statement.Command word) = statement.Command word
 
 abbrev pub meant : Site → Statement → Statement
-meant at_start s = s
-meant outside s = s
-meant among_rows s = s
-meant in_handler s = as_command s
-meant in_draw s = as_command s
-meant in_program s = as_command s
-meant under_lock s = as_command s
+meant site.AtStart s = s
+meant site.Outside s = s
+meant site.AmongRows s = s
+meant site.InHandler s = as_command s
+meant site.InDraw s = as_command s
+meant site.InProgram s = as_command s
+meant site.UnderLock s = as_command s
 
 -- a statement of bodies that this one doesn't allow
-abbrev unless_allowed : Bool → Option Reason
+abbrev pub unless_allowed : Bool → Option Reason
 unless_allowed allowed = if allowed then None else Some NotHere
 
 -- why a statement may not stand somewhere, where it may not
 abbrev pub misplaced : Site → Seat → Option Reason
-misplaced at_start first_line = None
-misplaced at_start apart = Some Place
-misplaced at_start a_row = Some Place
-misplaced at_start (inside h d p l) = Some Place
-misplaced outside first_line = Some Place
-misplaced outside apart = None
-misplaced outside a_row = Some Place
-misplaced outside (inside h d p l) = Some Place
-misplaced among_rows first_line = Some Place
-misplaced among_rows apart = Some Place
-misplaced among_rows a_row = None
-misplaced among_rows (inside h d p l) = Some Place
-misplaced in_handler first_line = Some Place
-misplaced in_handler apart = Some Place
-misplaced in_handler a_row = Some Place
-misplaced in_handler (inside h d p l) = unless_allowed h
-misplaced in_draw first_line = Some Place
-misplaced in_draw apart = Some Place
-misplaced in_draw a_row = Some Place
-misplaced in_draw (inside h d p l) = unless_allowed d
-misplaced in_program first_line = Some Place
-misplaced in_program apart = Some Place
-misplaced in_program a_row = Some Place
-misplaced in_program (inside h d p l) = unless_allowed p
-misplaced under_lock first_line = Some Place
-misplaced under_lock apart = Some Place
-misplaced under_lock a_row = Some Place
-misplaced under_lock (inside h d p l) = unless_allowed l
+misplaced site.AtStart seat.FirstLine = None
+misplaced site.AtStart seat.Apart = Some Place
+misplaced site.AtStart seat.ARow = Some Place
+misplaced site.AtStart (seat.Inside allowed) = Some Place
+misplaced site.Outside seat.FirstLine = Some Place
+misplaced site.Outside seat.Apart = None
+misplaced site.Outside seat.ARow = Some Place
+misplaced site.Outside (seat.Inside allowed) = Some Place
+misplaced site.AmongRows seat.FirstLine = Some Place
+misplaced site.AmongRows seat.Apart = Some Place
+misplaced site.AmongRows seat.ARow = None
+misplaced site.AmongRows (seat.Inside allowed) = Some Place
+misplaced site.InHandler seat.FirstLine = Some Place
+misplaced site.InHandler seat.Apart = Some Place
+misplaced site.InHandler seat.ARow = Some Place
+misplaced site.InHandler (seat.Inside allowed) = unless_allowed allowed.in_handler
+misplaced site.InDraw seat.FirstLine = Some Place
+misplaced site.InDraw seat.Apart = Some Place
+misplaced site.InDraw seat.ARow = Some Place
+misplaced site.InDraw (seat.Inside allowed) = unless_allowed allowed.in_draw
+misplaced site.InProgram seat.FirstLine = Some Place
+misplaced site.InProgram seat.Apart = Some Place
+misplaced site.InProgram seat.ARow = Some Place
+misplaced site.InProgram (seat.Inside allowed) = unless_allowed allowed.in_program
+misplaced site.UnderLock seat.FirstLine = Some Place
+misplaced site.UnderLock seat.Apart = Some Place
+misplaced site.UnderLock seat.ARow = Some Place
+misplaced site.UnderLock (seat.Inside allowed) = unless_allowed allowed.under_lock

@@ -5,7 +5,7 @@ use Rattle.be_command.specs.declared.fault.Reason.TheVariants.{TooLong, LongLine
 use Rattle.be_lex.specs.Lines.{Line, lines_of, text_of, is_printable}
 use Rattle.be_lex.specs.Words.{words_of, is_passed_over}
 use Rattle.be_script.specs.declared.statement.Statement.{Statement}
-use Rattle.be_script.specs.FirstWords.{Site, statement_of, seat_of, meant, misplaced}
+use Rattle.be_script.specs.FirstWords.{statement_of, seat_of, meant, misplaced}
 use Rattle.be_script.specs.Forms.{Form, Deed, form_of}
 use Rattle.be_script.specs.Judging.{done}
 use Rattle.be_script.specs.Kinds.{At, said_all, said_as}

@@ -33,7 +33,8 @@ use Rattle.be_message.specs.declared.target.Target.{Target}
 use Rattle.be_message.specs.declared.target.Target.TheVariants as target
 use Rattle.be_script.specs.Fields.{fields_said}
 use Rattle.be_script.specs.Limits.{is_frame}
-use Rattle.be_script.specs.Options.{Options, options_said}
+use Rattle.be_script.specs.declared.options.Options.{Options}
+use Rattle.be_script.specs.Options.{options_said}
 use Rattle.be_script.specs.SoFar.{SoFar, bitmap_names, window_names, app_names, view_names, plain_names, known_in, window_of, row_width, has_message}
 
 pub data Kind : Type 0 where
@@ -134,10 +135,11 @@ behind count at = record at { words = drop count at.words }
 -- ---- one word
 
 -- a name beside these: none of the four that mean something everywhere
+abbrev pub new_named : Bool → List ℕ → Result (List ℕ) Reason
+new_named is_there word = if is_name word then (if is_reserved_name word || is_there then Err NameTaken else Ok word) else Err Shape
+
 abbrev pub new_name : List (List ℕ) → List ℕ → Result (List ℕ) Reason
-new_name names word =
-    if is_name word then (if is_reserved_name word || list_any (λ other. bytes_eq other word) names then Err NameTaken else Ok word)
-    else Err Shape
+new_name names word = new_named (list_any (λ other. bytes_eq other word) names) word
 
 -- the names of a window's handlers
 abbrev pub handler_names : SoFar → Option ℕ → List (List ℕ)
@@ -244,7 +246,7 @@ abbrev rule_length : Option (List ℕ) → ℕ
 rule_length (Some word) = if bytes_eq word (codes "redirect") then 2 else 1
 rule_length None = 1
 
-abbrev color_or_white : Option (List ℕ) → Result Color Reason
+abbrev pub color_or_white : Option (List ℕ) → Result Color Reason
 color_or_white (Some word) = formed (color_of word)
 color_or_white None = Ok (Solid (record { red = 255; green = 255; blue = 255 }))
 
@@ -315,7 +317,7 @@ SaidAll [] = Unit {0}
 SaidAll (kind ∷ kinds) = Said kind × SaidAll kinds
 
 -- no word is left
-abbrev ended : List (List ℕ) → Result (Unit {0}) Reason
+abbrev pub ended : List (List ℕ) → Result (Unit {0}) Reason
 ended [] = Ok tt
 ended (word ∷ words) = Err Shape
 

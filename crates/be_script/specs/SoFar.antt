@@ -13,7 +13,8 @@ use Rattle.be_script.specs.declared.HandlerLine.{HandlerLine}
 use Rattle.be_script.specs.declared.InputLine.{InputLine}
 use Rattle.be_script.specs.declared.ViewLine.{ViewLine}
 use Rattle.be_script.specs.declared.WindowLine.{WindowLine}
-use Rattle.be_script.specs.FirstWords.{Site, at_start, outside, among_rows, in_handler, in_draw, in_program, under_lock}
+use Rattle.be_script.specs.declared.site.Site.{Site}
+use Rattle.be_script.specs.declared.site.Site.TheVariants as site
 use Rattle.be_script.specs.Script.{Declared}
 
 -- what was begun, and isn't closed
@@ -77,18 +78,18 @@ declared_in said size = record {
 -- ---- where the next line stands
 
 abbrev by_lock : Option ℕ → Site
-by_lock None = in_program
-by_lock (Some w) = under_lock
+by_lock None = site.InProgram
+by_lock (Some w) = site.UnderLock
 
 abbrev behind_screen : Begun → Site
-behind_screen nothing = outside
-behind_screen (bitmap name width height colors) = among_rows
-behind_screen (handler_body w target what steps) = in_handler
-behind_screen (draw_body w v steps) = in_draw
+behind_screen nothing = site.Outside
+behind_screen (bitmap name width height colors) = site.AmongRows
+behind_screen (handler_body w target what steps) = site.InHandler
+behind_screen (draw_body w v steps) = site.InDraw
 behind_screen (program name lock steps) = by_lock lock
 
 abbrev by_screen : Option (ℕ × ℕ) → Begun → Site
-by_screen None begun = at_start
+by_screen None begun = site.AtStart
 by_screen (Some size) begun = behind_screen begun
 
 abbrev pub site_of : SoFar → Site

@@ -1,0 +1,5 @@
+pub mod FieldLemmas
+pub mod OptionLemmas
+pub mod SplitLemmas
+pub mod StandingLemmas
+pub mod TakesLemmas
