@@ -3,3 +3,9 @@ pub mod OptionLemmas
 pub mod SplitLemmas
 pub mod StandingLemmas
 pub mod TakesLemmas
+pub mod WorkSums
+pub mod WorkUpdates
+pub mod WorkNumbers
+pub mod WorkChains
+pub mod WorkTable
+pub mod WorkInput

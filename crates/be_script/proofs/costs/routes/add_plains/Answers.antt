@@ -1,0 +1,19 @@
+-- A line gets its window a plain handler.
+use Rattle.be_script.specs.Script.{declared_by}
+use Rattle.be_script.proofs.WorkChains.{plain-within, plain-fits, plain-step}
+use Rattle.be_script.proofs.costs.routes.add_plains.Goals as goal
+
+pub bounds-windows-from : goal.bounds-windows-from
+bounds-windows-from c =
+    plain-within (declared_by c.args.script.now) c.loop-line.windows c.deref-line-items.result.now c.loop-line.line-index c.from.result c.line-item.result
+    c.requires.routable c.loop-line.invariant c.deref-line-items.ensures.value c.loop-line-test.true c.line-item.is c.from.ensures
+
+pub add_plain-requires : goal.add_plain-requires
+add_plain-requires c =
+    plain-fits (declared_by c.args.script.now) c.loop-line.windows c.deref-line-items.result.now c.loop-line.line-index c.from.result c.line-item.result c.index-windows-from.result
+    c.requires.routable c.loop-line.invariant c.deref-line-items.ensures.value c.loop-line-test.true c.line-item.is c.from.ensures
+
+pub loop-line-preserved : goal.loop-line-preserved
+loop-line-preserved c =
+    plain-step (declared_by c.args.script.now) c.loop-line.windows c.deref-line-items.result.now c.loop-line.line-index c.from.result c.line-item.result c.index-windows-from.result c.add_plain.new.self
+    c.requires.routable c.loop-line.invariant c.deref-line-items.ensures.value c.loop-line-test.true c.line-item.is c.from.ensures c.in_ok-add_plain.ensures

@@ -1,0 +1,8 @@
+-- The plain handlers so far.
+use Rattle.be_script.specs.Routable.{handlers_before}
+use Rattle.be_script.specs.Routes.{HasChains}
+use Rattle.be_script.specs.Script.{declared_by}
+use Rattle.be_script.proofs.costs.routes.add_plains.Given as goal
+
+abbrev pub invariant-loop-line : goal.invariant-loop-line
+invariant-loop-line l = HasChains (handlers_before (declared_by l.script) l.line-index) l.windows

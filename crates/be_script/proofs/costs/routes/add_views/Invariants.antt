@@ -1,0 +1,8 @@
+-- The views so far.
+use Rattle.be_script.specs.Routable.{views_before}
+use Rattle.be_script.specs.Routes.{HasChains}
+use Rattle.be_script.specs.Script.{declared_by}
+use Rattle.be_script.proofs.costs.routes.add_views.Given as goal
+
+abbrev pub invariant-loop-line : goal.invariant-loop-line
+invariant-loop-line l = HasChains (views_before (declared_by l.script) l.line-index) l.windows
