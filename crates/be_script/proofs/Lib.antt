@@ -9,3 +9,4 @@ pub mod WorkNumbers
 pub mod WorkChains
 pub mod WorkTable
 pub mod WorkInput
+pub mod RoutableLemmas

@@ -6,6 +6,7 @@ ghost use Rattle.be_script.specs.Work.{work_of};
 mod body_numbers;
 mod commands;
 mod input;
+mod law;
 mod routes;
 mod steps;
 mod table;
@@ -13,6 +14,7 @@ mod updates;
 
 use crate::Script;
 use be_geom::NoMemory;
+pub use law::limits_make_routable;
 use std::alloc::Global;
 
 /// A bound on the entries of all histories of a script. It costs a few steps for each line, each instruction
