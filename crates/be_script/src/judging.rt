@@ -150,7 +150,11 @@ pub(crate) fn note(word: Option<&[u8]>) -> Result<&[u8], Reason>
         ≡ judged note_said (option_map (λ w. w.now) word.entry) }
 {
     let word = word.ok_or(Reason::Shape)?;
-    if word.len() <= 32 { Ok(word) } else { Err(Reason::Shape) }
+    if word.len() <= 32 {
+        Ok(word)
+    } else {
+        Err(Reason::Shape)
+    }
 }
 
 /// The same within 0 and more.
@@ -165,5 +169,9 @@ pub(crate) fn natural(word: Option<&[u8]>, low: u16, high: u16) -> Result<u16, R
 pub(crate) fn first_of(one: Reason, other: Reason) -> Reason
     ensures { result ≡ first_of one other }
 {
-    if other.rank() < one.rank() { other } else { one }
+    if other.rank() < one.rank() {
+        other
+    } else {
+        one
+    }
 }

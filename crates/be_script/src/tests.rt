@@ -16,7 +16,10 @@ fn a_line_begins_with_a_statement(rt: HostRuntime) {
         (b"screen".as_slice(), Some(Statement::Screen)),
         (b"bitmap".as_slice(), Some(Statement::Bitmap)),
         (b"sync".as_slice(), Some(Statement::Sync)),
-        (b"fill".as_slice(), Some(Statement::Command(FirstWord::Fill))),
+        (
+            b"fill".as_slice(),
+            Some(Statement::Command(FirstWord::Fill)),
+        ),
         (b"Screen".as_slice(), None),
         (b"version".as_slice(), None),
     ] {
@@ -40,7 +43,11 @@ fn a_statement_has_its_places(rt: HostRuntime) {
         (Site::InHandler, Statement::Reply, None),
         (Site::InHandler, Statement::Send, Some(Reason::NotHere)),
         (Site::InDraw, Statement::Command(FirstWord::Fill), None),
-        (Site::InDraw, Statement::Command(FirstWord::Show), Some(Reason::NotHere)),
+        (
+            Site::InDraw,
+            Statement::Command(FirstWord::Show),
+            Some(Reason::NotHere),
+        ),
         (Site::InProgram, Statement::End, None),
         (Site::InProgram, Statement::Unlock, Some(Reason::NotHere)),
         (Site::UnderLock, Statement::Unlock, None),
@@ -85,7 +92,11 @@ fn options_stand_once(rt: HostRuntime) {
 }
 
 /// What the words say: how many fields they have, or what is wrong with them.
-fn fields_in(rt: &HostRuntime, text: &[u8], has_message: bool) -> Result<Result<usize, Reason>, Fail> {
+fn fields_in(
+    rt: &HostRuntime,
+    text: &[u8],
+    has_message: bool,
+) -> Result<Result<usize, Reason>, Fail> {
     let mut words = Words::of(text);
     Ok(read_fields(rt.alloc(), &mut words, has_message)?.map(|fields| fields.len()))
 }
@@ -94,7 +105,10 @@ fn fields_in(rt: &HostRuntime, text: &[u8], has_message: bool) -> Result<Result<
 fn fields_go_together(rt: HostRuntime) -> Result<(), Fail> {
     for (text, want) in [
         (b"".as_slice(), Ok(0)),
-        (b"a=i:5 b=s: c=b:true d=p:1,-2 e=r:0,0,3,4".as_slice(), Ok(5)),
+        (
+            b"a=i:5 b=s: c=b:true d=p:1,-2 e=r:0,0,3,4".as_slice(),
+            Ok(5),
+        ),
         (b"a=i:1 a=i:2".as_slice(), Ok(2)),
         (b"a=i:1 a=s:x".as_slice(), Err(Reason::Shape)),
         (b"a=i:2147483648".as_slice(), Err(Reason::Range)),
@@ -120,7 +134,9 @@ fn fields_go_together(rt: HostRuntime) -> Result<(), Fail> {
 #[test]
 fn a_field_keeps_its_value(rt: HostRuntime) -> Result<(), Fail> {
     let mut words = Words::of(b"n=i:-7");
-    let fields = read_fields(rt.alloc(), &mut words, false)?.ok().ok_or("no fields")?;
+    let fields = read_fields(rt.alloc(), &mut words, false)?
+        .ok()
+        .ok_or("no fields")?;
     assert_eq!(rt; fields.len(), 1);
     match &fields[0] {
         FieldWord::Value(name, value) => {
@@ -150,8 +166,14 @@ fn the_reason_looked_for_first_counts(rt: HostRuntime) {
         (b"0 0 9 9 hcenter vcenter 00ff00".as_slice(), None),
         (b"0 0 9 9 left".as_slice(), Some(Reason::Shape)),
         (b"0 0 9 99999 left top".as_slice(), Some(Reason::Range)),
-        (b"0 0 9 99999 left top green".as_slice(), Some(Reason::Shape)),
-        (b"0 0 9 9 left top 00ff00 more".as_slice(), Some(Reason::Shape)),
+        (
+            b"0 0 9 99999 left top green".as_slice(),
+            Some(Reason::Shape),
+        ),
+        (
+            b"0 0 9 9 left top 00ff00 more".as_slice(),
+            Some(Reason::Shape),
+        ),
         (b"0 0 9 -0 left top".as_slice(), Some(Reason::Shape)),
     ] {
         assert_eq!(rt; reason_of_a_frame(text), want);
