@@ -10,3 +10,4 @@ pub mod WorkChains
 pub mod WorkTable
 pub mod WorkInput
 pub mod RoutableLemmas
+pub mod PlainLemmas

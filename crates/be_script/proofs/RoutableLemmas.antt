@@ -30,11 +30,11 @@ use Rattle.be_script.proofs.WorkNumbers.{and-left, and-right, through_map}
 
 -- ---- tests
 
-and-both : (a b : Bool) → a ≡ true → b ≡ true → (a && b) ≡ true
+pub and-both : (a b : Bool) → a ≡ true → b ≡ true → (a && b) ≡ true
 and-both true b h k = k
 and-both false b h k = h
 
-all-at : {X : Type 0} (p : X → Bool) (xs : List X) (k : ℕ) (x : X) → list_all p xs ≡ true → slice_get xs k ≡ Some x → p x ≡ true
+pub all-at : {X : Type 0} (p : X → Bool) (xs : List X) (k : ℕ) (x : X) → list_all p xs ≡ true → slice_get xs k ≡ Some x → p x ≡ true
 all-at p [] k x h at = cc
 all-at p (y ∷ ys) zero x h at =
     let same : y ≡ x = cc in
@@ -152,7 +152,7 @@ next_there d w n c (View v) p q h = ap (nat_lt v) p ∙ h
 next_there d w n c (Plain k) p q h = ap (nat_lt k) q ∙ h
 
 -- the views of a chain that has all of them
-parents-count : (d : Declared) (w : ℕ) → length (chain_of d w).parents ≡ view_count d w
+pub parents-count : (d : Declared) (w : ℕ) → length (chain_of d w).parents ≡ view_count d w
 unfolding chain_of
 parents-count d w =
     let count : length (map (λ other. let o : Option ℕ = Some other.parent in o) (view_lines d w)) ≡ length (view_lines d w) = length-map (view_lines d w) (λ other. let o : Option ℕ = Some other.parent in o) in
@@ -218,7 +218,7 @@ listed_count w list (x ∷ lines) =
     listed_one (λ other. same_list other.list list) (λ f. is_in_list list f.list) (x.window == w) x (filter (λ line. line.window == w) lines)
     (filter (λ other. other.window == w && same_list other.list list) lines) (sym (in_list x.list list)) (listed_count w list lines)
 
-listed-is : (d : Declared) (k w : ℕ) (list : Option Target) →
+pub listed-is : (d : Declared) (k w : ℕ) (list : Option Target) →
     length (listed (chain_of (filters_before d k) w) list) ≡ length (filter (λ other. other.window == w && same_list other.list list) (take k d.filters))
 unfolding chain_of
 listed-is d k w list = listed_count w list (take k d.filters)
@@ -249,15 +249,15 @@ none_kept : {X : Type 0} (p : X → Bool) (xs : List X) → length (filter p xs)
 none_kept p [] h = refl
 none_kept p (x ∷ xs) h = one_kept (p x) x (filter p xs) (list_any p xs) (none_kept p xs) h
 
-not-false : (b : Bool) → b ≡ false → not b ≡ true
+pub not-false : (b : Bool) → b ≡ false → not b ≡ true
 not-false true h = sym h
 not-false false h = refl
 
-bodies-count : (d : Declared) (w : ℕ) → length (chain_of d w).bodies ≡ length (body_lines d w)
+pub bodies-count : (d : Declared) (w : ℕ) → length (chain_of d w).bodies ≡ length (body_lines d w)
 unfolding chain_of
 bodies-count d w = length-map (body_lines d w) declared_body
 
-has_body-any : (d : Declared) (w : ℕ) (t : Target) (what : ℕ) →
+pub has_body-any : (d : Declared) (w : ℕ) (t : Target) (what : ℕ) →
     has_body (chain_of d w) what t ≡ list_any (λ line. same_target line.target t && line.what == what) (body_lines d w)
 unfolding chain_of
 has_body-any d w t what = through_map (λ b. same_target b.target t && b.what == what) declared_body (body_lines d w)

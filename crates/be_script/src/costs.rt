@@ -7,9 +7,13 @@ mod body_numbers;
 mod commands;
 mod input;
 mod law;
+#[cfg(test)]
+mod plain;
 mod routes;
 mod steps;
 mod table;
+#[cfg(test)]
+mod tests;
 mod updates;
 
 use crate::Script;
