@@ -1,6 +1,6 @@
 -- A script that keeps its limits can be routed.
 use Rattle.std.proofs.Common.{◌≡◌, ℕ, zero, suc, ◌+◌, ◌<◌, ◌≤◌, ◌==◌, Bool, true, false, cond, ◌&&◌, ◌||◌, not, List, [], ◌∷◌, ◌++◌, length, take, filter, map, Option, Some, None, refl, ap, sym, ◌∙◌, subst, arith, ltb-true, eq-eqb, length-append}
-use Rattle.std.specs.Prelude.{slice_get, nat_lt, nat_le}
+use Rattle.std.specs.Prelude.{slice_get, nat_lt}
 use Rattle.std.specs.List.{list_all, list_any, range_with_len}
 use Rattle.std.proofs.lemmas.Bool.{lt-ltb, leb-true}
 use Rattle.std.proofs.lemmas.List.{length-map}
@@ -11,7 +11,7 @@ use Rattle.be_handler.specs.declared.Rule.{Rule}
 use Rattle.be_handler.specs.declared.Rule.TheVariants.{Skip, Pass, Redirect}
 use Rattle.be_handler.specs.Growth.{is_there, has_owner, has_end, is_place, listed}
 use Rattle.be_handler.specs.Lists.{is_in_list}
-use Rattle.be_handler.specs.Routes.{Chain, Body, Filter, same_target, has_body}
+use Rattle.be_handler.specs.Routes.{Chain, Filter, same_target, has_body}
 use Rattle.be_message.specs.declared.target.Target.{Target}
 use Rattle.be_message.specs.declared.target.Target.TheVariants.{Window, View, Plain}
 use Rattle.be_script.specs.declared.BodyLine.{BodyLine}

@@ -1,5 +1,5 @@
 -- A window's chain grows with the lines of its window.
-use Rattle.std.proofs.Common.{◌≡◌, ◌≢◌, ℕ, suc, ◌+◌, ◌<◌, ◌≤◌, ◌==◌, Bool, true, false, cond, ◌&&◌, List, [], ◌∷◌, ◌++◌, length, take, filter, map, Option, Some, None, get_or, set, inl, inr, refl, ap, sym, ◌∙◌, subst, arith, ne_eqb, eq-eqb, get_or-set_same, get_or-set_other, length-set, ltb-true, not, replicate}
+use Rattle.std.proofs.Common.{◌≡◌, ℕ, ◌+◌, ◌<◌, ◌==◌, Bool, true, false, cond, ◌&&◌, List, [], ◌∷◌, ◌++◌, length, take, filter, map, Some, None, get_or, set, inl, inr, refl, ap, sym, ◌∙◌, subst, arith, ne_eqb, eq-eqb, get_or-set_same, get_or-set_other, length-set, ltb-true, not, replicate}
 use Rattle.std.proofs.lemmas.Bool.{cases_eq}
 use Rattle.std.specs.List.{list_any}
 use Rattle.std.proofs.lemmas.List.{map-append, take_more, length-take-le, length-replicate, get_or-replicate}
@@ -7,9 +7,8 @@ use Rattle.std.proofs.lemmas.List.Elements.{filter_more}
 use Rattle.std.proofs.lemmas.Option.{slice_get_read, get_or_from_slice_get, slice_get-get_or}
 use Rattle.std.specs.Prelude.{nat_lt, slice_get}
 use Rattle.be_handler.specs.Growth.{with_view, with_plain, with_filter, with_new_body}
-use Rattle.be_handler.specs.Routes.{Chain, Body, Filter, has_body}
+use Rattle.be_handler.specs.Routes.{Chain, has_body}
 use Rattle.be_handler.specs.Growth.{is_there}
-use Rattle.be_message.specs.declared.target.Target.{Target}
 use Rattle.be_script.specs.declared.BodyLine.{BodyLine}
 use Rattle.be_script.specs.declared.FilterLine.{FilterLine}
 use Rattle.be_script.specs.declared.HandlerLine.{HandlerLine}

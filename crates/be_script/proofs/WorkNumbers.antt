@@ -1,5 +1,5 @@
 -- The number of a body is its place.
-use Rattle.std.proofs.Common.{◌≡◌, ℕ, suc, ◌+◌, ◌<◌, ◌==◌, Bool, true, false, cond, ◌&&◌, ◌||◌, not, List, [], ◌∷◌, ◌++◌, length, take, filter, map, Option, Some, None, refl, ap, sym, ◌∙◌, subst, arith, eqb-true, ne_eqb, ltb-true, add-zero}
+use Rattle.std.proofs.Common.{◌≡◌, ℕ, suc, ◌+◌, ◌<◌, ◌==◌, Bool, true, false, cond, ◌&&◌, ◌||◌, List, [], ◌∷◌, ◌++◌, length, filter, map, Option, Some, None, refl, ap, sym, ◌∙◌, subst, arith, eqb-true, ne_eqb, ltb-true, add-zero}
 use Rattle.std.specs.Prelude.{slice_get, find, nat_lt}
 use Rattle.std.specs.BTreeMap.{BTreeMap, get, Updates}
 use Rattle.std.specs.declared.cmp.Ordering.{Ordering}
@@ -11,9 +11,9 @@ use Rattle.be_message.specs.declared.target.Target.{Target}
 use Rattle.be_message.specs.declared.target.Target.TheVariants.{Window, View, Plain}
 use Rattle.be_script.specs.declared.BodyLine.{BodyLine}
 use Rattle.be_script.specs.declared.costs.body_numbers.BodyNumbers.{BodyNumbers}
-use Rattle.be_script.specs.BodyNumbers.{pair_cmp, triple_cmp, number_of, HasNew}
+use Rattle.be_script.specs.BodyNumbers.{pair_cmp, triple_cmp, HasNew}
 use Rattle.be_script.specs.Routes.{is_body_at, HasNumbers}
-use Rattle.be_script.specs.Windows.{is_body_of, steps_of, declared_body}
+use Rattle.be_script.specs.Windows.{is_body_of, declared_body}
 
 pub and-left : (a b : Bool) → (a && b) ≡ true → a ≡ true
 and-left true b h = refl

@@ -1,10 +1,9 @@
 -- The table of costs says what Work.antt says of messages.
-use Rattle.std.proofs.Common.{◌≡◌, ◌≢◌, ℕ, zero, suc, ◌+◌, ◌*◌, ◌<◌, ◌≤◌, ◌==◌, ◌⊎◌, inl, inr, Bool, true, false, cond, ◌&&◌, List, [], ◌∷◌, ◌++◌, length, map, filter, max, Option, Some, None, get_or, refl, ap, sym, ◌∙◌, subst, arith, ltb-true, ne_eqb}
-use Rattle.std.specs.Prelude.{sum_by, flat_map, slice_get, slice_index, find, nat_lt, fold, option_and_then}
-use Rattle.std.specs.List.{position_from, range_with_len}
+use Rattle.std.proofs.Common.{◌≡◌, ℕ, zero, suc, ◌+◌, ◌<◌, ◌≤◌, ◌==◌, inl, inr, false, List, [], ◌∷◌, length, map, filter, Option, Some, None, get_or, refl, ap, sym, ◌∙◌, subst, arith, ltb-true, ne_eqb}
+use Rattle.std.specs.Prelude.{sum_by, slice_get, slice_index, find, option_and_then}
+use Rattle.std.specs.List.{position_from}
 use Rattle.std.proofs.lemmas.Bool.{cases_lt}
 use Rattle.std.proofs.lemmas.List.{get_or-map, length-map}
-use Rattle.std.proofs.lemmas.List.Sums.{sum_by-cons}
 use Rattle.std.proofs.lemmas.Option.{slice_get-get_or, slice_get_past, slice_get_within, get_or_from_slice_get}
 use Rattle.be_actor.specs.declared.Instruction.{Instruction}
 use Rattle.be_handler.specs.declared.Route.{Route}
@@ -15,7 +14,6 @@ use Rattle.be_script.specs.declared.BodyLine.{BodyLine}
 use Rattle.be_script.specs.declared.costs.body_numbers.BodyNumbers.{BodyNumbers}
 use Rattle.be_script.specs.declared.costs.routes.Handlers.{Handlers}
 use Rattle.be_script.specs.declared.costs.routes.Routes.{Routes}
-use Rattle.be_script.specs.BodyNumbers.{number_of}
 use Rattle.be_script.specs.Costs.{limited, own_cost, posts_of, part_of, last_cost, table_cost, posted_cost, cost_before, table, app_step_cost}
 use Rattle.be_script.specs.Limits.{is_window}
 use Rattle.be_script.specs.Routable.{IsRoutable, can_add_body, bodies_before}

@@ -1,6 +1,6 @@
 -- What a script keeps so that each of its messages has a way: where it stands, each view, plain handler, filter and
 -- body may be added to its window (this project's own).
-use Rattle.std.specs.Prelude.{◌≡◌, ℕ, ◌≤◌, Bool, true, not, ◌&&◌, nat_lt, List, [], length, take, Some, slice_get}
+use Rattle.std.specs.Prelude.{◌≡◌, ℕ, ◌≤◌, Bool, true, not, ◌&&◌, nat_lt, [], length, take, Some, slice_get}
 use Rattle.std.specs.List.{list_all}
 use Rattle.be_handler.specs.Growth.{is_there, is_parent, is_place, listed}
 use Rattle.be_handler.specs.Routes.{Chain, Filter, Body, has_body}

@@ -21,8 +21,8 @@ use be_geom::NoMemory;
 pub use law::limits_make_routable;
 use std::alloc::Global;
 
-/// A bound on the entries of all histories of a script. It costs a few steps for each line, each instruction
-/// and each of eight hops, and each message that is written is routed once.
+/// A bound on the entries of all histories of a script. It costs a few steps for each line, and for
+/// each instruction at each of eight hops. Each message that is written is routed once.
 pub fn work(alloc: Global, script: &Script) -> Result<u64, NoMemory>
     requires { IsRoutable (declared_by script.now) }
     ensures { IfOk result (λ n. n ≡ work_of (declared_by script.now)) }

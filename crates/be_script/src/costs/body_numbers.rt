@@ -7,8 +7,8 @@ use be_message::Target;
 use std::alloc::Global;
 use std::collections::BTreeMap;
 
-/// The number of each body by its window, its handler and its word. A look-up costs the logarithm of their
-/// count.
+/// The number of each body by its window, its handler and its word. A look-up costs the logarithm
+/// of their count.
 #[derive(Drop)]
 pub(crate) struct BodyNumbers {
     of_windows: BTreeMap<(u16, u32), usize>,

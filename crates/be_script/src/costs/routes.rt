@@ -42,7 +42,8 @@ pub(crate) fn routes_of(alloc: Global, script: &Script) -> Result<Routes, NoMemo
 }
 
 fn roots(alloc: Global, script: &Script) -> Result<Vec<Handlers>, NoMemory>
-    ensures { IfOk result (λ windows. HasChains (views_before (declared_by script.now) 0) windows.items) }
+    ensures { IfOk result (λ windows.
+        HasChains (views_before (declared_by script.now) 0) windows.items) }
 {
     let mut windows = Vec::new(alloc);
     for _window in &script.windows {
@@ -126,7 +127,8 @@ impl Routes {
 impl Handlers {
     /// A window with its root.
     fn new(alloc: Global) -> Result<Handlers, NoMemory>
-        ensures { IfOk result (λ handlers. handlers ≡ handlers_with record { parents = None ∷ []; nexts = []; filters = []; bodies = [] }) }
+        ensures { IfOk result (λ handlers. handlers
+            ≡ handlers_with record { parents = None ∷ []; nexts = []; filters = []; bodies = [] }) }
     {
         let mut chain = Chain::new(alloc);
         added(chain.add_view(None))?;
@@ -145,21 +147,25 @@ impl Handlers {
 
     fn add_plain(&mut self, next: Target) -> Result<(), NoMemory>
         requires { can_add_plain self.old.chain next ≡ true }
-        ensures { OnOk result (self.new ≡ record self.old { chain = with_plain self.old.chain next }) }
+        ensures { OnOk result (self.new
+            ≡ record self.old { chain = with_plain self.old.chain next }) }
     {
         added(self.chain.add_plain(next))
     }
 
     fn add_filter(&mut self, line: &FilterLine) -> Result<(), NoMemory>
         requires { can_add_filter self.old.chain (declared_filter line.now) ≡ true }
-        ensures { OnOk result (self.new ≡ record self.old { chain = with_filter self.old.chain (declared_filter line.now) }) }
+        ensures { OnOk result (self.new
+            ≡ record self.old { chain = with_filter self.old.chain (declared_filter line.now) }) }
     {
         added(self.chain.add_filter(line.list, line.what, line.rule))
     }
 
     fn add_body(&mut self, line: &BodyLine) -> Result<(), NoMemory>
         requires { can_add_body self.old.chain (declared_body line.now) ≡ true }
-        ensures { OnOk result (self.new ≡ record self.old { chain = with_new_body self.old.chain line.now.target line.now.what }) }
+        ensures { OnOk result (self.new ≡ record self.old {
+          chain = with_new_body self.old.chain line.now.target line.now.what;
+        }) }
     {
         added(self.chain.add_body(line.target, line.what))
     }

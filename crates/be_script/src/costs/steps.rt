@@ -42,7 +42,8 @@ pub(crate) fn message_cost(costs: &[u64], body: Option<usize>) -> u64
 
 /// All instructions of all applications. Their messages have hop 0.
 pub(crate) fn apps_cost(routes: &Routes, costs: &[u64], updates: u64, apps: &[AppLine]) -> u64
-    ensures { result ≡ limited (sum_by (λ app. sum_by (app_step_cost (routed_number routes.now) costs.now updates) app.program) apps.now) }
+    ensures { let step_cost = app_step_cost (routed_number routes.now) costs.now updates in
+        result ≡ limited (sum_by (λ app. sum_by step_cost app.program) apps.now) }
 {
     let mut cost: u64 = 0;
     for app in apps {
@@ -52,7 +53,8 @@ pub(crate) fn apps_cost(routes: &Routes, costs: &[u64], updates: u64, apps: &[Ap
 }
 
 fn app_cost(routes: &Routes, costs: &[u64], updates: u64, program: &Program) -> u64
-    ensures { result ≡ limited (sum_by (app_step_cost (routed_number routes.now) costs.now updates) program.now) }
+    ensures { let step_cost = app_step_cost (routed_number routes.now) costs.now updates in
+        result ≡ limited (sum_by step_cost program.now) }
 {
     let mut cost: u64 = 0;
     for step in &program.steps {
@@ -63,7 +65,8 @@ fn app_cost(routes: &Routes, costs: &[u64], updates: u64, program: &Program) -> 
 
 /// An application has no message to forward, so the word of a forwarded one doesn't count.
 fn app_step_cost(routes: &Routes, costs: &[u64], updates: u64, step: &Instruction) -> u64
-    ensures { result ≡ limited (app_step_cost (routed_number routes.now) costs.now updates step.now) }
+    ensures { result
+        ≡ limited (app_step_cost (routed_number routes.now) costs.now updates step.now) }
 {
     let own = own_step_cost(updates, step);
     match step {

@@ -10,8 +10,8 @@ use be_geom::NoMemory;
 use std::alloc::Global;
 use std::marker::Model;
 
-/// A body: what its instructions cost without the messages that they post, and for each of those the number of
-/// the body that it goes to.
+/// A body: what its instructions cost without the messages that they post, and for each of those
+/// the number of the body that it goes to.
 #[derive(Drop)]
 pub(crate) struct Part {
     own: u64,
@@ -32,7 +32,8 @@ pub(crate) fn parts(
     updates: u64,
     bodies: &[BodyLine],
 ) -> Result<Vec<Part>, NoMemory>
-    ensures { IfOk result (λ parts. parts.items ≡ map (part_of (routed_number routes.now) updates) bodies.now) }
+    ensures { IfOk result (λ parts. parts.items
+        ≡ map (part_of (routed_number routes.now) updates) bodies.now) }
 {
     let mut parts = Vec::new(alloc);
     for line in bodies {
@@ -44,7 +45,8 @@ pub(crate) fn parts(
 }
 
 fn posts(alloc: Global, routes: &Routes, line: &BodyLine) -> Result<Vec<Option<usize>>, NoMemory>
-    ensures { IfOk result (λ posts. posts.items ≡ posts_of (routed_number routes.now) line.now.what line.now.program) }
+    ensures { IfOk result (λ posts. posts.items
+        ≡ posts_of (routed_number routes.now) line.now.what line.now.program) }
 {
     let mut posts = Vec::new(alloc);
     for step in &line.program.steps {
@@ -60,7 +62,8 @@ fn add_post(
     word: u32,
     step: &Instruction,
 ) -> Result<(), NoMemory>
-    ensures { OnOk result (posts.new.items ≡ posts.old.items ++ posts_of_step (routed_number routes.now) word step.now) }
+    ensures { OnOk result (posts.new.items
+        ≡ posts.old.items ++ posts_of_step (routed_number routes.now) word step.now) }
 {
     match step {
         Instruction::Post(window, target, draft) => {

@@ -152,7 +152,7 @@ fn chained(alloc: Global, count: u32, posts: u32) -> Result<Script, NoMemory>
 
 #[test]
 fn each_body_posts_to_the_next(rt: HostRuntime) -> Result<(), Fail> {
-    // Twice: 5 at hop 7, and before it 5 and twice what is behind, so 15, 35, 75, 155, 315, 635 and 1275.
+    // Twice: 5 at hop 7, and before it 5 and twice what is behind: 15, 35, 75, 155, 315, 635, 1275.
     // Where each posts 256 times, the sum is past the last number.
     for (posts, work) in [(2u32, 1277u64), (256, 18_446_744_073_709_551_615)] {
         let script = chained(rt.alloc(), 40, posts)?;

@@ -1,5 +1,5 @@
 -- The parts of the sum together.
-use Rattle.std.proofs.Common.{◌≡◌, ◌≤◌, length, map, arith, ap, ◌∙◌}
+use Rattle.std.proofs.Common.{map, ap, ◌∙◌}
 use Rattle.be_script.specs.Costs.{part_of, table}
 use Rattle.be_script.specs.Routes.{routed_number}
 use Rattle.be_script.specs.Script.{declared_by}

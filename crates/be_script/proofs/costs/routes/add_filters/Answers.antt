@@ -1,5 +1,5 @@
 -- A line gets its window a filter.
-use Rattle.std.proofs.Common.{◌≡◌, None, get_or}
+use Rattle.std.proofs.Common.{None, get_or}
 use Rattle.be_handler.specs.declared.Rule.TheVariants.{Skip}
 use Rattle.be_script.specs.declared.FilterLine.{FilterLine}
 use Rattle.be_script.specs.Script.{declared_by}

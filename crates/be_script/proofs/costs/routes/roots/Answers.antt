@@ -1,5 +1,5 @@
 -- One more window with a root.
-use Rattle.std.proofs.Common.{arith, ap, sym, ◌∙◌, ◌≡◌, ◌+◌, ◌++◌, ◌∷◌, [], length, refl}
+use Rattle.std.proofs.Common.{arith, ap, ◌∙◌, ◌≡◌, ◌++◌, ◌∷◌, [], length}
 use Rattle.std.proofs.lemmas.List.{replicate_more}
 use Rattle.be_script.specs.Script.{declared_by}
 use Rattle.be_script.proofs.WorkChains.{roots-are}

@@ -1,5 +1,5 @@
 -- One hop more.
-use Rattle.std.proofs.Common.{ap, sym, ◌∙◌, ◌+◌, map, add-one}
+use Rattle.std.proofs.Common.{ap, sym, ◌∙◌, map, add-one}
 use Rattle.be_script.specs.Costs.{cost_before, table}
 use Rattle.be_script.proofs.costs.table.costs.Goals as goal
 
