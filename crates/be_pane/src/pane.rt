@@ -1,5 +1,4 @@
-ghost use Rattle.std.specs.Prelude.{◌≡◌, ◌↔◌, ℤ, false, true, length, map, option_map, IfOk, IsTrue};
-ghost use Rattle.be_geom.specs.Places.{at_pixel};
+ghost use Rattle.std.specs.Prelude.{◌≡◌, ◌↔◌, ℤ, false, length, map, option_map, IfOk, IsTrue};
 ghost use Rattle.be_span.specs.declared.Cell.{Cell};
 ghost use Rattle.be_state.specs.Stacks.{first_stack, origin_point};
 ghost use Rattle.be_pane.specs.Panes.{first_pane};
