@@ -206,7 +206,8 @@ impl Chain {
         }
     }
 
-    fn has_body(&self, target: Target, what: u32) -> bool
+    /// Whether a handler has a body for a word; one that isn't there has none.
+    pub fn has_body(&self, target: Target, what: u32) -> bool
         ensures { result ≡ has_body self.now what target }
     {
         match target {

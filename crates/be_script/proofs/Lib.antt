@@ -1,8 +1,3 @@
-pub mod FieldLemmas
-pub mod OptionLemmas
-pub mod SplitLemmas
-pub mod StandingLemmas
-pub mod TakesLemmas
 pub mod WorkSums
 pub mod WorkUpdates
 pub mod WorkNumbers

@@ -1,0 +1,4 @@
+pub mod FieldLemmas
+pub mod OptionLemmas
+pub mod SplitLemmas
+pub mod StandingLemmas

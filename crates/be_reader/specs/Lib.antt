@@ -1,0 +1,12 @@
+pub mod Begun
+pub mod Deeds
+pub mod Due
+pub mod Fits
+pub mod Forms
+pub mod Grammar
+pub mod Inside
+pub mod Judging
+pub mod Kinds
+pub mod Progress
+pub mod Said
+pub mod SoFar

@@ -1,0 +1,29 @@
+use be_command::Reason;
+use be_geom::NoMemory;
+use thiserror::Error;
+
+/// Why a line isn't taken.
+#[derive(Clone, Copy, Debug, PartialEq, Eq, Error)]
+pub(crate) enum LineFault {
+    /// The first reason that holds against it.
+    #[error("{0:?}")]
+    Bad(Reason),
+    #[error("no memory")]
+    NoMemory,
+}
+
+/// Why bytes aren't a script.
+#[derive(Clone, Copy, Debug, PartialEq, Eq, Error)]
+pub enum ScriptFault {
+    /// The first faulty line, from 1; 0 where no line has the fault.
+    #[error("script line {line}: {reason:?}")]
+    At { line: u64, reason: Reason },
+    #[error("no memory")]
+    NoMemory,
+}
+
+impl From<NoMemory> for LineFault {
+    fn from(_: NoMemory) -> LineFault {
+        LineFault::NoMemory
+    }
+}

@@ -1,0 +1,255 @@
+ghost use Rattle.std.specs.Prelude.{◌≡◌, ◌+◌, [], None, Some, pos, slice_get, unsigned_abs};
+ghost use Rattle.std.specs.Map.{lookup};
+ghost use Rattle.std.specs.Option.{option_map};
+ghost use Rattle.std.specs.Result.{result_err, result_map_both};
+ghost use Rattle.std.specs.Str.{bytes_eq};
+ghost use Rattle.be_command.specs.Kinds.{coordinate, formed, named, numbered};
+ghost use Rattle.be_lex.specs.Words.{words_of};
+ghost use Rattle.be_line.specs.Kinds.{across_words, color_or_white, down_words, filter_what_said, note_said, said_as, what_said};
+ghost use Rattle.be_reader.specs.Kinds.{a_window, after, behind, ended, frame_said, new_name, window_frame, word_said};
+ghost use Rattle.be_line.specs.Options.{options_said};
+ghost use Rattle.be_reader.specs.Progress.{Takes, first_reason};
+ghost use Rattle.be_reader.specs.SoFar.{app_names, bitmap_names, window_names};
+
+use be_line::{Options, read_options};
+use crate::said::SoFar;
+use crate::naming;
+use be_line::judging;
+use be_color::Color;
+use be_command::Reason;
+use be_follow::{Across, Down};
+use be_geom::Rect;
+use be_lex::Words;
+use std::marker::Model;
+
+/// A line behind its first word, as it is read word by word. A word against which a reason holds is
+/// passed over, so that the reason of the whole line is found in one pass; something stands in for
+/// what it would say.
+#[derive(Drop)]
+pub(crate) struct Reading<'a> {
+    words: Words<'a>,
+    /// The window that the line named; the names behind it are of that one.
+    window: Option<u16>,
+    /// All of the line.
+    text: &'a [u8],
+    reason: Option<Reason>,
+}
+
+impl<'a> Model for Reading<'a> {
+    ghost use Rattle.be_lex.specs.Words.{words_of};
+    ghost use Rattle.be_reader.specs.Progress.{Progress};
+
+    ghost Value = { Progress };
+
+    ghost view = { λ r. record {
+      at = record { words = words_of r.words; window = r.window; text = r.text.now };
+      reason = r.reason;
+    } };
+}
+
+impl<'a> Reading<'a> {
+    /// What stands behind the first word.
+    pub(crate) fn behind_first(words: Words<'a>, text: &'a [u8]) -> Reading<'a>
+        ensures { result ≡ record {
+          at = record { words = words_of words.entry; window = None; text = text.now };
+          reason = None;
+        } }
+    {
+        Reading {
+            words,
+            window: None,
+            text,
+            reason: None,
+        }
+    }
+
+    /// The reason of what was read, and of the words that are left.
+    pub(crate) fn finish(mut self) -> Option<Reason>
+        ensures { result ≡ first_reason self.entry.reason (result_err (ended self.entry.at.words)) }
+    {
+        if self.word().is_some() {
+            self.note_reason(Reason::Shape);
+        }
+        self.reason
+    }
+
+    /// The next word.
+    fn word(&mut self) -> Option<&'a [u8]>
+        ensures word { option_map (λ word. word.now) result ≡ slice_get self.old.at.words 0 }
+        ensures after { self.new ≡ record { at = behind 1 self.old.at; reason = self.old.reason } }
+    {
+        self.words.next()
+    }
+
+    /// What a part says, or something in its stead where a reason holds against it, which is noted.
+    fn said<T>(&mut self, read: Result<T, Reason>, stead: T) -> T
+    where
+        T: Drop,
+        ensures { Takes read self.old.at self.old self.new result }
+    {
+        match read {
+            Ok(said) => said,
+            Err(reason) => {
+                self.note_reason(reason);
+                stead
+            }
+        }
+    }
+
+    /// The same of a part that says bytes.
+    #[tactic(auto, using(crate::proofs::TakesLemmas::takes_seen))]
+    fn said_bytes(&mut self, read: Result<&'a [u8], Reason>) -> &'a [u8]
+        ensures { Takes (result_map_both (λ bytes. bytes.now) (λ reason. reason) read.entry)
+            self.old.at self.old self.new result.now }
+    {
+        self.said(read, b"")
+    }
+
+    fn note_reason(&mut self, reason: Reason)
+        ensures { self.new ≡ record {
+          at = self.old.at;
+          reason = first_reason self.old.reason (Some reason);
+        } }
+    {
+        self.reason = Some(match self.reason {
+            Some(earlier) => judging::first_of(earlier, reason),
+            None => reason,
+        });
+    }
+}
+
+/// What stands next, read as of each kind.
+impl<'a> Reading<'a> {
+    /// `low` is 0 or more.
+    pub(crate) fn number(&mut self, low: u16, high: u16) -> u16
+        ensures { Takes (said_as unsigned_abs (word_said (numbered (pos low) (pos high)) 0 self.old.at))
+            (behind 1 self.old.at) self.old self.new result }
+    {
+        let read = judging::natural(self.word(), low, high);
+        self.said(read, low)
+    }
+
+    fn coordinate(&mut self) -> i16
+        ensures { Takes (word_said coordinate 0 self.old.at) (behind 1 self.old.at)
+            self.old self.new result }
+    {
+        let read = judging::coordinate(self.word());
+        self.said(read, 0)
+    }
+
+    pub(crate) fn frame(&mut self) -> Rect
+        ensures { Takes (frame_said self.old.at) (behind 4 self.old.at) self.old self.new result }
+    {
+        Rect {
+            left: self.coordinate(),
+            top: self.coordinate(),
+            right: self.coordinate(),
+            bottom: self.coordinate(),
+        }
+    }
+
+    pub(crate) fn across(&mut self) -> Across
+        ensures { Takes (word_said (λ word. formed (lookup (bytes_eq word) across_words)) 0 self.old.at)
+            (behind 1 self.old.at) self.old self.new result }
+    {
+        let read = judging::across(self.word());
+        self.said(read, Across::Left)
+    }
+
+    pub(crate) fn down(&mut self) -> Down
+        ensures { Takes (word_said (λ word. formed (lookup (bytes_eq word) down_words)) 0 self.old.at)
+            (behind 1 self.old.at) self.old self.new result }
+    {
+        let read = judging::down(self.word());
+        self.said(read, Down::Top)
+    }
+
+    pub(crate) fn last_color(&mut self) -> Color
+        ensures { Takes (color_or_white (slice_get self.old.at.words 0)) (behind 1 self.old.at)
+            self.old self.new result }
+    {
+        let read = judging::last_color(self.word());
+        self.said(read, Color::Clear)
+    }
+
+    pub(crate) fn what(&mut self) -> u32
+        ensures { Takes (word_said what_said 0 self.old.at) (behind 1 self.old.at)
+            self.old self.new result }
+    {
+        let read = judging::what(self.word());
+        self.said(read, 0)
+    }
+
+    pub(crate) fn filter_what(&mut self) -> Option<u32>
+        ensures { Takes (word_said filter_what_said 0 self.old.at) (behind 1 self.old.at)
+            self.old self.new result }
+    {
+        let read = judging::filter_what(self.word());
+        self.said(read, None)
+    }
+
+    /// All words that are left.
+    pub(crate) fn options(&mut self) -> Options
+        ensures { Takes (options_said self.old.at.words) (record self.old.at { words = [] })
+            self.old self.new result }
+    {
+        let read = read_options(&mut self.words);
+        self.said(read, Options::NONE)
+    }
+}
+
+/// Names, beside those that were said so far.
+impl<'a> Reading<'a> {
+    pub(crate) fn new_bitmap(&mut self, said: &SoFar) -> &'a [u8]
+        ensures { Takes (word_said (new_name (bitmap_names said.now)) 0 self.old.at)
+            (behind 1 self.old.at) self.old self.new result.now }
+    {
+        let read = naming::new_bitmap(said, self.word());
+        self.said_bytes(read)
+    }
+
+    pub(crate) fn new_window(&mut self, said: &SoFar) -> &'a [u8]
+        ensures { Takes (word_said (new_name (window_names said.now)) 0 self.old.at)
+            (behind 1 self.old.at) self.old self.new result.now }
+    {
+        let read = naming::new_window(said, self.word());
+        self.said_bytes(read)
+    }
+
+    pub(crate) fn new_app(&mut self, said: &SoFar) -> &'a [u8]
+        ensures { Takes (word_said (new_name (app_names said.now)) 0 self.old.at)
+            (behind 1 self.old.at) self.old self.new result.now }
+    {
+        let read = naming::new_app(said, self.word());
+        self.said_bytes(read)
+    }
+
+    /// The names behind it are of this window.
+    pub(crate) fn window(&mut self, said: &SoFar) -> u16
+        ensures { Takes (word_said (named (window_names said.now)) 0 self.old.at)
+            (after said.now a_window self.old.at) self.old self.new result }
+    {
+        let read = naming::window(said, self.word());
+        self.window = read.ok();
+        self.said(read, 0)
+    }
+
+    pub(crate) fn app(&mut self, said: &SoFar) -> u16
+        ensures { Takes (word_said (named (app_names said.now)) 0 self.old.at)
+            (behind 1 self.old.at) self.old self.new result }
+    {
+        let read = naming::app(said, self.word());
+        self.said(read, 0)
+    }
+}
+
+/// What else stands in bodies and programs.
+impl<'a> Reading<'a> {
+    pub(crate) fn note(&mut self) -> &'a [u8]
+        ensures { Takes (word_said note_said 0 self.old.at) (behind 1 self.old.at)
+            self.old self.new result.now }
+    {
+        let read = judging::note(self.word());
+        self.said_bytes(read)
+    }
+}

@@ -1,0 +1,179 @@
+ghost use Rattle.std.specs.Prelude.{◌≡◌, ◌≤◌, ℕ, Some, length, map};
+ghost use Rattle.std.specs.List.{list_any};
+ghost use Rattle.std.specs.Str.{bytes_eq};
+ghost use Rattle.be_command.specs.Names.{number_in};
+ghost use Rattle.be_reader.specs.SoFar.{app_names, bitmap_names, has_message, nothing_said, row_width, site_of, window_names};
+
+use crate::begun::Begun;
+use crate::inside::Inside;
+use be_line::Site;
+use be_script::{
+    AppLine, BitmapLine, BodyLine, DrawLine, FilterLine, HandlerLine, InputLine, ViewLine,
+    WindowLine,
+};
+use std::alloc::Global;
+use std::marker::Model;
+
+/// What the lines of a script said so far.
+#[derive(Drop)]
+pub(crate) struct SoFar {
+    screen: Option<(u16, u16)>,
+    bitmaps: Vec<BitmapLine>,
+    windows: Vec<WindowLine>,
+    views: Vec<ViewLine>,
+    handlers: Vec<HandlerLine>,
+    filters: Vec<FilterLine>,
+    bodies: Vec<BodyLine>,
+    draws: Vec<DrawLine>,
+    apps: Vec<AppLine>,
+    input: Vec<InputLine>,
+    begun: Begun,
+    /// What was said of each window.
+    inside: Vec<Inside>,
+}
+
+impl Model for SoFar {
+    ghost use Rattle.std.specs.Coded.{codes};
+    ghost use Rattle.be_actor.specs.Drafts.{draft_code};
+    ghost use Rattle.be_reader.specs.SoFar as sofar;
+
+    ghost Value = { sofar.SoFar };
+
+    ghost coded = { Prim.hlevel (codes, draft_code) };
+
+    ghost use Rattle.be_reader.specs.Inside.{AreInside};
+    ghost use Rattle.be_reader.specs.Said.{seen_said};
+
+    ghost view = { seen_said };
+
+    ghost invariant = { λ s. AreInside (seen_said s) s.inside.items };
+}
+
+impl SoFar {
+    pub(crate) fn new(alloc: Global) -> SoFar
+        ensures { result ≡ nothing_said }
+    {
+        SoFar {
+            screen: None,
+            bitmaps: Vec::new(alloc),
+            windows: Vec::new(alloc),
+            views: Vec::new(alloc),
+            handlers: Vec::new(alloc),
+            filters: Vec::new(alloc),
+            bodies: Vec::new(alloc),
+            draws: Vec::new(alloc),
+            apps: Vec::new(alloc),
+            input: Vec::new(alloc),
+            begun: Begun::Nothing,
+            inside: Vec::new(alloc),
+        }
+    }
+
+    /// How wide and high the screen is.
+    pub(crate) fn screen(&self) -> Option<(u16, u16)>
+        ensures screen { result ≡ self.now.screen }
+        ensures small { (size : ℕ × ℕ) → result ≡ Some size → (size.0 ≤ 1024) × (size.1 ≤ 768) }
+    {
+        self.screen
+    }
+
+    /// Where the next line stands.
+    pub(crate) fn site(&self) -> Site
+        ensures { result ≡ site_of self.now }
+    {
+        if self.screen.is_none() {
+            return Site::AtStart;
+        }
+        match &self.begun {
+            Begun::Nothing => Site::Outside,
+            Begun::Bitmap { .. } => Site::AmongRows,
+            Begun::HandlerBody { .. } => Site::InHandler,
+            Begun::DrawBody { .. } => Site::InDraw,
+            Begun::Program { lock: None, .. } => Site::InProgram,
+            Begun::Program { lock: Some(_), .. } => Site::UnderLock,
+        }
+    }
+
+    /// How many pixels the next row of a bitmap has.
+    pub(crate) fn row_width(&self) -> u16
+        ensures { result ≡ row_width self.now.begun }
+    {
+        self.begun.row_width()
+    }
+
+    /// Whether there is a current message.
+    pub(crate) fn has_message(&self) -> bool
+        ensures { result ≡ has_message self.now.begun }
+    {
+        self.begun.has_message()
+    }
+}
+
+/// Names that were said.
+impl SoFar {
+    pub(crate) fn window_named(&self, word: &[u8]) -> Option<u16>
+        ensures { result ≡ number_in (window_names self.now) word.now }
+    {
+        number_of_window(&self.windows, word)
+    }
+
+    pub(crate) fn app_named(&self, word: &[u8]) -> Option<u16>
+        ensures { result ≡ number_in (app_names self.now) word.now }
+    {
+        number_of_app(&self.apps, word)
+    }
+
+    pub(crate) fn has_bitmap(&self, word: &[u8]) -> bool
+        ensures { result ≡ list_any (λ other. bytes_eq other word.now) (bitmap_names self.now) }
+    {
+        has_bitmap(&self.bitmaps, word)
+    }
+
+    pub(crate) fn has_window(&self, word: &[u8]) -> bool
+        ensures { result ≡ list_any (λ other. bytes_eq other word.now) (window_names self.now) }
+    {
+        self.window_named(word).is_some()
+    }
+
+    pub(crate) fn has_app(&self, word: &[u8]) -> bool
+        ensures { result ≡ list_any (λ other. bytes_eq other word.now) (app_names self.now) }
+    {
+        self.app_named(word).is_some()
+    }
+}
+
+fn number_of_window(lines: &[WindowLine], word: &[u8]) -> Option<u16>
+    requires { length lines.now ≤ 32 }
+    ensures { result ≡ number_in (map (λ line. line.name) lines.now) word.now }
+{
+    for (place, line) in lines.iter().enumerate() {
+        if line.name.as_slice() == word {
+            return Some(place as u16);
+        }
+    }
+    None
+}
+
+fn number_of_app(lines: &[AppLine], word: &[u8]) -> Option<u16>
+    requires { length lines.now ≤ 16 }
+    ensures { result ≡ number_in (map (λ line. line.name) lines.now) word.now }
+{
+    for (place, line) in lines.iter().enumerate() {
+        if line.name.as_slice() == word {
+            return Some(place as u16);
+        }
+    }
+    None
+}
+
+fn has_bitmap(lines: &[BitmapLine], word: &[u8]) -> bool
+    ensures { result
+        ≡ list_any (λ other. bytes_eq other word.now) (map (λ line. line.name) lines.now) }
+{
+    for line in lines {
+        if line.name.as_slice() == word {
+            return true;
+        }
+    }
+    false
+}
