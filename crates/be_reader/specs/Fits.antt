@@ -46,15 +46,15 @@ IsStep said (instruction.Draw command) = Unit {0}
 -- a row is for a bitmap, and as long as it is wide
 abbrev pub IsRow : Begun → ℕ → Type 0
 IsRow (bitmap name width height colors) count = count ≡ width
-IsRow nothing count = Empty {0}
-IsRow (handler_body w target what steps) count = Empty {0}
-IsRow (draw_body w v steps) count = Empty {0}
-IsRow (program name lock steps) count = Empty {0}
+IsRow nothing count = ⊥
+IsRow (handler_body w target what steps) count = ⊥
+IsRow (draw_body w v steps) count = ⊥
+IsRow (program name lock steps) count = ⊥
 
 -- an instruction is for a body or a program
 abbrev pub HasSteps : Begun → Type 0
-HasSteps nothing = Empty {0}
-HasSteps (bitmap name width height colors) = Empty {0}
+HasSteps nothing = ⊥
+HasSteps (bitmap name width height colors) = ⊥
 HasSteps (handler_body w target what steps) = Unit {0}
 HasSteps (draw_body w v steps) = Unit {0}
 HasSteps (program name lock steps) = Unit {0}
