@@ -130,7 +130,7 @@ handler_names said w = view_names said w ++ plain_names said w
 abbrev plain_handler : Option ℕ → Option Target
 plain_handler number = option_map target.Plain number
 
-abbrev view_or : Option ℕ → Option Target → Option Target
+abbrev pub view_or : Option ℕ → Option Target → Option Target
 view_or (Some v) plain = Some (target.View v)
 view_or None plain = plain
 
