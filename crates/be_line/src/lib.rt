@@ -9,10 +9,8 @@ mod shaped;
 mod site;
 mod standing;
 mod statement;
-#[cfg(test)]
-mod tests;
 
 pub use fields::read_fields;
-pub use options::{Options, WindowOption, read_options};
+pub use options::{Options, read_options};
 pub use site::{Allowed, Seat, Site};
 pub use statement::Statement;

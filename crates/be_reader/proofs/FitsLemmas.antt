@@ -5,7 +5,7 @@ use Rattle.std.proofs.lemmas.List.{length-map}
 use Rattle.std.specs.List.{list_any, position_from}
 use Rattle.std.specs.Option.{ok_or, option_and_then}
 use Rattle.std.specs.Prelude.{slice_get}
-use Rattle.std.specs.Result.{result_ok}
+use Rattle.std.specs.Result.{result_map_both, result_ok}
 use Rattle.std.specs.Str.{bytes_eq}
 use Rattle.be_color.specs.declared.colors.Color.{Color}
 use Rattle.be_command.specs.declared.fault.Reason.{Reason}
@@ -30,7 +30,10 @@ use Rattle.be_message.specs.declared.target.Target.{Target}
 use Rattle.be_message.specs.declared.target.Target.TheVariants as target
 use Rattle.be_reader.proofs.TakesLemmas.{ok-both, ok-said_as}
 use Rattle.be_reader.specs.Fits.{Fits, HasSteps, IsList, IsNew, IsRow, IsRule, IsTarget}
-use Rattle.be_reader.specs.Forms.{form_of}
+use Rattle.be_reader.specs.declared.fault.LineFault.{LineFault}
+use Rattle.be_reader.specs.Due.{IsDue}
+use Rattle.be_reader.specs.Forms.{Deed, form_of}
+use Rattle.be_reader.specs.Grammar.{deed_said}
 use Rattle.be_reader.specs.Kinds.{At, Kind, Said, SaidAll, a_down, a_filter_what, a_frame, a_handler, a_last_color, a_list, a_new_app, a_new_bitmap, a_new_handler, a_new_window, a_number, a_rule, a_view, a_what, a_window, a_window_frame, an_across, some_options, some_pixels, after, behind, handler_named, handler_names, handler_with, list_named, new_name, rule_by, said, said_all, view_or, word_said}
 use Rattle.be_reader.specs.SoFar.{SoFar, Begun, nothing, bitmap, handler_body, draw_body, program, app_names, bitmap_names, nothing_said, plain_names, row_width, site_of, view_names, window_names}
 
@@ -96,13 +99,15 @@ none_more : (b : Bool) (colors : List Color) → cond b (Some []) None ≡ Some 
 none_more true colors e = let h : [] ≡ colors = (cc) in sym (ap length h)
 none_more false colors e = (cc)
 
+first_pixel : (count : ℕ) (rest : Option (List Color)) (colors : List Color) (o : Option Color) → ((cs : List Color) → rest ≡ Some cs → length cs ≡ count) →
+    option_and_then (λ color. option_map (λ cs. color ∷ cs) rest) o ≡ Some colors → length colors ≡ suc count
+first_pixel count rest colors None each e = (cc)
+first_pixel count rest colors (Some color) each e = one_more count color rest colors each e
+
 pub pixels_fit : (count : ℕ) (word : List ℕ) (colors : List Color) → pixels_in count word ≡ Some colors → length colors ≡ count
 pixels_fit zero word colors e = none_more (is_empty word) colors e
-pixels_fit (suc count) word colors e = first_pixel (pixel_of (take 6 word)) e
-where
-  first_pixel : (o : Option Color) → option_and_then (λ color. option_map (λ cs. color ∷ cs) (pixels_in count (drop 6 word))) o ≡ Some colors → length colors ≡ suc count
-  first_pixel None h = (cc)
-  first_pixel (Some color) h = one_more count color (pixels_in count (drop 6 word)) colors (λ rest r. pixels_fit count (drop 6 word) rest r) h
+pixels_fit (suc count) word colors e =
+    first_pixel count (pixels_in count (drop 6 word)) colors (pixel_of (take 6 word)) (pixels_fit count (drop 6 word)) e
 
 formed_is : {A : Type 0} (o : Option A) (a : A) → formed o ≡ Ok a → o ≡ Some a
 formed_is None a e = (cc)
@@ -125,7 +130,9 @@ position_within test i n [] e = (cc)
 position_within test i n (x ∷ xs) e = at_head (test x) i n (length xs) (position_from test (i + 1) xs) e (position_within test (i + 1) n xs)
 
 number_within : (names : List (List ℕ)) (word : List ℕ) (n : ℕ) → number_in names word ≡ Some n → n < length names
-number_within names word n e = position_within (λ other. bytes_eq other word) 0 n names e
+number_within names word n e =
+    let below = position_within (λ other. bytes_eq other word) 0 n names e in
+    omega (arith, below)
 
 numbered_is : (b : Bool) (o : Option ℕ) (n : ℕ) → cond b (ok_or o UnknownName) (Err Shape) ≡ Ok n → o ≡ Some n
 numbered_is true (Some v) n e = (cc)
@@ -161,12 +168,12 @@ target_is said w false None None handler view plain e = (cc)
 
 named_target : (said : SoFar) (w : ℕ) (word : List ℕ) (handler : Target) → handler_named said (Some w) word ≡ Ok handler → IsTarget said w handler
 named_target said w word handler e = by_form (is_name word) e
-where
-  by_form : (b : Bool) → cond b (ok_or (handler_with said (Some w) word) UnknownName) (Err Shape) ≡ Ok handler → IsTarget said w handler
-  by_form true h =
-      target_is said w (bytes_eq word (codes "window")) (number_in (view_names said (Some w)) word) (number_in (plain_names said (Some w)) word) handler
-      (λ n e. number_within (view_names said (Some w)) word n e) (λ n e. number_within (plain_names said (Some w)) word n e) h
-  by_form false h = (cc)
+  where
+    by_form : (b : Bool) → cond b (ok_or (handler_with said (Some w) word) UnknownName) (Err Shape) ≡ Ok handler → IsTarget said w handler
+    by_form true h =
+        target_is said w (bytes_eq word (codes "window")) (number_in (view_names said (Some w)) word) (number_in (plain_names said (Some w)) word) handler
+        (λ n e. number_within (view_names said (Some w)) word n e) (λ n e. number_within (plain_names said (Some w)) word n e) h
+    by_form false h = (cc)
 
 pub handler_fits : (said : SoFar) (w : ℕ) (k : ℕ) (at : At) (handler : Target) → word_said (handler_named said (Some w)) k at ≡ Ok handler → IsTarget said w handler
 handler_fits said w k at handler e =
@@ -177,28 +184,28 @@ pub list_fits : (said : SoFar) (w : ℕ) (at : At) (list : Option Target) → wo
 list_fits said w at list e =
     let word = judged_is (list_named said (Some w)) (slice_get at.words 0) list e in
     by_word word.0 (bytes_eq word.0 (codes "common")) word.1
-where
-  by_word : (word : List ℕ) (b : Bool) → cond b (Ok None) (said_as Some (handler_named said (Some w) word)) ≡ Ok list → IsList said w list
-  by_word word true h = let same : None ≡ list = (cc) in subst (IsList said w) same tt
-  by_word word false h =
-      let handler = ok-said_as Some (handler_named said (Some w) word) list h in
-      subst (IsList said w) handler.1.1 (named_target said w word handler.0 handler.1.0)
+  where
+    by_word : (word : List ℕ) (b : Bool) → cond b (Ok None) (said_as Some (handler_named said (Some w) word)) ≡ Ok list → IsList said w list
+    by_word word true h = let same : None ≡ list = (cc) in subst (IsList said w) same tt
+    by_word word false h =
+        let handler = ok-said_as Some (handler_named said (Some w) word) list h in
+        subst (IsList said w) handler.1.1 (named_target said w word handler.0 handler.1.0)
 
 pub rule_fits : (said : SoFar) (w : ℕ) (at : At) (rule : Rule) → at.window ≡ Some w → word_said (rule_by said at) 0 at ≡ Ok rule → IsRule said w rule
 rule_fits said w at rule there e =
     let word = judged_is (rule_by said at) (slice_get at.words 0) rule e in
     by_word (bytes_eq word.0 (codes "skip")) (bytes_eq word.0 (codes "pass")) (bytes_eq word.0 (codes "redirect")) word.1
-where
-  by_word : (skip pass redirect : Bool) →
-      cond skip (Ok Skip) (cond pass (Ok Pass) (cond redirect (said_as Redirect (word_said (handler_named said at.window) 1 at)) (Err Shape))) ≡ Ok rule →
-      IsRule said w rule
-  by_word true pass redirect h = let same : Skip ≡ rule = (cc) in subst (IsRule said w) same tt
-  by_word false true redirect h = let same : Pass ≡ rule = (cc) in subst (IsRule said w) same tt
-  by_word false false true h =
-      let handler = ok-said_as Redirect (word_said (handler_named said at.window) 1 at) rule h in
-      let named = subst (λ (o : Option ℕ). word_said (handler_named said o) 1 at ≡ Ok handler.0) there handler.1.0 in
-      subst (IsRule said w) handler.1.1 (handler_fits said w 1 at handler.0 named)
-  by_word false false false h = (cc)
+  where
+    by_word : (skip pass redirect : Bool) →
+        cond skip (Ok Skip) (cond pass (Ok Pass) (cond redirect (said_as Redirect (word_said (handler_named said at.window) 1 at)) (Err Shape))) ≡ Ok rule →
+        IsRule said w rule
+    by_word true pass redirect h = let same : Skip ≡ rule = (cc) in subst (IsRule said w) same tt
+    by_word false true redirect h = let same : Pass ≡ rule = (cc) in subst (IsRule said w) same tt
+    by_word false false true h =
+        let handler = ok-said_as Redirect (word_said (handler_named said at.window) 1 at) rule h in
+        let named = subst (λ (o : Option ℕ). word_said (handler_named said o) 1 at ≡ Ok handler.0) there handler.1.0 in
+        subst (IsRule said w) handler.1.1 (handler_fits said w 1 at handler.0 named)
+    by_word false false false h = (cc)
 
 -- ---- a line
 
@@ -303,3 +310,14 @@ line_fits before statement.Unlock at x m e = (within before.screen before.begun 
 line_fits before statement.Flush at x m e = (within before.screen before.begun _ m, tt)
 line_fits before statement.Sync at x m e = (within before.screen before.begun _ m, tt)
 line_fits before (statement.Command word) at x m e = (within before.screen before.begun _ m, tt)
+
+pub deed_fits : (before : SoFar) (st : Statement) (at : At) (deed : Deed) → misplaced (site_of before) (seat_of st) ≡ None → deed_said before st at ≡ Ok deed → Fits before deed
+deed_fits before st at deed m e =
+    let x = ok-said_as (form_of st).makes (said_all before (form_of st).kinds at) deed e in
+    subst (Fits before) x.1.1 (line_fits before st at x.0 m x.1.0)
+
+-- what was given is what was due
+pub due_is : {A B : Type 0} (f : A → B) (due : Result B Reason) (given : Result A LineFault) (a : A) → given ≡ Ok a →
+    IsDue due (result_map_both f (λ fault. fault) given) → due ≡ Ok (f a)
+due_is f due (Ok b) a e d = let same : b ≡ a = (cc) in d ∙ ap (λ x. Ok (f x)) same
+due_is f due (Err fault) a e d = absurd ((cc))

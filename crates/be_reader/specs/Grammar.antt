@@ -20,17 +20,20 @@ abbrev then_done : SoFar → Result Deed Reason → Result SoFar Reason
 then_done said (Ok deed) = done said deed
 then_done said (Err reason) = Err reason
 
-abbrev read_form : SoFar → Form → At → Result SoFar Reason
-read_form said form at = then_done said (said_as form.makes (said_all said form.kinds at))
+abbrev form_said : SoFar → Form → At → Result Deed Reason
+form_said said form at = said_as form.makes (said_all said form.kinds at)
+
+abbrev pub deed_said : SoFar → Statement → At → Result Deed Reason
+deed_said said statement at = form_said said (form_of statement) at
 
 abbrev unless_misplaced : SoFar → Statement → At → Option Reason → Result SoFar Reason
-unless_misplaced said statement at None = read_form said (form_of statement) at
+unless_misplaced said statement at None = then_done said (deed_said said statement at)
 unless_misplaced said statement at (Some reason) = Err reason
 
 abbrev read_placed : SoFar → Statement → At → Result SoFar Reason
 read_placed said statement at = unless_misplaced said statement at (misplaced (site_of said) (seat_of statement))
 
-abbrev read_known : SoFar → Option Statement → At → Result SoFar Reason
+abbrev pub read_known : SoFar → Option Statement → At → Result SoFar Reason
 read_known said (Some statement) at = read_placed said (meant (site_of said) statement) at
 read_known said None at = Err UnknownWord
 

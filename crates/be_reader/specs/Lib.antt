@@ -7,6 +7,7 @@ pub mod Grammar
 pub mod Inside
 pub mod Judging
 pub mod Kinds
+pub mod Outcomes
 pub mod Progress
 pub mod Said
 pub mod SoFar

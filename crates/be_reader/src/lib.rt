@@ -3,11 +3,14 @@
 
 mod begun;
 mod deed;
+mod deeds;
 mod fault;
 mod inside;
 mod naming;
+mod reader;
 mod reading;
 mod said;
 #[cfg(test)]
 mod tests;
 pub use fault::ScriptFault;
+pub use reader::read;

@@ -4,6 +4,9 @@ ghost use Rattle.std.specs.Str.{bytes_eq};
 ghost use Rattle.be_command.specs.Names.{number_in};
 ghost use Rattle.be_reader.specs.SoFar.{app_names, bitmap_names, has_message, nothing_said, row_width, site_of, window_names};
 
+mod doing;
+mod ending;
+
 use crate::begun::Begun;
 use crate::inside::Inside;
 use be_line::Site;

@@ -5,4 +5,3 @@ pub mod WorkChains
 pub mod WorkTable
 pub mod WorkInput
 pub mod RoutableLemmas
-pub mod PlainLemmas

@@ -7,13 +7,9 @@ mod body_numbers;
 mod commands;
 mod input;
 mod law;
-#[cfg(test)]
-mod plain;
 mod routes;
 mod steps;
 mod table;
-#[cfg(test)]
-mod tests;
 mod updates;
 
 use crate::Script;

@@ -1,5 +1,5 @@
 use Rattle.std.proofs.Common.{length}
-use Rattle.be_actor.proofs.rules.+are_kept.Given as goal
+use Rattle.script_tests.proofs.rules.+are_kept.Given as goal
 
 abbrev pub decreases-are_kept : goal.decreases-are_kept
 decreases-are_kept l = length l.steps.now

@@ -1,15 +1,15 @@
 ghost use Rattle.std.specs.Prelude.{◌<◌};
 
-use super::plain::is_plain;
-use super::*;
-use crate::{AppLine, BodyLine, DrawLine, FilterLine, InputLine, ViewLine, WindowLine};
+use crate::plain::is_plain;
 use be_actor::{Draft, Instruction, Program};
 use be_color::{Color, Pattern, Rgb};
 use be_command::Command;
 use be_follow::{Across, Down, Follow};
-use be_geom::{Change, Point, Rect};
+use be_geom::{Change, NoMemory, Point, Rect};
 use be_handler::Rule;
 use be_message::{Target, Text};
+use be_script::{AppLine, BodyLine, DrawLine, FilterLine, InputLine, Script, ViewLine, WindowLine, work};
+use std::alloc::Global;
 use std::process::Abort;
 use std::test::Fail;
 

@@ -9,7 +9,7 @@ ghost use Rattle.be_actor.specs.Limits.{all_go_together, go_together, is_spelt, 
 
 // What a program has to keep, asked while the tests run. Names and texts of one letter do for them.
 
-use crate::{Draft, FieldWord, Instruction, Place, Program};
+use be_actor::{Draft, FieldWord, Instruction, Place, Program};
 use be_message::Value;
 
 pub(crate) fn is_place(program: &Program, place: Place) -> bool

@@ -16,7 +16,7 @@ use Rattle.be_script.specs.declared.DrawLine.{DrawLine}
 use Rattle.be_script.specs.declared.FilterLine.{FilterLine}
 use Rattle.be_script.specs.declared.ViewLine.{ViewLine}
 use Rattle.be_script.specs.Limits.{is_window, same_list}
-use Rattle.be_script.specs.Plain.{is_near, leads_near, is_plain_view, is_plain_filter, are_plain_bodies, is_plain_draw}
+use Rattle.script_tests.specs.Plain.{is_near, leads_near, is_plain_view, is_plain_filter, are_plain_bodies, is_plain_draw}
 use Rattle.be_script.specs.Programs.{view_count}
 use Rattle.be_script.specs.Routable.{IsRoutable, views_before, filters_before, bodies_before, can_add_view, can_add_filter, can_add_body}
 use Rattle.be_script.specs.Script.{Declared}

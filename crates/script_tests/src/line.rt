@@ -1,4 +1,3 @@
-use crate::*;
 use be_line::{Options, read_options};
 use be_line::Site;
 use be_line::Statement;
@@ -6,6 +5,7 @@ use be_actor::FieldWord;
 use be_color::{Color, Rgb};
 use be_command::{FirstWord, Reason};
 use be_lex::Words;
+use be_line::{Options, Site, Statement, read_fields, read_options};
 use be_message::Kind;
 use std::test::Fail;
 

@@ -1,5 +1,5 @@
 use Rattle.std.proofs.Common.{length}
-use Rattle.be_actor.proofs.rules.+are_words.Given as goal
+use Rattle.script_tests.proofs.rules.+are_words.Given as goal
 
 abbrev pub decreases-are_words : goal.decreases-are_words
 decreases-are_words l = length l.words.now

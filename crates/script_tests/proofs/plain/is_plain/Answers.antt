@@ -2,8 +2,8 @@
 use Rattle.std.proofs.Common.{◌≡◌, length, arith, sym, ◌∙◌}
 use Rattle.be_script.specs.Routable.{IsRoutable}
 use Rattle.be_script.specs.Script.{declared_by}
-use Rattle.be_script.proofs.PlainLemmas.{plain-read, on-true}
-use Rattle.be_script.proofs.costs.plain.is_plain.Goals as goal
+use Rattle.script_tests.proofs.PlainLemmas.{plain-read, on-true}
+use Rattle.script_tests.proofs.plain.is_plain.Goals as goal
 
 pub returns : goal.returns
 returns c =

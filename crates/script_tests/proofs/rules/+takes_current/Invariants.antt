@@ -1,5 +1,5 @@
 use Rattle.std.proofs.Common.{length}
-use Rattle.be_actor.proofs.rules.+takes_current.Given as goal
+use Rattle.script_tests.proofs.rules.+takes_current.Given as goal
 
 abbrev pub decreases-takes_current : goal.decreases-takes_current
 decreases-takes_current l = length l.words.now
