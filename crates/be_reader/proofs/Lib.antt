@@ -1,3 +1,4 @@
 pub mod NameLemmas
 pub mod TakesLemmas
 pub mod FitsLemmas
+pub mod OutcomeLemmas

@@ -54,6 +54,7 @@ pub fn read(alloc: Global, bytes: &[u8]) -> Result<Script, ScriptFault>
 }
 
 /// The script, where nothing is missing behind its last line.
+#[tactic(auto, unfolding(crate::specs::Grammar::finished))]
 fn finish(alloc: Global, said: SoFar, line: u64) -> Result<Script, ScriptFault>
     requires { (size : ℕ × ℕ) → said.screen ≡ Some size →
         is_closed said.begun ≡ true → IsRoutable (declared_in said size) }
@@ -76,6 +77,7 @@ fn finish(alloc: Global, said: SoFar, line: u64) -> Result<Script, ScriptFault>
 }
 
 /// Reads a line, and does what it says.
+#[tactic(auto, unfolding(crate::specs::Grammar::read_line))]
 fn read_line(alloc: Global, said: SoFar, line: &Line<'_>) -> Result<SoFar, LineFault>
     ensures { IsDue (read_line said line.now) result }
 {
