@@ -1,3 +1,4 @@
+pub mod InsideLemmas
 pub mod NameLemmas
 pub mod TakesLemmas
 pub mod FitsLemmas

@@ -1,15 +1,18 @@
-ghost use Rattle.std.specs.Prelude.{◌≡◌, ◌≤◌, ℕ, Some, length, map};
+ghost use Rattle.std.specs.Prelude.{◌≡◌, ◌≤◌, ℕ, Some, IfSome, is_some, length, map};
 ghost use Rattle.std.specs.List.{list_any};
 ghost use Rattle.std.specs.Str.{bytes_eq};
 ghost use Rattle.be_command.specs.Names.{number_in};
-ghost use Rattle.be_reader.specs.SoFar.{app_names, bitmap_names, has_message, nothing_said, row_width, site_of, window_names};
+ghost use Rattle.be_reader.specs.Kinds.{handler_names};
+ghost use Rattle.be_reader.specs.SoFar.{app_names, bitmap_names, has_message, known_in, nothing_said, plain_names, row_width, site_of, view_names, window_names, window_of};
 
 mod doing;
 mod ending;
 
 use crate::begun::Begun;
 use crate::inside::Inside;
+use be_command::Names;
 use be_line::Site;
+use be_message::Text;
 use be_script::{
     AppLine, BitmapLine, BodyLine, DrawLine, FilterLine, HandlerLine, InputLine, ViewLine,
     WindowLine,
@@ -110,6 +113,15 @@ impl SoFar {
     {
         self.begun.has_message()
     }
+
+    /// The names that a command here may use; none where no window is for it.
+    pub(crate) fn names(&self) -> Option<&Names>
+        ensures there { is_some result ≡ is_some (window_of self.now.begun) }
+        ensures names { IfSome result (λ names. names.now ≡ known_in self.now (window_of self.now.begun)) }
+    {
+        let window = self.begun.window()?;
+        Some(&self.inside[usize::from(window)].names)
+    }
 }
 
 /// Names that were said.
@@ -126,6 +138,25 @@ impl SoFar {
         number_of_app(&self.apps, word)
     }
 
+    /// A view of the window. A window that isn't there has the root alone.
+    pub(crate) fn view_named(&self, window: Option<u16>, word: &[u8]) -> Option<u16>
+        ensures { result ≡ number_in (view_names self.now window) word.now }
+    {
+        match self.inside.get(usize::from(window?)) {
+            Some(inside) => inside.names.view(word),
+            None if word == b"root".as_slice() => Some(0),
+            None => None,
+        }
+    }
+
+    /// A plain handler of the window.
+    pub(crate) fn plain_named(&self, window: Option<u16>, word: &[u8]) -> Option<u16>
+        ensures { result ≡ number_in (plain_names self.now window) word.now }
+    {
+        let inside = self.inside.get(usize::from(window?))?;
+        number_of_name(&inside.plain, word)
+    }
+
     pub(crate) fn has_bitmap(&self, word: &[u8]) -> bool
         ensures { result ≡ list_any (λ other. bytes_eq other word.now) (bitmap_names self.now) }
     {
@@ -136,6 +167,14 @@ impl SoFar {
         ensures { result ≡ list_any (λ other. bytes_eq other word.now) (window_names self.now) }
     {
         self.window_named(word).is_some()
+    }
+
+    /// Whether the window has a view or a plain handler of that name.
+    pub(crate) fn has_handler(&self, window: Option<u16>, word: &[u8]) -> bool
+        ensures { result
+            ≡ list_any (λ other. bytes_eq other word.now) (handler_names self.now window) }
+    {
+        self.view_named(window, word).is_some() || self.plain_named(window, word).is_some()
     }
 
     pub(crate) fn has_app(&self, word: &[u8]) -> bool
@@ -163,6 +202,18 @@ fn number_of_app(lines: &[AppLine], word: &[u8]) -> Option<u16>
 {
     for (place, line) in lines.iter().enumerate() {
         if line.name.as_slice() == word {
+            return Some(place as u16);
+        }
+    }
+    None
+}
+
+fn number_of_name(names: &[Text], word: &[u8]) -> Option<u16>
+    requires { length names.now ≤ 16 }
+    ensures { result ≡ number_in names.now word.now }
+{
+    for (place, name) in names.iter().enumerate() {
+        if name.as_slice() == word {
             return Some(place as u16);
         }
     }
