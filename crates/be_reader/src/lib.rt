@@ -8,9 +8,12 @@ mod fault;
 mod inside;
 mod naming;
 mod reader;
+mod pixels;
 mod reading;
 mod said;
+mod screen;
 #[cfg(test)]
 mod tests;
+
 pub use fault::ScriptFault;
 pub use reader::read;
