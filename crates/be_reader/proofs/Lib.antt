@@ -6,3 +6,9 @@ pub mod RuleLemmas
 pub mod TakesLemmas
 pub mod FitsLemmas
 pub mod OutcomeLemmas
+pub mod AppendLemmas
+pub mod DeclaredNames
+pub mod GrowthLemmas
+pub mod KeptLemmas
+pub mod KeptWindows
+pub mod KeptBodies

@@ -6,6 +6,7 @@ pub mod Forms
 pub mod Grammar
 pub mod Inside
 pub mod Judging
+pub mod Keeps
 pub mod Kinds
 pub mod Outcomes
 pub mod Progress
