@@ -12,3 +12,4 @@ pub mod GrowthLemmas
 pub mod KeptLemmas
 pub mod KeptWindows
 pub mod KeptBodies
+pub mod DoneLemmas
