@@ -13,3 +13,6 @@ pub mod KeptLemmas
 pub mod KeptWindows
 pub mod KeptBodies
 pub mod DoneLemmas
+pub mod CommandFits
+pub mod WordFits
+pub mod FieldFits
