@@ -26,7 +26,6 @@ pub(crate) fn is_frame(frame: Rect) -> bool
     is_extent(frame.left, frame.right) && is_extent(frame.top, frame.bottom)
 }
 
-#[tactic(auto, unfolding(be_geom::specs::Points::between))]
 fn is_extent(first: i16, last: i16) -> bool
     ensures { result ≡ between (pos 0) (last -ℤ first) (pos 32767) }
 {
