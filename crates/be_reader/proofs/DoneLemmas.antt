@@ -48,31 +48,31 @@ done_is said deed new e = granted (is_taken said deed) (is_too_many said deed) (
 
 -- ---- what fits
 
-target_there : (said : SoFar) (w : ℕ) (t : Target) → IsTarget said w t → is_handler_of (declared_so_far said) w t ≡ true
-target_there said w target.Window h = refl
-target_there said w (target.View v) h =
+pub target-there : (said : SoFar) (w : ℕ) (t : Target) → IsTarget said w t → is_handler_of (declared_so_far said) w t ≡ true
+target-there said w target.Window h = refl
+target-there said w (target.View v) h =
     let count = length-map (view_lines (declared_so_far said) w) (λ line. line.name) in
     lt-ltb v (length (view_lines (declared_so_far said) w) + 1) (omega arith)
-target_there said w (target.Plain p) h =
+target-there said w (target.Plain p) h =
     let count = length-map (plain_lines (declared_so_far said) w) (λ line. line.name) in
     lt-ltb p (length (plain_lines (declared_so_far said) w)) (omega arith)
 
 list_there : (said : SoFar) (w : ℕ) (list : Option Target) → IsList said w list → is_list (declared_so_far said) w list ≡ true
 list_there said w None h = refl
-list_there said w (Some t) h = target_there said w t h
+list_there said w (Some t) h = target-there said w t h
 
 rule_there : (said : SoFar) (w : ℕ) (rule : Rule) → IsRule said w rule → is_rule (declared_so_far said) w rule ≡ true
 rule_there said w Skip h = refl
 rule_there said w Pass h = refl
-rule_there said w (Redirect t) h = target_there said w t h
+rule_there said w (Redirect t) h = target-there said w t h
 
 view_there : (said : SoFar) (w v : ℕ) → v < length (view_names said (Some w)) → v < length (view_lines (declared_so_far said) w) + 1
 view_there said w v h =
     let count = length-map (view_lines (declared_so_far said) w) (λ line. line.name) in
     omega arith
 
-window_there : (said : SoFar) (w : ℕ) → w < length said.windows → is_window (declared_so_far said) w ≡ true
-window_there said w h = lt-ltb w (length said.windows) h
+pub window-there : (said : SoFar) (w : ℕ) → w < length said.windows → is_window (declared_so_far said) w ≡ true
+window-there said w h = lt-ltb w (length said.windows) h
 
 -- what was begun is of no account where nothing was
 nothing_begun : (d : Declared) (b : Begun) → b ≡ nothing → IsBegun d b
@@ -318,7 +318,7 @@ keeps_then said (adds_view line) k f i taken many =
     record {
       screen = k.screen;
       declared =
-          kept-view d line (window_there said line.window f.1) (leb-false 31 (length (view_lines d line.window)) (or-left full deep many))
+          kept-view d line (window-there said line.window f.1) (leb-false 31 (length (view_lines d line.window)) (or-left full deep many))
           (view_there said line.window line.parent f.3) (or-right full deep many) f.2 k.declared;
       begun = nothing_begun (declared_so_far (record said { views = said.views ++ line ∷ [] })) said.begun f.0;
     }
@@ -327,8 +327,8 @@ keeps_then said (adds_handler line) k f i taken many =
     record {
       screen = k.screen;
       declared =
-          kept-handler d line (window_there said line.window f.1) (leb-false 16 (length (plain_lines d line.window)) many)
-          (target_there said line.window line.next f.3) f.2 k.declared;
+          kept-handler d line (window-there said line.window f.1) (leb-false 16 (length (plain_lines d line.window)) many)
+          (target-there said line.window line.next f.3) f.2 k.declared;
       begun = nothing_begun (declared_so_far (record said { handlers = said.handlers ++ line ∷ [] })) said.begun f.0;
     }
 keeps_then said (adds_filter line) k f i taken many =
@@ -336,7 +336,7 @@ keeps_then said (adds_filter line) k f i taken many =
     record {
       screen = k.screen;
       declared =
-          kept-filter d line (window_there said line.window f.1) (list_there said line.window line.list f.2) i (rule_there said line.window line.rule f.3)
+          kept-filter d line (window-there said line.window f.1) (list_there said line.window line.list f.2) i (rule_there said line.window line.rule f.3)
           (leb-false 32 (length (filter (λ other. other.window == line.window && same_list other.list line.list) said.filters)) many) k.declared;
       begun = nothing_begun (declared_so_far (record said { filters = said.filters ++ line ∷ [] })) said.begun f.0;
     }
@@ -344,8 +344,8 @@ keeps_then said (begins_body w t what) k f i taken many = record {
   screen = k.screen;
   declared = k.declared;
   begun = record {
-    window = window_there said w f.1;
-    handler = target_there said w t f.2;
+    window = window-there said w f.1;
+    handler = target-there said w t f.2;
     word = i.0;
     free = i.1;
     few = leb-false 512 (length (body_lines (declared_so_far said) w)) many;
@@ -358,7 +358,7 @@ keeps_then said (begins_draw w v) k f i taken many = record {
   screen = k.screen;
   declared = k.declared;
   begun = record {
-    window = window_there said w f.1;
+    window = window-there said w f.1;
     view = view_there said w v f.2;
     new = taken;
     short = omega arith;

@@ -16,3 +16,5 @@ pub mod DoneLemmas
 pub mod CommandFits
 pub mod WordFits
 pub mod FieldFits
+pub mod FormedLemmas
+pub mod KeepsLemmas

@@ -6,6 +6,7 @@ mod deed;
 mod deeds;
 mod fault;
 mod inside;
+mod law;
 mod naming;
 mod reader;
 mod pixels;
@@ -17,3 +18,4 @@ mod tests;
 
 pub use fault::ScriptFault;
 pub use reader::read;
+pub use law::an_accepted_script_keeps_its_limits;
