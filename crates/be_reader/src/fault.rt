@@ -1,3 +1,6 @@
+ghost use Rattle.std.specs.Prelude.{◌≡◌};
+ghost use Rattle.be_reader.specs.declared.fault.LineFault.TheVariants as line;
+
 use be_command::Reason;
 use be_geom::NoMemory;
 use thiserror::Error;
@@ -23,6 +26,8 @@ pub enum ScriptFault {
 }
 
 impl From<NoMemory> for LineFault {
+    ghost from_gives = { λ _ fault. fault ≡ line.NoMemory };
+
     fn from(_: NoMemory) -> LineFault {
         LineFault::NoMemory
     }
