@@ -1,5 +1,7 @@
 pub mod FrameLemmas
 pub mod InsideLemmas
+pub mod CommandLemmas
+pub mod DeedLemmas
 pub mod NameLemmas
 pub mod PixelLemmas
 pub mod RuleLemmas

@@ -3,12 +3,14 @@ pub mod Deeds
 pub mod Due
 pub mod Fits
 pub mod Forms
+pub mod GivenDeeds
 pub mod Grammar
 pub mod Inside
 pub mod Judging
 pub mod Keeps
 pub mod Kinds
 pub mod Outcomes
+pub mod LineDeeds
 pub mod Progress
 pub mod Said
 pub mod SoFar
