@@ -1,0 +1,14 @@
+use Rattle.std.proofs.Common.{[]}
+use Rattle.be_line.specs.declared.statement.Statement.TheVariants as statement
+use Rattle.be_reader.specs.Forms.{form_of}
+use Rattle.be_reader.specs.Kinds.{a_place}
+use Rattle.be_reader.proofs.DeedLemmas.{is_deed, reads_end, reads_kind}
+use Rattle.be_reader.proofs.deeds.inputs.point.Goals as goal
+
+pub returns : goal.returns
+unfolding form_of
+returns c =
+    is_deed c.args.said.now statement.Point c.args.line (c.place-place.result, tt) _ c.unless_faulty.result c.requires
+    (reads_kind c.args.said.now a_place [] _ _ _ _ _ c.place-place.ensures
+    (reads_end c.args.said.now c.place-place.new.self))
+    c.unless_faulty.ensures
