@@ -1,6 +1,6 @@
 -- The line of a command.
 use Rattle.std.proofs.Common.{◌≡◌, ℕ, refl, List, Option, Some, None, Result, Ok, Err, ap, ◌∙◌, sym, subst}
-use Rattle.std.specs.Option.{IsSome, option_map}
+use Rattle.std.specs.Option.{IsSome}
 use Rattle.be_actor.specs.declared.Instruction.TheVariants as instruction
 use Rattle.be_command.specs.Names.{Known}
 use Rattle.be_command.specs.Reading.{IsRead, command_of, command_or_reason}
@@ -35,25 +35,19 @@ has_window said word e = window_here said said.screen said.begun word e
 
 -- ---- what it makes, by the names that it may use
 
-names_are : (said : SoFar) (known : Known) (window : Option ℕ) → Some known ≡ option_map (λ w. known_in said (Some w)) window → known ≡ known_in said window
-names_are said known (Some w) e = (cc)
-names_are said known None e = (cc)
-
 pub command_made : (said : SoFar) (known : Known) (window : Option ℕ) (text : List ℕ) (command : Command) →
-    Some known ≡ option_map (λ w. known_in said (Some w)) window → IsRead (Ok command) text (command_of known text) →
+    known ≡ known_in said window → IsRead (Ok command) text (command_of known text) →
     command_said (known_in said window) text ≡ Ok (adds_step (instruction.Draw command))
 unfolding command_or_reason
-command_made said known window text command names read =
-    let by : known ≡ known_in said window = names_are said known window names in
+command_made said known window text command by read =
     let is : command_of (known_in said window) text ≡ Ok command = ap (λ (k : Known). command_of k text) (sym by) ∙ read in
     rw is refl
 
 pub command_faulty : (said : SoFar) (known : Known) (window : Option ℕ) (text : List ℕ) (at : ℕ) (reason : Reason) →
-    Some known ≡ option_map (λ w. known_in said (Some w)) window → IsRead (Err (BadCommand at reason)) text (command_of known text) →
+    known ≡ known_in said window → IsRead (Err (BadCommand at reason)) text (command_of known text) →
     command_said (known_in said window) text ≡ Err reason
 unfolding command_or_reason
-command_faulty said known window text at reason names read =
-    let by : known ≡ known_in said window = names_are said known window names in
+command_faulty said known window text at reason by read =
     let is : command_of (known_in said window) text ≡ Err (record { at = at; reason = reason }) = ap (λ (k : Known). command_of k text) (sym by) ∙ read in
     rw is refl
 

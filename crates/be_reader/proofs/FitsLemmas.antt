@@ -33,7 +33,7 @@ use Rattle.be_reader.specs.Fits.{Fits, HasSteps, IsList, IsNew, IsRow, IsRule, I
 use Rattle.be_reader.specs.declared.fault.LineFault.{LineFault}
 use Rattle.be_reader.specs.Due.{IsDue}
 use Rattle.be_reader.specs.Forms.{Deed, form_of}
-use Rattle.be_reader.specs.Grammar.{deed_said}
+use Rattle.be_reader.specs.LineDeeds.{deed_said}
 use Rattle.be_reader.specs.Kinds.{At, Kind, Said, SaidAll, a_down, a_filter_what, a_frame, a_handler, a_last_color, a_list, a_new_app, a_new_bitmap, a_new_handler, a_new_window, a_number, a_rule, a_view, a_what, a_window, a_window_frame, an_across, some_options, some_pixels, after, behind, handler_named, handler_names, handler_with, list_named, new_name, rule_by, said, said_all, view_or, word_said}
 use Rattle.be_reader.specs.SoFar.{SoFar, Begun, nothing, bitmap, handler_body, draw_body, program, app_names, bitmap_names, nothing_said, plain_names, row_width, site_of, view_names, window_names}
 
@@ -312,6 +312,7 @@ line_fits before statement.Sync at x m e = (within before.screen before.begun _ 
 line_fits before (statement.Command word) at x m e = (within before.screen before.begun _ m, tt)
 
 pub deed_fits : (before : SoFar) (st : Statement) (at : At) (deed : Deed) → misplaced (site_of before) (seat_of st) ≡ None → deed_said before st at ≡ Ok deed → Fits before deed
+unfolding deed_said
 deed_fits before st at deed m e =
     let x = ok-said_as (form_of st).makes (said_all before (form_of st).kinds at) deed e in
     subst (Fits before) x.1.1 (line_fits before st at x.0 m x.1.0)

@@ -6,10 +6,10 @@ use Rattle.be_lex.specs.Lines.{Line, lines_of, text_of, is_printable}
 use Rattle.be_lex.specs.Words.{words_of, is_passed_over}
 use Rattle.be_line.specs.declared.statement.Statement.{Statement}
 use Rattle.be_line.specs.FirstWords.{statement_of, seat_of, meant, misplaced}
-use Rattle.be_reader.specs.Forms.{Form, Deed, form_of}
+use Rattle.be_reader.specs.Forms.{Deed}
 use Rattle.be_reader.specs.Judging.{done}
-use Rattle.be_line.specs.Kinds.{said_as}
-use Rattle.be_reader.specs.Kinds.{At, said_all}
+use Rattle.be_reader.specs.LineDeeds.{deed_said}
+use Rattle.be_reader.specs.Kinds.{At}
 use Rattle.be_reader.specs.SoFar.{SoFar, Begun, nothing, bitmap, handler_body, draw_body, program, nothing_said, declared_in, site_of}
 use Rattle.be_script.specs.Work.{work_of}
 
@@ -19,12 +19,6 @@ use Rattle.be_script.specs.Work.{work_of}
 abbrev then_done : SoFar → Result Deed Reason → Result SoFar Reason
 then_done said (Ok deed) = done said deed
 then_done said (Err reason) = Err reason
-
-abbrev form_said : SoFar → Form → At → Result Deed Reason
-form_said said form at = said_as form.makes (said_all said form.kinds at)
-
-abbrev pub deed_said : SoFar → Statement → At → Result Deed Reason
-deed_said said statement at = form_said said (form_of statement) at
 
 abbrev unless_misplaced : SoFar → Statement → At → Option Reason → Result SoFar Reason
 unless_misplaced said statement at None = then_done said (deed_said said statement at)

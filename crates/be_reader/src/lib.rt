@@ -8,8 +8,8 @@ mod fault;
 mod inside;
 mod law;
 mod naming;
-mod reader;
 mod pixels;
+mod reader;
 mod reading;
 mod said;
 mod screen;
@@ -17,5 +17,5 @@ mod screen;
 mod tests;
 
 pub use fault::ScriptFault;
-pub use reader::read;
 pub use law::an_accepted_script_keeps_its_limits;
+pub use reader::read;
