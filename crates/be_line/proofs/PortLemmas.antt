@@ -1,10 +1,9 @@
 -- The port of a window's options holds 1 to 100 letters.
-use Rattle.std.proofs.Common.{◌≡◌, ℕ, ◌≤◌, pos, ℤ, unsigned_abs, Bool, true, false, ◌&&◌, cond, List, [], ◌∷◌, Option, Some, None, Result, Ok, Err, refl, subst, arith}
+use Rattle.std.proofs.Common.{◌≡◌, ℕ, ◌≤◌, pos, ℤ, unsigned_abs, Bool, true, false, cond, List, [], ◌∷◌, Option, Some, None, Ok, Err, refl, subst, arith}
 use Rattle.std.specs.Prelude.{fold, map}
 use Rattle.std.specs.List.{list_all}
 use Rattle.std.proofs.lemmas.Bool.{and_parts}
 use Rattle.std.proofs.lemmas.Int.{ints}
-use Rattle.be_command.specs.declared.fault.Reason.{Reason}
 use Rattle.be_command.specs.declared.fault.Reason.TheVariants.{Shape, Range}
 use Rattle.be_geom.specs.Points.{between}
 use Rattle.be_line.specs.declared.options.Options.{Options}

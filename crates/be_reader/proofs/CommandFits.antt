@@ -1,13 +1,12 @@
 -- A command that is read keeps its limits and names what is there.
-use Rattle.std.proofs.Common.{◌≡◌, ℕ, ◌<◌, ◌≤◌, Bool, true, false, ◌&&◌, List, length, Option, Some, None, Result, Ok, Err, refl, ap, sym, ◌∙◌, subst}
+use Rattle.std.proofs.Common.{◌≡◌, ℕ, ◌<◌, ◌≤◌, true, ◌&&◌, List, length, Option, Some, None, Result, Ok, Err, refl, subst}
 use Rattle.std.specs.Prelude.{nat_lt, nat_le}
 use Rattle.std.specs.Option.{option_and_then}
 use Rattle.std.proofs.lemmas.Bool.{le-leb, lt-ltb}
 use Rattle.be_command.specs.declared.Command.{Command}
-use Rattle.be_command.specs.declared.fault.Reason.{Reason}
 use Rattle.be_command.specs.declared.first_word.FirstWord.{FirstWord}
 use Rattle.be_command.specs.declared.first_word.FirstWord.TheVariants as first
-use Rattle.be_command.specs.Faults.{both, said_as}
+use Rattle.be_command.specs.Faults.{both}
 use Rattle.be_command.specs.Forms.{first_word_of, form_of}
 use Rattle.be_command.specs.Kinds.{SaidAll, after_all, said_all}
 use Rattle.be_command.specs.Laws.{AreWithin, IsClip, IsFocus}
@@ -18,7 +17,6 @@ use Rattle.be_command.specs.Reading.{command_of, command_or_reason, line_start, 
 use Rattle.be_command.proofs.FaultLemmas.{ok-both, ok-said_as}
 use Rattle.be_command.proofs.WithinLemmas.{all_within}
 use Rattle.be_geom.specs.declared.rect.Rect.{Rect}
-use Rattle.be_geom.specs.Points.{between}
 use Rattle.be_line.specs.FirstWords.{is_of_drawing}
 use Rattle.be_script.proofs.RoutableLemmas.{and-both}
 

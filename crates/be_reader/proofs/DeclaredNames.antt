@@ -1,13 +1,12 @@
 -- Names that are declared side by side.
-use Rattle.std.proofs.Common.{◌≡◌, ℕ, Bool, true, false, not, ◌&&◌, ◌||◌, cond, codes, List, [], ◌∷◌, ◌++◌, map, Result, Ok, Err, refl, ap, sym, ◌∙◌, subst}
+use Rattle.std.proofs.Common.{◌≡◌, ℕ, Bool, true, false, not, ◌||◌, cond, codes, List, [], ◌∷◌, ◌++◌, map, Ok, Err, refl, ap, sym, ◌∙◌}
 use Rattle.std.specs.List.{list_all, list_any}
 use Rattle.std.specs.Str.{bytes_eq}
 use Rattle.std.proofs.lemmas.List.{map-append}
 use Rattle.std.proofs.lemmas.Slice.Eq.{bytes_eq-Decides}
-use Rattle.be_command.specs.declared.fault.Reason.{Reason}
 use Rattle.be_command.specs.declared.fault.Reason.TheVariants.{NameTaken, Shape}
 use Rattle.be_lex.specs.Names.{is_name, is_name_within, is_reserved_name}
-use Rattle.be_reader.proofs.AppendLemmas.{all-append, none-passes, not-true, or-left, or-right}
+use Rattle.be_reader.proofs.AppendLemmas.{all-append, or-left, or-right}
 use Rattle.be_reader.specs.Fits.{IsNew}
 use Rattle.be_script.specs.Names.{are_different, are_names, is_declared_name}
 use Rattle.be_script.proofs.RoutableLemmas.{and-both, not-false}
@@ -47,9 +46,9 @@ different_last [] name h new = refl
 different_last (first ∷ names) name h new =
     and-both (list_all (λ other. not (bytes_eq first other)) (names ++ name ∷ [])) (are_different (names ++ name ∷ []))
     (all-append (λ other. not (bytes_eq first other)) names name (and-left (list_all (λ other. not (bytes_eq first other)) names) (are_different names) h)
-     (not-false (bytes_eq first name) (or-left (bytes_eq first name) (list_any (λ other. bytes_eq other name) names) new)))
+    (not-false (bytes_eq first name) (or-left (bytes_eq first name) (list_any (λ other. bytes_eq other name) names) new)))
     (different_last names name (and-right (list_all (λ other. not (bytes_eq first other)) names) (are_different names) h)
-     (or-right (bytes_eq first name) (list_any (λ other. bytes_eq other name) names) new))
+    (or-right (bytes_eq first name) (list_any (λ other. bytes_eq other name) names) new))
 
 names_last : (names : List (List ℕ)) (name : List ℕ) → are_names names ≡ true → IsFree names name → are_names (names ++ name ∷ []) ≡ true
 unfolding are_names
@@ -102,9 +101,9 @@ different_between (first ∷ front) name back h new =
     let test : List ℕ → Bool = λ other. not (bytes_eq first other) in
     and-both (list_all test ((front ++ name ∷ []) ++ back)) (are_different ((front ++ name ∷ []) ++ back))
     (all_between test front name back (and-left (list_all test (front ++ back)) (are_different (front ++ back)) h)
-     (not-false (bytes_eq first name) (or-left (bytes_eq first name) (list_any (λ other. bytes_eq other name) (front ++ back)) new)))
+    (not-false (bytes_eq first name) (or-left (bytes_eq first name) (list_any (λ other. bytes_eq other name) (front ++ back)) new)))
     (different_between front name back (and-right (list_all test (front ++ back)) (are_different (front ++ back)) h)
-     (or-right (bytes_eq first name) (list_any (λ other. bytes_eq other name) (front ++ back)) new))
+    (or-right (bytes_eq first name) (list_any (λ other. bytes_eq other name) (front ++ back)) new))
 
 -- beside the root's name, which none of them has
 fewer_free : (first : List ℕ) (names : List (List ℕ)) (name : List ℕ) → IsFree (first ∷ names) name → IsFree names name

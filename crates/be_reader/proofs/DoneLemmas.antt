@@ -1,15 +1,12 @@
 -- Each deed that fits and may be done keeps what was said within its limits.
-use Rattle.std.proofs.Common.{◌≡◌, ℕ, zero, suc, ◌+◌, ◌*◌, ◌<◌, ◌≤◌, ◌==◌, Bool, true, false, not, ◌&&◌, ◌||◌, codes, cond, List, [], ◌∷◌, ◌++◌, length, filter, map, Option, Some, None, Result, Ok, Err, refl, ap, sym, ◌∙◌, subst, arith, length-append}
+use Rattle.std.proofs.Common.{◌≡◌, ℕ, zero, suc, ◌+◌, ◌*◌, ◌<◌, ◌≤◌, ◌==◌, Bool, true, false, ◌&&◌, cond, List, [], ◌∷◌, ◌++◌, length, filter, map, Option, Some, None, Ok, Err, refl, ap, sym, ◌∙◌, subst, arith, length-append}
 use Rattle.std.specs.Prelude.{nat_lt, nat_le, slice_index_or}
-use Rattle.std.specs.List.{list_all, list_any}
+use Rattle.std.specs.List.{list_any}
 use Rattle.std.proofs.lemmas.Bool.{eq-eqb, le-leb, leb-false, leb-true, lt-ltb, ltb-true, ltb-false}
 use Rattle.std.proofs.lemmas.List.{length-map}
 use Rattle.be_actor.specs.declared.Instruction.{Instruction}
-use Rattle.be_actor.specs.declared.Instruction.TheVariants as instruction
-use Rattle.be_actor.specs.Limits.{is_reserved, is_what}
 use Rattle.be_bitmap.specs.Pictures.{Picture}
 use Rattle.be_color.specs.declared.colors.Color.{Color}
-use Rattle.be_command.specs.declared.fault.Reason.{Reason}
 use Rattle.be_command.specs.declared.fault.Reason.TheVariants.{NameTaken, TooMany}
 use Rattle.be_handler.specs.declared.Rule.{Rule}
 use Rattle.be_handler.specs.declared.Rule.TheVariants.{Skip, Pass, Redirect}
@@ -22,11 +19,11 @@ use Rattle.be_reader.proofs.GrowthLemmas.{Grows, app_steps-grow, body_step-grows
 use Rattle.be_reader.proofs.KeptLemmas.{grows-size, kept-app, kept-filter, kept-input, kept-picture, kept-size}
 use Rattle.be_reader.proofs.KeptWindows.{kept-handler, kept-view, kept-window}
 use Rattle.be_reader.proofs.KeptBodies.{app-of, app_steps-last, kept-body, kept-draw, lock_after-last}
-use Rattle.be_reader.specs.Fits.{Fits, HasSteps, IsList, IsNew, IsRow, IsRule, IsTarget}
+use Rattle.be_reader.specs.Fits.{Fits, HasSteps, IsList, IsRow, IsRule, IsTarget}
 use Rattle.be_reader.specs.Forms.{Deed, sizes_screen, begins_bitmap, adds_row, adds_window, adds_view, adds_handler, adds_filter, begins_body, begins_draw, begins_program, adds_input, adds_step, closes}
 use Rattle.be_reader.specs.Judging.{depths_of, done, is_taken, is_too_many, said_then}
-use Rattle.be_reader.specs.Keeps.{AreKept, IsBegun, IsBitmapBegun, IsBodyBegun, IsDrawBegun, IsFormed, IsProgramBegun, IsUnlocked, Keeps, declared_so_far, is_step_in, size_of}
-use Rattle.be_reader.specs.SoFar.{SoFar, Begun, nothing, bitmap, handler_body, draw_body, program, plain_names, steps_begun, view_names}
+use Rattle.be_reader.specs.Keeps.{AreKept, IsBegun, IsFormed, IsUnlocked, Keeps, declared_so_far, is_step_in, size_of}
+use Rattle.be_reader.specs.SoFar.{SoFar, Begun, nothing, bitmap, handler_body, draw_body, program, steps_begun, view_names}
 use Rattle.be_script.specs.Limits.{is_list, is_picture, is_rule, is_side, is_window, plain_lines, same_list}
 use Rattle.be_script.specs.Names.{are_names}
 use Rattle.be_script.specs.Programs.{is_app_step, is_body_step, is_draw_step, is_handler_of, lock_behind}
@@ -80,18 +77,18 @@ nothing_begun d b e = subst (IsBegun d) (sym e) tt
 
 -- ---- the screen
 
-begun_size : (d e : Declared) (g : Grows d e) (b : Begun) → length e.pictures ≡ length d.pictures → length e.apps ≡ length d.apps → e.bodies ≡ d.bodies → e.draws ≡ d.draws → e.apps ≡ d.apps →
+begun_size : (d e : Declared) (g : Grows d e) (b : Begun) → e.pictures ≡ d.pictures → e.bodies ≡ d.bodies → e.draws ≡ d.draws → e.apps ≡ d.apps →
     IsBegun d b → IsBegun e b
-begun_size d e g nothing pictures apps bodies draws lines h = tt
-begun_size d e g (bitmap name width height colors) pictures apps bodies draws lines h = record {
-  few = omega arith;
+begun_size d e g nothing pictures bodies draws apps h = tt
+begun_size d e g (bitmap name width height colors) pictures bodies draws apps h = record {
+  few = subst (λ pictures. length pictures < 64) (sym pictures) h.few;
   wide = h.wide;
   high = h.high;
   rows = h.rows;
   some = h.some;
   rest = h.rest;
 }
-begun_size d e g (handler_body w t what steps) pictures apps bodies draws lines h = record {
+begun_size d e g (handler_body w t what steps) pictures bodies draws apps h = record {
   window = window-grows d e g w h.window;
   handler = handler-grows d e g w t h.handler;
   word = h.word;
@@ -101,7 +98,7 @@ begun_size d e g (handler_body w t what steps) pictures apps bodies draws lines 
   short = h.short;
   each = all-weaker (is_body_step d w) (is_body_step e w) (body_step-grows d e g w) steps h.each;
 }
-begun_size d e g (draw_body w v steps) pictures apps bodies draws lines h =
+begun_size d e g (draw_body w v steps) pictures bodies draws apps h =
     let more = g.views w in
     record {
       window = window-grows d e g w h.window;
@@ -110,9 +107,9 @@ begun_size d e g (draw_body w v steps) pictures apps bodies draws lines h =
       short = h.short;
       each = all-weaker (is_draw_step d w) (is_draw_step e w) (draw_step-grows d e g w) steps h.each;
     }
-begun_size d e g (program name lock steps) pictures apps bodies draws lines h = record {
-  few = omega (arith, h.few);
-  names = ap (λ lines. are_names (map (λ line. line.name) lines ++ name ∷ [])) lines ∙ h.names;
+begun_size d e g (program name lock steps) pictures bodies draws apps h = record {
+  few = subst (λ lines. length lines < 16) (sym apps) h.few;
+  names = ap (λ lines. are_names (map (λ line. line.name) lines ++ name ∷ [])) apps ∙ h.names;
   short = h.short;
   each = app_steps-grow d e g None steps h.each;
   locks = h.locks;
@@ -128,7 +125,7 @@ screen_keeps said width height k none w1 w2 h1 h2 =
     record {
       screen = ((w1, w2), (h1, h2));
       declared = kept-size d width height (omega arith) (omega arith) k.declared;
-      begun = begun_size d e g said.begun refl refl refl refl refl k.begun;
+      begun = begun_size d e g said.begun refl refl refl refl k.begun;
     }
 
 -- ---- bitmaps
@@ -171,10 +168,10 @@ side_some side h = leb-true 1 side (and-left (nat_le 1 side) (nat_le side 256) h
 row_adds : (said : SoFar) (name : List ℕ) (width height : ℕ) (colors row : List Color) → Keeps (record said { begun = bitmap name width height colors }) → length row ≡ width →
     (b : Bool) → nat_lt (length (colors ++ row)) (width * height) ≡ b →
     Keeps (cond b (record said { begun = bitmap name width height (colors ++ row) })
-      (record said {
-        bitmaps = said.bitmaps ++ record { name = name; bitmap = record { width = width; height = height; colors = colors ++ row } } ∷ [];
-        begun = nothing;
-      }))
+    (record said {
+      bitmaps = said.bitmaps ++ record { name = name; bitmap = record { width = width; height = height; colors = colors ++ row } } ∷ [];
+      begun = nothing;
+    }))
 row_adds said name width height colors row k fits true below =
     let old = k.begun in
     let total = length-append colors row in
@@ -205,7 +202,7 @@ row_adds said name width height colors row k fits false above =
     let by = left.1 in
     let count : length (colors ++ row) ≡ width * height = omega arith in
     let here : is_picture p ≡ true =
-        and-both (is_side width && is_side height) (length (colors ++ row) == width * height) (and-both (is_side width) (is_side height) old.wide old.high) (eq-eqb (length (colors ++ row)) (width * height) count) in
+    and-both (is_side width && is_side height) (length (colors ++ row) == width * height) (and-both (is_side width) (is_side height) old.wide old.high) (eq-eqb (length (colors ++ row)) (width * height) count) in
     record {
       screen = k.screen;
       declared = subst (λ (pictures : List Picture). AreKept (record d { pictures = pictures })) (sym (map-last (λ line. line.bitmap) said.bitmaps (record { name = name; bitmap = p })))

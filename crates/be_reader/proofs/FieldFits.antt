@@ -1,20 +1,19 @@
 -- The words of a draft that are read keep their limits.
-use Rattle.std.proofs.Common.{◌≡◌, ℕ, zero, suc, ◌+◌, ◌≤◌, ◌==◌, take, drop, Bool, true, false, not, ◌&&◌, codes, cond, List, [], ◌∷◌, length, map, Option, Some, None, option_map, Result, Ok, Err, refl, ap, sym, ◌∙◌, subst, arith}
-use Rattle.std.specs.Prelude.{nat_lt, nat_le}
+use Rattle.std.proofs.Common.{◌≡◌, ℕ, zero, suc, ◌+◌, ◌==◌, take, drop, Bool, true, false, not, ◌&&◌, codes, cond, List, [], ◌∷◌, length, map, Option, Some, None, option_map, Ok, Err, refl, ap, sym, ◌∙◌, subst, arith}
+use Rattle.std.specs.Prelude.{nat_le}
 use Rattle.std.specs.List.{after_first, before_first, list_all, list_any, position_or_len}
 use Rattle.std.specs.Option.{option_and_then}
 use Rattle.std.specs.Str.{bytes_eq}
 use Rattle.std.proofs.lemmas.Bool.Decides.{nat_tests}
 use Rattle.be_actor.specs.Drafts.{DraftWords, Word, value, current, copied}
 use Rattle.be_actor.specs.Limits.{all_go_together, is_draft, is_reserved, is_spelt, is_what, is_word}
-use Rattle.be_command.specs.declared.fault.Reason.{Reason}
 use Rattle.be_command.specs.declared.fault.Reason.TheVariants.{Range, Shape}
 use Rattle.be_lex.specs.Names.{is_field_name, is_name_within}
 use Rattle.be_lex.specs.Numbers.{is_number, number_of}
 use Rattle.be_lex.specs.Words.{cut_at}
 use Rattle.be_line.specs.Fields.{all_there, copied_word, datum_of, field_of, fields_said, int_in, is_in_range, named_word, numbers_in, of_numbers, point_in, ranged, rect_in, text_in, together, truth_in, with_name}
 use Rattle.be_message.specs.Fields.{is_allowed}
-use Rattle.be_message.specs.Messages.{Datum, bool, int, text, point, rect, message}
+use Rattle.be_message.specs.Messages.{Datum, bool, int, text, point, rect}
 use Rattle.be_message.specs.Names.{is_name, is_text}
 use Rattle.be_reader.proofs.AppendLemmas.{all-weaker}
 use Rattle.be_reader.proofs.WordFits.{is_shown, is_shown_word}
@@ -55,7 +54,7 @@ unfolding is_text
 a_text true bytes d short h e =
     let same : text bytes ≡ d = (cc) in
     let allowed : is_allowed (text bytes) ≡ true =
-        and-both (list_all (λ b. nat_le 32 b && nat_le b 126) bytes) (nat_le (length bytes) 1024) (all-weaker is_shown (λ b. nat_le 32 b && nat_le b 126) text_byte bytes h) short in
+    and-both (list_all (λ b. nat_le 32 b && nat_le b 126) bytes) (nat_le (length bytes) 1024) (all-weaker is_shown (λ b. nat_le 32 b && nat_le b 126) text_byte bytes h) short in
     subst (λ (x : Datum). is_spelt x ≡ true) same
     (and-both (is_allowed (text bytes)) (list_all (λ b. nat_le 33 b) bytes) allowed (all-weaker is_shown (λ b. nat_le 33 b) first_byte bytes h))
 a_text false bytes d short h e = absurd ((cc))

@@ -1,5 +1,5 @@
 -- What a line says by itself, as it is read, keeps its limits.
-use Rattle.std.proofs.Common.{◌≡◌, ℕ, zero, suc, ◌+◌, ◌<◌, ◌≤◌, ◌-ℤ◌, pos, ℤ, unsigned_abs, drop, Bool, true, false, not, ◌&&◌, ◌||◌, codes, cond, List, [], ◌∷◌, length, map, Option, Some, None, Result, Ok, Err, refl, ap, sym, ◌∙◌, subst, arith}
+use Rattle.std.proofs.Common.{◌≡◌, ℕ, zero, suc, ◌<◌, ◌≤◌, ◌-ℤ◌, pos, ℤ, drop, Bool, true, false, ◌&&◌, cond, List, [], ◌∷◌, length, Option, Some, None, Result, Ok, Err, refl, ap, sym, ◌∙◌, subst, arith}
 use Rattle.std.specs.Prelude.{nat_lt, nat_le, slice_get}
 use Rattle.std.specs.List.{list_all}
 use Rattle.std.specs.Option.{option_and_then}
@@ -9,11 +9,11 @@ use Rattle.std.proofs.lemmas.Int.{ints}
 use Rattle.std.proofs.lemmas.List.{length-map}
 use Rattle.be_actor.specs.declared.Instruction.{Instruction}
 use Rattle.be_actor.specs.declared.Instruction.TheVariants as instruction
-use Rattle.be_actor.specs.Drafts.{DraftWords, Word}
+use Rattle.be_actor.specs.Drafts.{Word}
 use Rattle.be_actor.specs.Limits.{is_draft, is_reserved, is_what}
 use Rattle.be_command.specs.declared.Command.{Command}
 use Rattle.be_command.specs.declared.fault.Reason.{Reason}
-use Rattle.be_command.specs.declared.fault.Reason.TheVariants.{NotHere, Range, Shape}
+use Rattle.be_command.specs.declared.fault.Reason.TheVariants.{NotHere, Range}
 use Rattle.be_command.specs.declared.first_word.FirstWord.{FirstWord}
 use Rattle.be_command.specs.Forms.{first_word_of}
 use Rattle.be_command.specs.Kinds.{numbered}
@@ -31,7 +31,7 @@ use Rattle.be_line.specs.declared.statement.Statement.{Statement}
 use Rattle.be_line.specs.declared.statement.Statement.TheVariants as statement
 use Rattle.be_line.specs.Fields.{fields_said}
 use Rattle.be_line.specs.FirstWords.{is_of_drawing, misplaced, seat_of}
-use Rattle.be_line.specs.Kinds.{filter_what_said, note_said, said_as, what_said}
+use Rattle.be_line.specs.Kinds.{filter_what_said, note_said, what_said}
 use Rattle.be_line.proofs.PortLemmas.{options-port}
 use Rattle.be_message.specs.declared.target.Target.{Target}
 use Rattle.be_reader.proofs.AppendLemmas.{or-right}
@@ -41,18 +41,16 @@ use Rattle.be_reader.proofs.FieldFits.{draft-keeps}
 use Rattle.be_reader.proofs.FitsLemmas.{handler_fits, judged_is, named_within, number_fits}
 use Rattle.be_reader.proofs.TakesLemmas.{ok-both, ok-said_as}
 use Rattle.be_reader.proofs.WordFits.{filter_what-keeps, is_shown_word, note-keeps, what-keeps}
-use Rattle.be_reader.specs.Fits.{HasSteps, IsTarget}
 use Rattle.be_reader.specs.Forms.{form_of}
-use Rattle.be_reader.specs.Judging.{is_too_many}
 use Rattle.be_reader.specs.Keeps.{IsFormed, IsUnlocked, declared_so_far, is_step_in, size_of}
 use Rattle.be_reader.specs.Kinds.{At, Kind, Said, SaidAll, a_filter_what, a_handler, a_list, a_new_window, a_number, a_place, a_rule, a_what, a_window, a_window_frame, an_app, after, behind, both, frame_said, handler_named, place_said, said, said_all, a_command, a_note, some_fields, some_options, window_frame, word_said}
-use Rattle.be_reader.specs.SoFar.{SoFar, Begun, nothing, bitmap, handler_body, draw_body, program, app_names, has_message, known_in, nothing_said, site_of, view_names, window_names, window_of}
-use Rattle.be_script.specs.Limits.{is_event, is_frame, is_place, is_window_line}
+use Rattle.be_reader.specs.SoFar.{SoFar, Begun, nothing, bitmap, handler_body, draw_body, program, app_names, has_message, known_in, nothing_said, site_of, window_names, window_of}
+use Rattle.be_script.specs.Limits.{is_frame, is_place}
 use Rattle.be_script.specs.Programs.{is_address, is_body_step, is_command_for, is_draw_step, is_free_step, is_handler_of, is_locked_step, is_note, view_count}
 use Rattle.be_script.specs.Script.{Declared}
 use Rattle.be_script.specs.Windows.{view_lines}
 use Rattle.be_script.proofs.RoutableLemmas.{all-at, and-both}
-use Rattle.be_script.proofs.WorkNumbers.{and-left, and-right}
+use Rattle.be_script.proofs.WorkNumbers.{and-right}
 
 -- ---- where a line stands
 
@@ -115,7 +113,7 @@ place_keeps d (Some size) at p wide high e =
     let other : between (pos 0) x.0.1 (pos size.1 -ℤ pos 1) ≡ true = numbered_within (pos 0) (pos size.1 -ℤ pos 1) (slice_get at.words 1) x.0.1 parts.1 in
     subst (λ (q : Point). is_place d q ≡ true) x.1.1
     (and-both (between (pos 0) x.0.0 (pos d.width -ℤ pos 1)) (between (pos 0) x.0.1 (pos d.height -ℤ pos 1))
-     (ap (λ n. between (pos 0) x.0.0 (pos n -ℤ pos 1)) wide ∙ first) (ap (λ n. between (pos 0) x.0.1 (pos n -ℤ pos 1)) high ∙ other))
+    (ap (λ n. between (pos 0) x.0.0 (pos n -ℤ pos 1)) wide ∙ first) (ap (λ n. between (pos 0) x.0.1 (pos n -ℤ pos 1)) high ∙ other))
 
 key_keeps : (n : ℕ) → n ≤ 255 → between (pos 0) (pos n) (pos 255) ≡ true
 unfolding between
@@ -171,9 +169,9 @@ draft_of before at has what words is h e short =
 
 -- ---- commands
 
-command_of : (before : SoFar) (w : ℕ) (text : List ℕ) (word : FirstWord) (c : Command) → window_of before.begun ≡ Some w → option_and_then first_word_of (word_at (line_start text)) ≡ Some word →
+command_fits : (before : SoFar) (w : ℕ) (text : List ℕ) (word : FirstWord) (c : Command) → window_of before.begun ≡ Some w → option_and_then first_word_of (word_at (line_start text)) ≡ Some word →
     command_or_reason (known_in before (window_of before.begun)) text ≡ Ok c → (is_command_for (declared_so_far before) w c ≡ true) × (is_of_drawing word ≡ true → is_drawing c ≡ true)
-command_of before w text word c there first e =
+command_fits before w text word c there first e =
     let known : Known = known_in before (Some w) in
     let m = command-made known text word c first (subst (λ (o : Option ℕ). command_or_reason (known_in before o) text ≡ Ok c) there e) in
     let d = declared_so_far before in
@@ -183,13 +181,14 @@ command_of before w text word c there first e =
     let pictures : length known.bitmaps ≡ length d.pictures = length-map before.bitmaps (λ line. line.name) ∙ sym (length-map before.bitmaps (λ line. line.bitmap)) in
     let keeps : is_command c ≡ true = ap is_command (sym m.made) ∙ command-keeps known word m.parts m.kept in
     let names : names_what_is (length known.windows) (length known.views) (length known.bitmaps) c ≡ true =
-        ap (names_what_is (length known.windows) (length known.views) (length known.bitmaps)) (sym m.made) ∙ command-names known word m.parts m.kept in
+    ap (names_what_is (length known.windows) (length known.views) (length known.bitmaps)) (sym m.made) ∙ command-names known word m.parts m.kept in
     let here : names_what_is (length d.windows) (view_count d w) (length d.pictures) c ≡ true =
-        subst (λ (n : ℕ). names_what_is (length d.windows) (view_count d w) n c ≡ true) pictures
-        (subst (λ (n : ℕ). names_what_is (length d.windows) n (length known.bitmaps) c ≡ true) views
-         (subst (λ (n : ℕ). names_what_is n (length known.views) (length known.bitmaps) c ≡ true) windows names)) in
-    (and-both (is_command c) (names_what_is (length d.windows) (view_count d w) (length d.pictures) c) keeps here,
-     λ drawing. ap is_drawing (sym m.made) ∙ command-draws word m.parts drawing)
+    subst (λ (n : ℕ). names_what_is (length d.windows) (view_count d w) n c ≡ true) pictures
+    (subst (λ (n : ℕ). names_what_is (length d.windows) n (length known.bitmaps) c ≡ true) views
+    (subst (λ (n : ℕ). names_what_is n (length known.views) (length known.bitmaps) c ≡ true) windows names)) in (
+      and-both (is_command c) (names_what_is (length d.windows) (view_count d w) (length d.pictures) c) keeps here,
+      λ drawing. ap is_drawing (sym m.made) ∙ command-draws word m.parts drawing,
+    )
 
 -- ---- a line
 
@@ -222,8 +221,9 @@ BeginsWith text statement.Unlock = Unit {0}
 BeginsWith text statement.Flush = Unit {0}
 BeginsWith text statement.Sync = Unit {0}
 
-no : {A : Type 0} → false ≡ true → A
-no e = absurd ((cc))
+-- where an instruction may not stand
+not_there : {A : Type 0} → false ≡ true → A
+not_there e = absurd ((cc))
 
 pub line_formed : (before : SoFar) (st : Statement) (at : At) (x : SaidAll (form_of st).kinds) → misplaced (site_of before) (seat_of st) ≡ None → list_all is_shown_word at.words ≡ true →
     BeginsWith at.text st → said_all before (form_of st).kinds at ≡ Ok x → IsFormed before ((form_of st).makes x)
@@ -277,7 +277,7 @@ line_formed before statement.Post at x m h t e = λ few.
     let short = or-right _ (nat_lt 255 (length x.1.1.1.0)) few in
     let draft = λ (has : Bool) (is : has_message before.begun ≡ has). draft_of before next has x.1.1.0 x.1.1.1.0 is shown a.1 short in
     placed (declared_so_far before) before.screen before.begun _ (instruction.Post x.0 x.1.0 (record { what = x.1.1.0; words = x.1.1.1.0 })) m
-    (λ w there has so. and-both _ _ a.0 (draft true has)) (λ w there so. no so) (λ has so. and-both _ _ a.0 (draft false has)) (λ w there has so. and-both _ _ a.0 (draft false has))
+    (λ w there has so. and-both _ _ a.0 (draft true has)) (λ w there so. not_there so) (λ has so. and-both _ _ a.0 (draft false has)) (λ w there has so. and-both _ _ a.0 (draft false has))
 line_formed before statement.Send at x m h t e = λ few.
     let a = address before at x.0 x.1.0 (a_what ∷ some_fields ∷ []) x.1.1 e in
     let next = behind 1 (after before a_window at) in
@@ -285,29 +285,29 @@ line_formed before statement.Send at x m h t e = λ few.
     let short = or-right _ (nat_lt 255 (length x.1.1.1.0)) few in
     let draft = λ (has : Bool) (is : has_message before.begun ≡ has). draft_of before next has x.1.1.0 x.1.1.1.0 is shown a.1 short in
     placed (declared_so_far before) before.screen before.begun _ (instruction.Send x.0 x.1.0 (record { what = x.1.1.0; words = x.1.1.1.0 })) m
-    (λ w there has so. no so) (λ w there so. no so) (λ has so. and-both _ _ a.0 (draft false has)) (λ w there has so. no so)
+    (λ w there has so. not_there so) (λ w there so. not_there so) (λ has so. and-both _ _ a.0 (draft false has)) (λ w there has so. not_there so)
 line_formed before statement.Reply at x m h t e = λ few.
     let short = or-right _ (nat_lt 255 (length x.1.0)) few in
     placed (declared_so_far before) before.screen before.begun _ (instruction.Reply (record { what = x.0; words = x.1.0 })) m
-    (λ w there has so. draft_of before at true x.0 x.1.0 has h e short) (λ w there so. no so) (λ has so. no so) (λ w there has so. no so)
+    (λ w there has so. draft_of before at true x.0 x.1.0 has h e short) (λ w there so. not_there so) (λ has so. not_there so) (λ w there has so. not_there so)
 line_formed before statement.Forward at x m h t e = λ few.
     let a = address before at x.0 x.1.0 [] x.1.1 e in
-    placed (declared_so_far before) before.screen before.begun _ (instruction.Forward x.0 x.1.0) m (λ w there has so. a.0) (λ w there so. no so) (λ has so. no so) (λ w there has so. no so)
+    placed (declared_so_far before) before.screen before.begun _ (instruction.Forward x.0 x.1.0) m (λ w there has so. a.0) (λ w there so. not_there so) (λ has so. not_there so) (λ w there has so. not_there so)
 line_formed before statement.Lock at x m h t e = λ few.
     let first = head_of before a_window [] at x e in
     let there = subst (λ (n : ℕ). x.0 < n) (length-map before.windows (λ line. line.name)) (named_within (window_names before) at x.0 first.0) in
-    placed (declared_so_far before) before.screen before.begun _ (instruction.Lock x.0) m (λ w there has so. no so) (λ w there so. no so)
-    (λ has so. window-there before x.0 there) (λ w there has so. no so)
+    placed (declared_so_far before) before.screen before.begun _ (instruction.Lock x.0) m (λ w there has so. not_there so) (λ w there so. not_there so)
+    (λ has so. window-there before x.0 there) (λ w there has so. not_there so)
 line_formed before statement.Unlock at x m h t e = λ few.
-    placed (declared_so_far before) before.screen before.begun _ instruction.Unlock m (λ w there has so. no so) (λ w there so. no so) (λ has so. no so) (λ w there has so. refl)
+    placed (declared_so_far before) before.screen before.begun _ instruction.Unlock m (λ w there has so. not_there so) (λ w there so. not_there so) (λ has so. not_there so) (λ w there has so. refl)
 line_formed before statement.Flush at x m h t e = λ few.
-    placed (declared_so_far before) before.screen before.begun _ instruction.Flush m (λ w there has so. refl) (λ w there so. refl) (λ has so. no so) (λ w there has so. refl)
+    placed (declared_so_far before) before.screen before.begun _ instruction.Flush m (λ w there has so. refl) (λ w there so. refl) (λ has so. not_there so) (λ w there has so. refl)
 line_formed before statement.Sync at x m h t e = λ few.
-    placed (declared_so_far before) before.screen before.begun _ instruction.Sync m (λ w there has so. refl) (λ w there so. refl) (λ has so. no so) (λ w there has so. refl)
+    placed (declared_so_far before) before.screen before.begun _ instruction.Sync m (λ w there has so. refl) (λ w there so. refl) (λ has so. not_there so) (λ w there has so. refl)
 line_formed before (statement.Command word) at x m h t e = λ few.
     let c = (head_of before a_command [] at x e).0 in
     placed (declared_so_far before) before.screen before.begun _ (instruction.Draw x.0) m
-    (λ w there has so. (command_of before w at.text word x.0 there t c).0)
-    (λ w there so. let r = command_of before w at.text word x.0 there t c in and-both _ _ r.0 (r.1 so))
-    (λ has so. no so)
-    (λ w there has so. (command_of before w at.text word x.0 there t c).0)
+    (λ w there has so. (command_fits before w at.text word x.0 there t c).0)
+    (λ w there so. let r = command_fits before w at.text word x.0 there t c in and-both _ _ r.0 (r.1 so))
+    (λ has so. not_there so)
+    (λ w there has so. (command_fits before w at.text word x.0 there t c).0)

@@ -1,6 +1,6 @@
 -- What names what is declared still does where more is declared.
-use Rattle.std.proofs.Common.{◌≡◌, ℕ, ◌+◌, ◌<◌, ◌≤◌, ◌==◌, ◌-ℤ◌, pos, ℤ, Bool, true, false, not, ◌&&◌, List, [], ◌∷◌, length, filter, Option, Some, None, refl, ap, sym, ◌∙◌, subst, arith, ltb-true}
-use Rattle.std.specs.Prelude.{nat_lt, nat_le}
+use Rattle.std.proofs.Common.{◌≡◌, ℕ, ◌+◌, ◌<◌, ◌≤◌, ◌==◌, ◌-ℤ◌, pos, ℤ, Bool, true, false, not, ◌&&◌, List, [], ◌∷◌, length, filter, Option, Some, None, refl, arith, ltb-true}
+use Rattle.std.specs.Prelude.{nat_lt}
 use Rattle.std.specs.List.{list_all}
 use Rattle.std.proofs.lemmas.Bool.{lt-ltb}
 use Rattle.std.proofs.lemmas.Int.{ints}
@@ -225,7 +225,7 @@ module _ (d e : Declared) (g : Grows d e) where
   -- the count of its list is another matter
   pub filter-grows : (line : FilterLine) →
       (is_at_most 32 (filter (λ other. other.window == line.window && same_list other.list line.list) d.filters) ≡ true →
-       is_at_most 32 (filter (λ other. other.window == line.window && same_list other.list line.list) e.filters) ≡ true) →
+      is_at_most 32 (filter (λ other. other.window == line.window && same_list other.list line.list) e.filters) ≡ true) →
       is_filter_line d line ≡ true → is_filter_line e line ≡ true
   filter-grows line few h =
       let w = line.window in
@@ -245,7 +245,7 @@ module _ (d e : Declared) (g : Grows d e) where
   -- so is that of the others for its handler and word
   pub body-grows : (line : BodyLine) →
       (is_at_most 1 (filter (λ other. same_target other.target line.target && other.what == line.what) (body_lines d line.window)) ≡ true →
-       is_at_most 1 (filter (λ other. same_target other.target line.target && other.what == line.what) (body_lines e line.window)) ≡ true) →
+      is_at_most 1 (filter (λ other. same_target other.target line.target && other.what == line.what) (body_lines e line.window)) ≡ true) →
       is_body_line d line ≡ true → is_body_line e line ≡ true
   body-grows line few h =
       let w = line.window in
@@ -267,7 +267,7 @@ module _ (d e : Declared) (g : Grows d e) where
 
   pub draw-grows : (line : DrawLine) →
       (is_at_most 1 (filter (λ other. other.window == line.window && other.view == line.view) d.draws) ≡ true →
-       is_at_most 1 (filter (λ other. other.window == line.window && other.view == line.view) e.draws) ≡ true) →
+      is_at_most 1 (filter (λ other. other.window == line.window && other.view == line.view) e.draws) ≡ true) →
       is_draw_line d line ≡ true → is_draw_line e line ≡ true
   draw-grows line few h =
       let w = line.window in

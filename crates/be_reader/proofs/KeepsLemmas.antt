@@ -1,5 +1,5 @@
 -- What is said keeps its limits from line to line, and at the end all of a script does.
-use Rattle.std.proofs.Common.{◌≡◌, ℕ, zero, suc, ◌+◌, ◌<◌, ◌≤◌, Bool, true, false, not, ◌&&◌, codes, cond, List, [], ◌∷◌, length, map, Option, Some, None, option_map, Result, Ok, Err, refl, ap, sym, ◌∙◌, subst, arith}
+use Rattle.std.proofs.Common.{◌≡◌, ℕ, zero, suc, ◌+◌, ◌<◌, ◌≤◌, Bool, true, false, codes, cond, List, [], ◌∷◌, length, Option, Some, None, option_map, Result, Ok, Err, refl, ap, sym, ◌∙◌, subst, arith}
 use Rattle.std.specs.Prelude.{nat_lt}
 use Rattle.std.specs.List.{list_all, range_with_len}
 use Rattle.std.specs.Map.{lookup}
@@ -35,7 +35,7 @@ use Rattle.be_script.specs.Limits.{IsWithinLimits, is_window_declared}
 use Rattle.be_script.specs.Routable.{IsRoutable}
 use Rattle.be_script.specs.Work.{work_of}
 use Rattle.be_script.proofs.RoutableLemmas.{and-both, routable-from}
-use Rattle.be_script.proofs.WorkNumbers.{and-left, and-right}
+use Rattle.be_script.proofs.WorkNumbers.{and-right}
 
 -- ---- before the first line
 
@@ -145,27 +145,55 @@ unfolding first_word_of
 a_bitmap = refl
 
 declarations : AllBegin declaration_words
-declarations =
-    (λ text words e. nothing_of,
-     (λ text words e. (tt, first_of_words text (codes "bitmap") words e ∙ a_bitmap),
-      (λ text words e. nothing_of,
-       (λ text words e. nothing_of,
-        (λ text words e. nothing_of,
-         (λ text words e. nothing_of,
-          (λ text words e. nothing_of,
-           (λ text words e. nothing_of,
-            (λ text words e. nothing_of,
-             (λ text words e. nothing_of,
-              (λ text words e. nothing_of, (λ text words e. nothing_of, (λ text words e. nothing_of, (λ text words e. nothing_of, (λ text words e. nothing_of, tt)))))))))))))))
+declarations = (
+  λ text words e. nothing_of,
+  (
+    λ text words e. (tt, first_of_words text (codes "bitmap") words e ∙ a_bitmap),
+    (
+      λ text words e. nothing_of,
+      (
+        λ text words e. nothing_of,
+        (
+          λ text words e. nothing_of,
+          (
+            λ text words e. nothing_of,
+            (
+              λ text words e. nothing_of,
+              (
+                λ text words e. nothing_of,
+                (
+                  λ text words e. nothing_of,
+                  (
+                    λ text words e. nothing_of,
+                    (λ text words e. nothing_of, (λ text words e. nothing_of, (λ text words e. nothing_of, (λ text words e. nothing_of, (λ text words e. nothing_of, tt))))),
+                  ),
+                ),
+              ),
+            ),
+          ),
+        ),
+      ),
+    ),
+  ),
+)
 
 instructions : AllBegin instruction_words
-instructions =
-    (λ text words e. nothing_of,
-     (λ text words e. nothing_of,
-      (λ text words e. nothing_of,
-       (λ text words e. nothing_of,
-        (λ text words e. nothing_of,
-         (λ text words e. nothing_of, (λ text words e. nothing_of, (λ text words e. nothing_of, (λ text words e. nothing_of, (λ text words e. nothing_of, tt))))))))))
+instructions = (
+  λ text words e. nothing_of,
+  (
+    λ text words e. nothing_of,
+    (
+      λ text words e. nothing_of,
+      (
+        λ text words e. nothing_of,
+        (
+          λ text words e. nothing_of,
+          (λ text words e. nothing_of, (λ text words e. nothing_of, (λ text words e. nothing_of, (λ text words e. nothing_of, (λ text words e. nothing_of, tt))))),
+        ),
+      ),
+    ),
+  ),
+)
 
 commands : (word : List ℕ) (o : Option FirstWord) (st : Statement) → first_word_of word ≡ o → option_map statement.Command o ≡ Some st → Begins word st
 commands word None st f e = absurd ((cc))
@@ -182,7 +210,7 @@ unfolding statement_of
 statement_begins word st e =
     either word (lookup (bytes_eq word) declaration_words) (in_body word) st (found_in word declaration_words st declarations)
     (either word (lookup (bytes_eq word) instruction_words) (option_map statement.Command (first_word_of word)) st (found_in word instruction_words st instructions)
-     (commands word (first_word_of word) st refl))
+    (commands word (first_word_of word) st refl))
     e
 
 where_meant : (P : Statement → Type 0) (s : Site) (st : Statement) → P st → P (as_command st) → P (meant s st)
@@ -211,8 +239,8 @@ module _ (before new : SoFar) (line : Line) (k : Keeps before) (e : read_line be
       let done_is = rw (long, printable, some, is, known, there, said) at e in
       let begins = statement_begins word st known (text_of line) words is in
       let shown : list_all is_shown_word words ≡ true =
-          and-right (is_shown_word word) (list_all is_shown_word words)
-          (subst (λ (ws : List (List ℕ)). list_all is_shown_word ws ≡ true) is (words-shown (text_of line) printable)) in
+      and-right (is_shown_word word) (list_all is_shown_word words)
+      (subst (λ (ws : List (List ℕ)). list_all is_shown_word ws ≡ true) is (words-shown (text_of line) printable)) in
       keeps_done before new ((form_of (meant_here st)).makes x) k (line_fits before (meant_here st) (at_of word words) x there said)
       (line_formed before (meant_here st) (at_of word words) x there shown (where_meant (BeginsWith (text_of line)) (site_of before) st begins.0 begins.1) said)
       done_is

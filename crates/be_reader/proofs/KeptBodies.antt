@@ -1,5 +1,5 @@
 -- A body more, a Draw body more, and an application that was begun.
-use Rattle.std.proofs.Common.{◌≡◌, ℕ, ◌+◌, ◌<◌, ◌≤◌, ◌==◌, Bool, true, false, not, ◌&&◌, ◌||◌, cond, List, [], ◌∷◌, ◌++◌, length, filter, map, Option, Some, None, refl, ap, sym, ◌∙◌, subst, arith}
+use Rattle.std.proofs.Common.{◌≡◌, ℕ, ◌<◌, ◌≤◌, ◌==◌, Bool, true, false, not, ◌&&◌, ◌||◌, List, [], ◌∷◌, ◌++◌, length, filter, map, Option, Some, None, refl, ap, sym, ◌∙◌, subst, arith}
 use Rattle.std.specs.Prelude.{nat_lt}
 use Rattle.std.specs.List.{list_all, list_any}
 use Rattle.std.proofs.lemmas.Bool.{eq-eqb, eqb-true, le-leb, lt-ltb}
@@ -7,16 +7,16 @@ use Rattle.be_actor.specs.declared.Instruction.{Instruction}
 use Rattle.be_actor.specs.Limits.{is_reserved, is_what}
 use Rattle.be_handler.specs.Routes.{same_target}
 use Rattle.be_message.specs.declared.target.Target.{Target}
-use Rattle.be_reader.proofs.AppendLemmas.{all-append, all-weaker, all-both, alone-last, at-most-of, drops-last, filter-both, filter-more, keeps-last, length-last, none-passes, not-true, of-at-most}
-use Rattle.be_reader.proofs.GrowthLemmas.{Grows, body-grows, body_step-grows, draw-grows, draw_step-grows, handler-grows, window-grows}
+use Rattle.be_reader.proofs.AppendLemmas.{all-append, all-weaker, all-both, alone-last, at-most-of, drops-last, filter-both, keeps-last, length-last, none-passes, not-true, or-left, or-right}
+use Rattle.be_reader.proofs.GrowthLemmas.{Grows, body-grows, body_step-grows, draw-grows, draw_step-grows, handler-grows}
 use Rattle.be_reader.proofs.KeptLemmas.{apps-kept, are_of_window, bodies-kept, draws-kept, filters-kept, handlers-kept, input-kept, views-kept, window-kept, windows-kept}
-use Rattle.be_reader.proofs.KeptWindows.{from_parts, of_parts}
+use Rattle.be_reader.proofs.KeptWindows.{from_parts}
 use Rattle.be_reader.specs.Keeps.{AreKept, IsBodyBegun, IsDrawBegun, are_app_steps, lock_after}
 use Rattle.be_script.specs.declared.BodyLine.{BodyLine}
 use Rattle.be_script.specs.declared.DrawLine.{DrawLine}
 use Rattle.be_script.specs.declared.HandlerLine.{HandlerLine}
 use Rattle.be_script.specs.declared.ViewLine.{ViewLine}
-use Rattle.be_script.specs.Limits.{are_handlers, are_plain_from, are_views, is_at_most, is_body_line, is_draw_line, is_window, is_window_declared, plain_lines}
+use Rattle.be_script.specs.Limits.{are_plain_from, are_views, is_at_most, is_body_line, is_draw_line, is_window, is_window_declared, plain_lines}
 use Rattle.be_script.specs.Names.{are_names}
 use Rattle.be_script.specs.Programs.{is_app_program, is_app_step, is_body_program, is_body_step, is_draw_program, is_draw_step, is_handler_of, is_rest_of_app, is_short, lock_behind, view_count}
 use Rattle.be_script.specs.Script.{Declared}
@@ -44,7 +44,7 @@ turned_body old new h =
     let what : new.what ≡ old.what = eqb-true new.what old.what (and-right (same_target new.target old.target) (new.what == old.what) rest) in
     and-both (old.window == new.window && same_target old.target new.target) (old.what == new.what)
     (and-both (old.window == new.window) (same_target old.target new.target) (eq-eqb old.window new.window (sym w))
-     (target-self new.target old.target (same_target-true new.target old.target target) target))
+    (target-self new.target old.target (same_target-true new.target old.target target) target))
     (eq-eqb old.what new.what (sym what))
 
 unless_so : (a b : Bool) → (a ≡ true → b ≡ true) → b ≡ false → a ≡ false
@@ -59,17 +59,7 @@ beside_is d line lines = filter-both (λ other. other.window == line.window) (λ
 none_of : {X : Type 0} (p q : X → Bool) → ((x : X) → p x ≡ true → q x ≡ true) → (xs : List X) → list_any q xs ≡ false → list_any p xs ≡ false
 none_of p q each [] h = refl
 none_of p q each (x ∷ xs) h =
-    let first : q x ≡ false = first_false (q x) (list_any q xs) h in
-    let rest : list_any q xs ≡ false = rest_false (q x) (list_any q xs) h in
-    ap (λ b. b || list_any p xs) (unless_so (p x) (q x) (each x) first) ∙ none_of p q each xs rest
-  where
-    first_false : (a b : Bool) → (a || b) ≡ false → a ≡ false
-    first_false true b k = k
-    first_false false b k = refl
-    rest_false : (a b : Bool) → (a || b) ≡ false → b ≡ false
-    rest_false true true k = k
-    rest_false true false k = refl
-    rest_false false b k = k
+    ap (λ b. b || list_any p xs) (unless_so (p x) (q x) (each x) (or-left (q x) (list_any q xs) h)) ∙ none_of p q each xs (or-right (q x) (list_any q xs) h)
 
 -- ---- a body
 
@@ -131,7 +121,7 @@ bodies_of d line k few w within true same =
     let e : Declared = record d { bodies = d.bodies ++ line ∷ [] } in
     ap (λ lines. are_of_window e w (view_lines d w) (plain_lines d w) lines) (keeps-last (λ line. line.window == w) d.bodies line same)
     ∙ bodies_in e w (view_lines d w) (plain_lines d w) (body_lines d w) (body_lines d w ++ line ∷ []) (omega arith)
-      (window-kept d e (grows-body d line) w (view_lines d w) (plain_lines d w) (body_lines d w) (k.each_window w within))
+    (window-kept d e (grows-body d line) w (view_lines d w) (plain_lines d w) (body_lines d w) (k.each_window w within))
 
 pub kept-body : (d : Declared) (line : BodyLine) → IsBodyBegun d line.window line.target line.what line.program → AreKept d → AreKept (record d { bodies = d.bodies ++ line ∷ [] })
 kept-body d line b k =
@@ -139,22 +129,22 @@ kept-body d line b k =
     let g : Grows d e = grows-body d line in
     let q : BodyLine → Bool = is_for line.window line.target line.what in
     let apart : list_all (λ old. is_body_line d old && not (q old)) d.bodies ≡ true =
-        all-both (is_body_line d) (λ old. not (q old)) d.bodies k.bodies (none-passes q d.bodies b.new) in
+    all-both (is_body_line d) (λ old. not (q old)) d.bodies k.bodies (none-passes q d.bodies b.new) in
     let old : list_all (is_body_line e) d.bodies ≡ true =
-        all-weaker (λ old. is_body_line d old && not (q old)) (is_body_line e)
-        (λ old h. body-grows d e g old (old_body d line old (not-true (q old) (and-right (is_body_line d old) (not (q old)) h))) (and-left (is_body_line d old) (not (q old)) h))
-        d.bodies apart in
+    all-weaker (λ old. is_body_line d old && not (q old)) (is_body_line e)
+    (λ old h. body-grows d e g old (old_body d line old (not-true (q old) (and-right (is_body_line d old) (not (q old)) h))) (and-left (is_body_line d old) (not (q old)) h))
+    d.bodies apart in
     let here : is_body_line e line ≡ true =
-        let a1 = is_window e line.window in
-        let a2 = is_handler_of e line.window line.target in
-        let a3 = is_what line.what in
-        let a4 = not (is_reserved line.what) in
-        let a5 = is_body_program e line.window line.program in
-        let a6 = is_at_most 1 (filter (λ other. same_target other.target line.target && other.what == line.what) (body_lines e line.window)) in
-        and-both ((((a1 && a2) && a3) && a4) && a5) a6
-        (from_parts a1 a2 a3 a4 a5 b.window (handler-grows d e g line.window line.target b.handler) b.word (not-false (is_reserved line.what) b.free)
-         (body_steps e line.window line.program b.short (all-weaker (is_body_step d line.window) (is_body_step e line.window) (body_step-grows d e g line.window) line.program b.each)))
-        (new_body d line b.new) in
+    let a1 = is_window e line.window in
+    let a2 = is_handler_of e line.window line.target in
+    let a3 = is_what line.what in
+    let a4 = not (is_reserved line.what) in
+    let a5 = is_body_program e line.window line.program in
+    let a6 = is_at_most 1 (filter (λ other. same_target other.target line.target && other.what == line.what) (body_lines e line.window)) in
+    and-both ((((a1 && a2) && a3) && a4) && a5) a6
+    (from_parts a1 a2 a3 a4 a5 b.window (handler-grows d e g line.window line.target b.handler) b.word (not-false (is_reserved line.what) b.free)
+    (body_steps e line.window line.program b.short (all-weaker (is_body_step d line.window) (is_body_step e line.window) (body_step-grows d e g line.window) line.program b.each)))
+    (new_body d line b.new) in
     record {
       few_windows = k.few_windows;
       few_apps = k.few_apps;
@@ -206,22 +196,22 @@ kept-draw d line b k =
     let g : Grows d e = grows-draw d line in
     let q : DrawLine → Bool = draws_in line in
     let apart : list_all (λ old. is_draw_line d old && not (q old)) d.draws ≡ true =
-        all-both (is_draw_line d) (λ old. not (q old)) d.draws k.draws (none-passes q d.draws b.new) in
+    all-both (is_draw_line d) (λ old. not (q old)) d.draws k.draws (none-passes q d.draws b.new) in
     let old : list_all (is_draw_line e) d.draws ≡ true =
-        all-weaker (λ old. is_draw_line d old && not (q old)) (is_draw_line e)
-        (λ old h. draw-grows d e g old
-          (λ few. ap (is_at_most 1) (drops-last (draws_in old) d.draws line (unless_so (draws_in old line) (q old) (turned_draw old line) (not-true (q old) (and-right (is_draw_line d old) (not (q old)) h)))) ∙ few)
-          (and-left (is_draw_line d old) (not (q old)) h))
-        d.draws apart in
+    all-weaker (λ old. is_draw_line d old && not (q old)) (is_draw_line e)
+    (λ old h. draw-grows d e g old
+    (λ few. ap (is_at_most 1) (drops-last (draws_in old) d.draws line (unless_so (draws_in old line) (q old) (turned_draw old line) (not-true (q old) (and-right (is_draw_line d old) (not (q old)) h)))) ∙ few)
+    (and-left (is_draw_line d old) (not (q old)) h))
+    d.draws apart in
     let here : is_draw_line e line ≡ true =
-        let a1 = is_window e line.window in
-        let a2 = nat_lt line.view (view_count e line.window) in
-        let a3 = is_draw_program e line.window line.program in
-        let a4 = is_at_most 1 (filter (λ other. other.window == line.window && other.view == line.view) e.draws) in
-        and-both ((a1 && a2) && a3) a4
-        (and-both (a1 && a2) a3 (and-both a1 a2 b.window (lt-ltb line.view (view_count e line.window) b.view))
-         (draw_steps e line.window line.program b.short (all-weaker (is_draw_step d line.window) (is_draw_step e line.window) (draw_step-grows d e g line.window) line.program b.each)))
-        (alone-last (draws_in line) d.draws line b.new) in
+    let a1 = is_window e line.window in
+    let a2 = nat_lt line.view (view_count e line.window) in
+    let a3 = is_draw_program e line.window line.program in
+    let a4 = is_at_most 1 (filter (λ other. other.window == line.window && other.view == line.view) e.draws) in
+    and-both ((a1 && a2) && a3) a4
+    (and-both (a1 && a2) a3 (and-both a1 a2 b.window (lt-ltb line.view (view_count e line.window) b.view))
+    (draw_steps e line.window line.program b.short (all-weaker (is_draw_step d line.window) (is_draw_step e line.window) (draw_step-grows d e g line.window) line.program b.each)))
+    (alone-last (draws_in line) d.draws line b.new) in
     record {
       few_windows = k.few_windows;
       few_apps = k.few_apps;

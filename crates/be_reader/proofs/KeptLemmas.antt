@@ -1,5 +1,5 @@
 -- What is declared keeps its limits where more is declared elsewhere.
-use Rattle.std.proofs.Common.{◌≡◌, ℕ, ◌+◌, ◌<◌, ◌≤◌, ◌==◌, Bool, true, false, ◌&&◌, List, [], ◌∷◌, ◌++◌, length, filter, map, Option, Some, None, refl, ap, sym, ◌∙◌, subst, arith}
+use Rattle.std.proofs.Common.{◌≡◌, ℕ, ◌<◌, ◌≤◌, ◌==◌, Bool, true, false, ◌&&◌, List, [], ◌∷◌, ◌++◌, length, filter, map, Option, Some, None, refl, ap, ◌∙◌, arith}
 use Rattle.std.specs.List.{list_all}
 use Rattle.std.proofs.lemmas.Bool.{eqb-true}
 use Rattle.be_bitmap.specs.Pictures.{Picture}
@@ -11,7 +11,6 @@ use Rattle.be_reader.proofs.GrowthLemmas.{Grows, and-map, app-grows, body-grows,
 use Rattle.be_reader.specs.Keeps.{AreKept}
 use Rattle.be_script.specs.declared.AppLine.{AppLine}
 use Rattle.be_script.specs.declared.BodyLine.{BodyLine}
-use Rattle.be_script.specs.declared.DrawLine.{DrawLine}
 use Rattle.be_script.specs.declared.FilterLine.{FilterLine}
 use Rattle.be_script.specs.declared.HandlerLine.{HandlerLine}
 use Rattle.be_script.specs.declared.InputLine.{InputLine}
@@ -43,23 +42,23 @@ module _ (d e : Declared) (g : Grows d e) where
   filters-kept same h =
       ap (list_all (is_filter_line e)) same
       ∙ all-weaker (is_filter_line d) (is_filter_line e)
-        (λ line. filter-grows d e g line (λ few. ap (λ lines. is_at_most 32 (filter (λ other. other.window == line.window && same_list other.list line.list) lines)) same ∙ few))
-        d.filters h
+      (λ line. filter-grows d e g line (λ few. ap (λ lines. is_at_most 32 (filter (λ other. other.window == line.window && same_list other.list line.list) lines)) same ∙ few))
+      d.filters h
 
   pub bodies-kept : e.bodies ≡ d.bodies → list_all (is_body_line d) d.bodies ≡ true → list_all (is_body_line e) e.bodies ≡ true
   bodies-kept same h =
       ap (list_all (is_body_line e)) same
       ∙ all-weaker (is_body_line d) (is_body_line e)
-        (λ line. body-grows d e g line
-          (λ few. ap (λ lines. is_at_most 1 (filter (λ other. same_target other.target line.target && other.what == line.what) (filter (λ other. other.window == line.window) lines))) same ∙ few))
-        d.bodies h
+      (λ line. body-grows d e g line
+      (λ few. ap (λ lines. is_at_most 1 (filter (λ other. same_target other.target line.target && other.what == line.what) (filter (λ other. other.window == line.window) lines))) same ∙ few))
+      d.bodies h
 
   pub draws-kept : e.draws ≡ d.draws → list_all (is_draw_line d) d.draws ≡ true → list_all (is_draw_line e) e.draws ≡ true
   draws-kept same h =
       ap (list_all (is_draw_line e)) same
       ∙ all-weaker (is_draw_line d) (is_draw_line e)
-        (λ line. draw-grows d e g line (λ few. ap (λ lines. is_at_most 1 (filter (λ other. other.window == line.window && other.view == line.view) lines)) same ∙ few))
-        d.draws h
+      (λ line. draw-grows d e g line (λ few. ap (λ lines. is_at_most 1 (filter (λ other. other.window == line.window && other.view == line.view) lines)) same ∙ few))
+      d.draws h
 
   pub apps-kept : (lines : List AppLine) → list_all (λ line. is_app_program d line.program) lines ≡ true → list_all (λ line. is_app_program e line.program) lines ≡ true
   apps-kept lines h = all-weaker (λ line. is_app_program d line.program) (λ line. is_app_program e line.program) (λ line. app-grows d e g line.program) lines h
@@ -270,7 +269,7 @@ filters-few d line old few h = by (line.window == old.window && same_list line.l
         let window : line.window ≡ old.window = eqb-true line.window old.window (and-left (line.window == old.window) (same_list line.list old.list) within) in
         let list : line.list ≡ old.list = list-is line.list old.list (and-right (line.window == old.window) (same_list line.list old.list) within) in
         let count : length (filter (test line.window line.list) d.filters) ≡ length (filter (test old.window old.list) d.filters) =
-            ap (λ w. length (filter (test w line.list) d.filters)) window ∙ ap (λ l. length (filter (test old.window l) d.filters)) list in
+        ap (λ w. length (filter (test w line.list) d.filters)) window ∙ ap (λ l. length (filter (test old.window l) d.filters)) list in
         let more = filter-more (test old.window old.list) d.filters line in
         at-most-of 32 (filter (test old.window old.list) (d.filters ++ line ∷ [])) (omega arith)
 
@@ -281,7 +280,7 @@ kept-filter d line window list word rule few k =
     let e : Declared = record d { filters = d.filters ++ line ∷ [] } in
     let g : Grows d e = grows-filter d line in
     let old : list_all (is_filter_line e) d.filters ≡ true =
-        all-weaker (is_filter_line d) (is_filter_line e) (λ other. filter-grows d e g other (filters-few d line other few)) d.filters k.filters in
+    all-weaker (is_filter_line d) (is_filter_line e) (λ other. filter-grows d e g other (filters-few d line other few)) d.filters k.filters in
     let test : FilterLine → Bool = λ other. other.window == line.window && same_list other.list line.list in
     let more = filter-more test d.filters line in
     let most : is_at_most 32 (filter test (d.filters ++ line ∷ [])) ≡ true = at-most-of 32 (filter test (d.filters ++ line ∷ [])) (omega arith) in
@@ -290,9 +289,9 @@ kept-filter d line window list word rule few k =
     let c = is_filter_word line.what in
     let r = is_rule e line.window line.rule in
     let here : is_filter_line e line ≡ true =
-        and-both (((a && b) && c) && r) (is_at_most 32 (filter test (d.filters ++ line ∷ [])))
-        (and-both ((a && b) && c) r (and-both (a && b) c (and-both a b window (list-grows d e g line.window line.list list)) word) (rule-grows d e g line.window line.rule rule))
-        most in
+    and-both (((a && b) && c) && r) (is_at_most 32 (filter test (d.filters ++ line ∷ [])))
+    (and-both ((a && b) && c) r (and-both (a && b) c (and-both a b window (list-grows d e g line.window line.list list)) word) (rule-grows d e g line.window line.rule rule))
+    most in
     record {
       few_windows = k.few_windows;
       few_apps = k.few_apps;

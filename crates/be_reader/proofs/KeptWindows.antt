@@ -1,13 +1,12 @@
 -- A window more, a view more or a plain handler more.
-use Rattle.std.proofs.Common.{◌≡◌, ℕ, zero, suc, ◌+◌, ◌<◌, ◌≤◌, ◌==◌, Bool, true, false, not, ◌&&◌, codes, cond, List, [], ◌∷◌, ◌++◌, length, filter, fold, map, Option, Some, None, refl, ap, sym, ◌∙◌, subst, arith, ltb-true, length-append}
+use Rattle.std.proofs.Common.{◌≡◌, ℕ, zero, suc, ◌+◌, ◌<◌, ◌==◌, Bool, true, false, not, ◌&&◌, codes, List, [], ◌∷◌, ◌++◌, length, filter, fold, map, Option, Some, None, refl, ap, sym, ◌∙◌, subst, arith, ltb-true, length-append}
 use Rattle.std.specs.Prelude.{nat_lt, nat_le, slice_get, slice_index_or}
-use Rattle.std.specs.List.{list_all}
-use Rattle.std.proofs.lemmas.Bool.{eq-eqb, eqb-true, leb-false, lt-ltb, ltb-false}
+use Rattle.std.proofs.lemmas.Bool.{eqb-true, leb-false, lt-ltb, ltb-false}
 use Rattle.be_message.specs.declared.target.Target.{Target}
 use Rattle.be_message.specs.declared.target.Target.TheVariants as target
-use Rattle.be_reader.proofs.AppendLemmas.{all-append, all-weaker, at-most-of, drops-last, filter-more, keeps-last, length-last, none-beyond, of-at-most}
+use Rattle.be_reader.proofs.AppendLemmas.{all-append, all-weaker, at-most-of, drops-last, filter-more, keeps-last, length-last, none-beyond}
 use Rattle.be_reader.proofs.DeclaredNames.{named-last, no-names, plain-named, view-named}
-use Rattle.be_reader.proofs.GrowthLemmas.{Grows, window-grows}
+use Rattle.be_reader.proofs.GrowthLemmas.{Grows}
 use Rattle.be_reader.proofs.KeptLemmas.{apps-kept, are_of_window, bodies-kept, draws-kept, filters-kept, handlers-kept, input-kept, views-kept, window-kept, windows-kept}
 use Rattle.be_reader.specs.Fits.{IsNew}
 use Rattle.be_reader.specs.Judging.{depths_of}
@@ -62,13 +61,13 @@ new_window d e w k same views plain bodies =
     let of_views : filter (λ line. line.window == n) e.views ≡ [] = ap (filter (λ line. line.window == n)) views ∙ none-beyond (λ line. line.window) n d.views k.views in
     let of_plain : filter (λ line. line.window == n) e.handlers ≡ [] = ap (filter (λ line. line.window == n)) plain ∙ none-beyond (λ line. line.window) n d.handlers k.handlers in
     let of_bodies : filter (λ line. line.window == n) e.bodies ≡ [] =
-        ap (filter (λ line. line.window == n)) bodies
-        ∙ none-beyond (λ line. line.window) n d.bodies (all-weaker (is_body_line d) (λ line. is_window d line.window) (body_window d) d.bodies k.bodies) in
+    ap (filter (λ line. line.window == n)) bodies
+    ∙ none-beyond (λ line. line.window) n d.bodies (all-weaker (is_body_line d) (λ line. is_window d line.window) (body_window d) d.bodies k.bodies) in
     subst at (sym same)
     (ap (λ lines. are_of_window e n lines (plain_lines e n) (body_lines e n)) of_views
-     ∙ ap (λ lines. are_of_window e n [] lines (body_lines e n)) of_plain
-     ∙ ap (λ lines. are_of_window e n [] [] lines) of_bodies
-     ∙ nothing_of e n)
+    ∙ ap (λ lines. are_of_window e n [] lines (body_lines e n)) of_plain
+    ∙ ap (λ lines. are_of_window e n [] [] lines) of_bodies
+    ∙ nothing_of e n)
 
 pub kept-window : (d : Declared) (line : WindowLine) → length d.windows < 32 → is_window_line line ≡ true → IsNew (map (λ line. line.name) d.windows) line.name →
     AreKept d → AreKept (record d { windows = d.windows ++ line ∷ [] })
@@ -89,16 +88,16 @@ kept-window d line few here name k =
       filters = filters-kept d e g refl k.filters;
       bodies = bodies-kept d e g refl k.bodies;
       draws = draws-kept d e g refl k.draws;
-      each_window = λ w there. by e g w there (nat_lt w (length d.windows)) refl;
+      each_window = λ w there. by w there (nat_lt w (length d.windows)) refl;
       apps = apps-kept d e g d.apps k.apps;
       app_names = k.app_names;
       input = input-kept d e g d.input k.input;
     }
   where
-    by : (e : Declared) → Grows d e → (w : ℕ) → w < length (d.windows ++ line ∷ []) → (b : Bool) → nat_lt w (length d.windows) ≡ b →
+    by : (w : ℕ) → w < length (d.windows ++ line ∷ []) → (b : Bool) → nat_lt w (length d.windows) ≡ b →
         is_window_declared (record d { windows = d.windows ++ line ∷ [] }) w ≡ true
-    by e g w there true h = windows-kept d (record d { windows = d.windows ++ line ∷ [] }) (grows-window d line) refl refl refl w (k.each_window w (ltb-true w (length d.windows) h))
-    by e g w there false h =
+    by w there true h = windows-kept d (record d { windows = d.windows ++ line ∷ [] }) (grows-window d line) refl refl refl w (k.each_window w (ltb-true w (length d.windows) h))
+    by w there false h =
         let above = ltb-false w (length d.windows) h in
         let more = length-last d.windows line in
         new_window d (record d { windows = d.windows ++ line ∷ [] }) w k (omega arith) refl refl refl
@@ -155,7 +154,7 @@ views-last lines line h few there shallow =
     let count = count_depths lines (1 ∷ []) in
     let more = length-last lines line in
     let last : are_views_below (line ∷ []) (depths_of lines) ≡ true =
-        last_lies (depths_of lines) line (omega arith) (leb-false 8 (slice_index_or (depths_of lines) line.parent 0) shallow) in
+    last_lies (depths_of lines) line (omega arith) (leb-false 8 (slice_index_or (depths_of lines) line.parent 0) shallow) in
     and-both (is_at_most 31 (lines ++ line ∷ [])) (are_views_below (lines ++ line ∷ []) (1 ∷ []))
     (at-most-of 31 (lines ++ line ∷ []) (omega arith)) (below_last lines (1 ∷ []) line below last)
 
@@ -219,8 +218,6 @@ kept-view d line window few there shallow name k =
       input = input-kept d e g d.input k.input;
     }
   where
-    e : Declared
-    e = record d { views = d.views ++ line ∷ [] }
     by : (w : ℕ) → w < length d.windows → (b : Bool) → (line.window == w) ≡ b → is_window_declared (record d { views = d.views ++ line ∷ [] }) w ≡ true
     by w within false other =
         ap (λ lines. are_of_window (record d { views = d.views ++ line ∷ [] }) w lines (plain_lines d w) (body_lines d w)) (drops-last (λ line. line.window == w) d.views line other)
@@ -229,11 +226,11 @@ kept-view d line window few there shallow name k =
         let is : line.window ≡ w = eqb-true line.window w same in
         ap (λ lines. are_of_window (record d { views = d.views ++ line ∷ [] }) w lines (plain_lines d w) (body_lines d w)) (keeps-last (λ line. line.window == w) d.views line same)
         ∙ view_in (record d { views = d.views ++ line ∷ [] }) w (view_lines d w) (plain_lines d w) (body_lines d w) line
-          (window-kept d (record d { views = d.views ++ line ∷ [] }) (grows-view d line) w (view_lines d w) (plain_lines d w) (body_lines d w) (k.each_window w within))
-          (subst (λ (n : ℕ). length (view_lines d n) < 31) is few)
-          (subst (λ (n : ℕ). line.parent < length (view_lines d n) + 1) is there)
-          (subst (λ (n : ℕ). nat_le 8 (slice_index_or (depths_of (view_lines d n)) line.parent 0) ≡ false) is shallow)
-          (subst (λ (n : ℕ). IsNew ((codes "root" ∷ map (λ line. line.name) (view_lines d n)) ++ map (λ line. line.name) (plain_lines d n)) line.name) is name)
+        (window-kept d (record d { views = d.views ++ line ∷ [] }) (grows-view d line) w (view_lines d w) (plain_lines d w) (body_lines d w) (k.each_window w within))
+        (subst (λ (n : ℕ). length (view_lines d n) < 31) is few)
+        (subst (λ (n : ℕ). line.parent < length (view_lines d n) + 1) is there)
+        (subst (λ (n : ℕ). nat_le 8 (slice_index_or (depths_of (view_lines d n)) line.parent 0) ≡ false) is shallow)
+        (subst (λ (n : ℕ). IsNew ((codes "root" ∷ map (λ line. line.name) (view_lines d n)) ++ map (λ line. line.name) (plain_lines d n)) line.name) is name)
 
 -- ---- a plain handler
 
@@ -310,7 +307,7 @@ kept-handler d line window few next name k =
         let is : line.window ≡ w = eqb-true line.window w same in
         ap (λ lines. are_of_window (record d { handlers = d.handlers ++ line ∷ [] }) w (view_lines d w) lines (body_lines d w)) (keeps-last (λ line. line.window == w) d.handlers line same)
         ∙ handler_in (record d { handlers = d.handlers ++ line ∷ [] }) w (view_lines d w) (plain_lines d w) (body_lines d w) line
-          (window-kept d (record d { handlers = d.handlers ++ line ∷ [] }) (grows-handler d line) w (view_lines d w) (plain_lines d w) (body_lines d w) (k.each_window w within))
-          (subst (λ (n : ℕ). length (plain_lines d n) < 16) is few)
-          (next_of d (record d { handlers = d.handlers ++ line ∷ [] }) w line.next refl (subst (λ (n : ℕ). is_handler_of d n line.next ≡ true) is next))
-          (subst (λ (n : ℕ). IsNew ((codes "root" ∷ map (λ line. line.name) (view_lines d n)) ++ map (λ line. line.name) (plain_lines d n)) line.name) is name)
+        (window-kept d (record d { handlers = d.handlers ++ line ∷ [] }) (grows-handler d line) w (view_lines d w) (plain_lines d w) (body_lines d w) (k.each_window w within))
+        (subst (λ (n : ℕ). length (plain_lines d n) < 16) is few)
+        (next_of d (record d { handlers = d.handlers ++ line ∷ [] }) w line.next refl (subst (λ (n : ℕ). is_handler_of d n line.next ≡ true) is next))
+        (subst (λ (n : ℕ). IsNew ((codes "root" ∷ map (λ line. line.name) (view_lines d n)) ++ map (λ line. line.name) (plain_lines d n)) line.name) is name)

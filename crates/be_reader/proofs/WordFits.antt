@@ -1,34 +1,21 @@
 -- What a word says by itself keeps its limits.
-use Rattle.std.proofs.Common.{◌≡◌, ℕ, zero, suc, ◌+◌, ◌*◌, ◌/◌, ◌%◌, ◌<◌, ◌≤◌, ◌==◌, pos, ℤ, unsigned_abs, take, drop, Bool, true, false, not, ◌&&◌, ◌||◌, codes, cond, List, [], ◌∷◌, ◌++◌, length, filter, fold, map, Option, Some, None, option_map, Result, Ok, Err, refl, ap, sym, ◌∙◌, subst, arith}
-use Rattle.std.specs.Prelude.{nat_lt, nat_le}
+use Rattle.std.proofs.Common.{◌≡◌, ℕ, ◌+◌, ◌*◌, ◌/◌, ◌%◌, ◌<◌, ◌==◌, Bool, true, false, not, ◌&&◌, codes, cond, List, [], ◌∷◌, length, filter, Option, Some, None, Ok, Err, refl, ap, ◌∙◌, subst, arith}
+use Rattle.std.specs.Prelude.{nat_le}
 use Rattle.std.specs.Int.{w32, from_be_bytes}
-use Rattle.std.specs.List.{after_first, list_all, list_any, onto_first, position_or_len, slice_split}
-use Rattle.std.specs.Option.{option_and_then}
+use Rattle.std.specs.List.{list_all, onto_first, slice_split}
 use Rattle.std.specs.Str.{bytes_eq}
-use Rattle.std.proofs.lemmas.Bool.{eqb-true, le-leb, leb-true}
+use Rattle.std.proofs.lemmas.Bool.{eqb-true, le-leb}
 use Rattle.std.proofs.lemmas.Bool.Decides.{nat_tests}
-use Rattle.std.proofs.lemmas.Int.{ints}
-use Rattle.be_actor.specs.Drafts.{Word, value, current, copied}
-use Rattle.be_actor.specs.Limits.{all_go_together, is_reserved, is_spelt, is_what, is_what_byte, is_word}
-use Rattle.be_command.specs.declared.fault.Reason.{Reason}
-use Rattle.be_command.specs.declared.fault.Reason.TheVariants.{Range, Shape}
+use Rattle.be_actor.specs.Limits.{is_reserved, is_what, is_what_byte}
+use Rattle.be_command.specs.declared.fault.Reason.TheVariants.{Shape}
 use Rattle.be_command.specs.Kinds.{formed}
-use Rattle.be_geom.specs.Points.{between}
 use Rattle.be_lex.specs.Codes.{code_of, is_code, is_code_byte, is_reserved_code}
 use Rattle.be_lex.specs.Lines.{is_printable}
-use Rattle.be_lex.specs.Names.{is_field_name, is_name_within}
-use Rattle.be_lex.specs.Numbers.{is_number, number_of}
-use Rattle.be_lex.specs.Words.{cut_at, is_empty, is_space, words_of}
-use Rattle.be_line.specs.Fields.{all_there, datum_of, field_of, fields_said, is_in_range, named_word, numbers_in, of_numbers, point_in, rect_in, together, truth_in, int_in, text_in, with_name, copied_word}
+use Rattle.be_lex.specs.Words.{is_empty, is_space, words_of}
 use Rattle.be_line.specs.Kinds.{filter_what_said, note_said, said_as, what_said}
-use Rattle.be_message.specs.Fields.{is_allowed}
-use Rattle.be_message.specs.Messages.{Datum, bool, int, text, point, rect, message}
-use Rattle.be_message.specs.Names as names
-use Rattle.be_reader.proofs.AppendLemmas.{all-weaker}
-use Rattle.be_reader.proofs.TakesLemmas.{ok-said_as}
 use Rattle.be_script.specs.Limits.{is_filter_word}
 use Rattle.be_script.specs.Programs.{is_note}
-use Rattle.be_script.proofs.RoutableLemmas.{and-both, not-false}
+use Rattle.be_script.proofs.RoutableLemmas.{and-both}
 use Rattle.be_script.proofs.WorkNumbers.{and-left, and-right}
 
 -- ---- the words of a printable line
@@ -89,8 +76,8 @@ noted true word note e h said =
     let same : word ≡ note = (cc) in
     subst (λ (n : List ℕ). is_note n ≡ true) same
     (and-both (nat_le 1 (length word) && nat_le (length word) 32) (list_all is_shown word)
-     (and-both (nat_le 1 (length word)) (nat_le (length word) 32) (and-left (nat_le 1 (length word)) (list_all is_shown word) h) e)
-     (and-right (nat_le 1 (length word)) (list_all is_shown word) h))
+    (and-both (nat_le 1 (length word)) (nat_le (length word) 32) (and-left (nat_le 1 (length word)) (list_all is_shown word) h) e)
+    (and-right (nat_le 1 (length word)) (list_all is_shown word) h))
 noted false word note e h said = absurd ((cc))
 
 pub note-keeps : (word note : List ℕ) → is_shown_word word ≡ true → note_said word ≡ Ok note → is_note note ≡ true
