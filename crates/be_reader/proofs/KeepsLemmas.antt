@@ -28,6 +28,7 @@ use Rattle.be_reader.proofs.FormedLemmas.{BeginsWith, line_formed}
 use Rattle.be_reader.proofs.WordFits.{is_shown_word, words-shown}
 use Rattle.be_reader.specs.Forms.{form_of}
 use Rattle.be_reader.specs.Grammar.{fault, finished, is_closed, read_line, read_lines, script_of}
+use Rattle.be_reader.specs.LineDeeds.{deed_said}
 use Rattle.be_reader.specs.Keeps.{AreKept, IsScreen, Keeps, declared_so_far, size_of}
 use Rattle.be_reader.specs.Kinds.{At, SaidAll, said_all}
 use Rattle.be_reader.specs.SoFar.{SoFar, declared_in, nothing_said, site_of}
@@ -234,7 +235,7 @@ module _ (before new : SoFar) (line : Line) (k : Keeps before) (e : read_line be
   line_done : (word : List ℕ) (words : List (List ℕ)) (st : Statement) → nat_lt 2048 (length line.bytes) ≡ false → is_printable (text_of line) ≡ true → is_passed_over (text_of line) ≡ false →
       words_of (text_of line) ≡ word ∷ words → statement_of word ≡ Some st → misplaced (site_of before) (seat_of (meant_here st)) ≡ None →
       (r : Result (SaidAll (form_of (meant_here st)).kinds) Reason) → said_all before (form_of (meant_here st)).kinds (at_of word words) ≡ r → Keeps new
-  unfolding read_line
+  unfolding read_line deed_said
   line_done word words st long printable some is known there (Ok x) said =
       let done_is = rw (long, printable, some, is, known, there, said) at e in
       let begins = statement_begins word st known (text_of line) words is in

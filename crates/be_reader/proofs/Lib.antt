@@ -20,3 +20,4 @@ pub mod WordFits
 pub mod FieldFits
 pub mod FormedLemmas
 pub mod KeepsLemmas
+pub mod LineLemmas

@@ -1,6 +1,8 @@
 -- What the reading of bytes gives beside what they say (this project's own).
-use Rattle.std.specs.Prelude.{◌≡◌, if◌then◌else◌, Option, Some, None, Result, Ok, Err, option_map}
+use Rattle.std.specs.Prelude.{◌≡◌, ℕ, if◌then◌else◌, Option, Some, None, Result, Ok, Err, option_map}
 use Rattle.be_script.specs.declared.Script.{Script}
+use Rattle.be_reader.specs.declared.fault.LineFault.{LineFault}
+use Rattle.be_reader.specs.declared.fault.LineFault.TheVariants as line
 use Rattle.be_reader.specs.declared.fault.ScriptFault.{ScriptFault}
 use Rattle.be_reader.specs.declared.fault.ScriptFault.TheVariants as fault
 use Rattle.be_reader.specs.Grammar.{Fault, is_closed}
@@ -31,3 +33,8 @@ abbrev pub IsRead : Result SoFar Fault → Result Script ScriptFault → Type 0
 IsRead due (Ok script) = due ≡ Ok (said_by script)
 IsRead due (Err (fault.At line reason)) = due ≡ Err (record { line = line; reason = reason })
 IsRead due (Err fault.NoMemory) = Unit {0}
+
+-- the fault of a line, of which the number is told
+abbrev pub fault_at : ℕ → LineFault → ScriptFault
+fault_at number (line.Bad reason) = fault.At number reason
+fault_at number line.NoMemory = fault.NoMemory

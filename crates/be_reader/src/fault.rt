@@ -1,5 +1,6 @@
 ghost use Rattle.std.specs.Prelude.{◌≡◌};
 ghost use Rattle.be_reader.specs.declared.fault.LineFault.TheVariants as line;
+ghost use Rattle.be_reader.specs.Outcomes.{fault_at};
 
 use be_command::Reason;
 use be_geom::NoMemory;
@@ -30,5 +31,17 @@ impl From<NoMemory> for LineFault {
 
     fn from(_: NoMemory) -> LineFault {
         LineFault::NoMemory
+    }
+}
+
+impl LineFault {
+    /// The same fault as that of the line with this number.
+    pub(crate) fn at(self, line: u64) -> ScriptFault
+        ensures { result ≡ fault_at line self }
+    {
+        match self {
+            LineFault::Bad(reason) => ScriptFault::At { line, reason },
+            LineFault::NoMemory => ScriptFault::NoMemory,
+        }
     }
 }

@@ -1,14 +1,18 @@
-ghost use Rattle.std.specs.Prelude.{◌≡◌, ◌≤◌, true, ℕ, Some};
+ghost use Rattle.std.specs.Prelude.{◌≡◌, ◌≤◌, true, ℕ, Some, length, IfOk};
+ghost use Rattle.be_lex.specs.Lines.{lines_of};
 ghost use Rattle.be_lex.specs.Words.{words_of};
 ghost use Rattle.be_line.specs.FirstWords.{meant, statement_of};
+ghost use Rattle.be_script.specs.Limits.{IsWithinLimits};
 ghost use Rattle.be_script.specs.Routable.{IsRoutable};
+ghost use Rattle.be_script.specs.Script.{declared_by};
 ghost use Rattle.be_reader.specs.Due.{IsDue};
-ghost use Rattle.be_reader.specs.Grammar.{finished, is_closed, read_known, read_line, script_of};
+ghost use Rattle.be_reader.specs.Grammar.{finished, is_closed, read_known, read_line, read_lines, script_of};
 ghost use Rattle.be_reader.specs.Outcomes.{IsRead};
-ghost use Rattle.be_reader.specs.SoFar.{declared_in};
+ghost use Rattle.be_reader.specs.SoFar.{declared_in, nothing_said};
 
 use crate::deeds::read_deed;
 use crate::fault::{LineFault, ScriptFault};
+use crate::law::an_accepted_script_keeps_its_limits;
 use crate::said::SoFar;
 use be_command::Reason;
 use be_geom::NoMemory;
@@ -25,8 +29,10 @@ const WORK: u64 = 262_144;
 
 /// Reads a script. It costs a few steps for each byte and for each message that is written, and
 /// memory for what the script says.
+#[tactic(auto, unfolding(crate::specs::Grammar::script_of))]
 pub fn read(alloc: Global, bytes: &[u8]) -> Result<Script, ScriptFault>
-    ensures { IsRead (script_of bytes.now) result }
+    ensures said { IsRead (script_of bytes.now) result }
+    ensures limits { IfOk result (λ script. IsWithinLimits (declared_by script)) }
 {
     if bytes.len() > SCRIPT_BYTES {
         return Err(ScriptFault::At {
@@ -34,19 +40,24 @@ pub fn read(alloc: Global, bytes: &[u8]) -> Result<Script, ScriptFault>
             reason: Reason::TooLong,
         });
     }
+    let script = read_lines(alloc, bytes)?;
+    an_accepted_script_keeps_its_limits(bytes);
+    Ok(script)
+}
+
+/// Reads the lines of a script, one behind the other.
+#[tactic(auto, unfolding(crate::specs::Grammar::read_lines))]
+fn read_lines(alloc: Global, bytes: &[u8]) -> Result<Script, ScriptFault>
+    requires { length bytes.now ≤ 1048576 }
+    ensures { IsRead (read_lines 1 nothing_said (lines_of bytes.now)) result }
+{
     let mut said = SoFar::new(alloc);
     let mut lines = Lines::of(bytes);
     let mut number = 1;
     while let Some(line) = lines.next() {
         said = match read_line(alloc, said, &line) {
             Ok(said) => said,
-            Err(LineFault::Bad(reason)) => {
-                return Err(ScriptFault::At {
-                    line: number,
-                    reason,
-                });
-            }
-            Err(LineFault::NoMemory) => return Err(ScriptFault::NoMemory),
+            Err(fault) => return Err(fault.at(number)),
         };
         number += 1;
     }
