@@ -1,11 +1,12 @@
 -- What the code keeps of each window beside the lists (this project's own).
-use Rattle.std.specs.Prelude.{◌≡◌, ℕ, ◌==◌, ◌<◌, ◌≤◌, ◌&&◌, ◌||◌, Bool, false, if◌then◌else◌, List, [], length, map, Some, None, slice_get}
+use Rattle.std.specs.Prelude.{◌≡◌, ℕ, ◌+◌, ◌*◌, ◌==◌, ◌<◌, ◌≤◌, ◌&&◌, ◌||◌, Bool, true, false, if◌then◌else◌, List, [], filter, length, map, take, Some, None, slice_get}
 use Rattle.std.specs.List.{list_any, range_with_len}
 use Rattle.be_handler.specs.Growth.{with_new_body}
 use Rattle.be_handler.specs.Routes.{Chain}
 use Rattle.be_reader.specs.declared.inside.Inside.{Inside}
+use Rattle.be_reader.specs.Fits.{IsNew}
 use Rattle.be_reader.specs.Judging.{depths_of}
-use Rattle.be_reader.specs.SoFar.{SoFar, Begun, nothing, bitmap, handler_body, draw_body, program, declared_in, known_in, plain_in, plain_names, views_in, window_of}
+use Rattle.be_reader.specs.SoFar.{SoFar, Begun, nothing, bitmap, handler_body, draw_body, program, app_names, bitmap_names, declared_in, known_in, plain_in, plain_names, views_in, window_names, window_of}
 use Rattle.be_script.specs.Windows.{chain_of}
 
 -- the chain of a window with the body that was begun: the code has it there before the lists have it
@@ -37,6 +38,20 @@ pub record IsInside (said : SoFar) (w : ℕ) (inside : Inside) : Type 0 where
   pub chain : inside.chain ≡ with_begun said.begun w (chain_of (declared_in said (0, 0)) w)
   pub draws : inside.draws.items ≡ map (is_drawn said w) (range_with_len 0 (length inside.depths.items))
 
+-- each of these names was new where it was declared
+abbrev pub AreNew : List (List ℕ) → Type 0
+AreNew names = (k : ℕ) (name : List ℕ) → slice_get names k ≡ Some name → IsNew (take k names) name
+
+-- what is begun can be closed: there is room for it, its name is new, and a bitmap has whole rows, and not all of them
+abbrev pub CanClose : SoFar → Begun → Type 0
+CanClose said nothing = Unit {0}
+CanClose said (bitmap name width height colors) =
+    (length said.bitmaps < 64) × IsNew (bitmap_names said) name × (width ≤ 256) × (height ≤ 256)
+    × ((rows : ℕ) × ((rows < height) × (length colors ≡ rows * width)))
+CanClose said (handler_body w target what steps) = Unit {0}
+CanClose said (draw_body w v steps) = Unit {0}
+CanClose said (program name lock steps) = (length said.apps < 16) × IsNew (app_names said) name
+
 -- what is kept of all windows: of each that is there, and no line is of another
 pub record AreInside (said : SoFar) (insides : List Inside) : Type 0 where
   pub count : length insides ≡ length said.windows
@@ -47,3 +62,10 @@ pub record AreInside (said : SoFar) (insides : List Inside) : Type 0 where
   pub no_views : (w : ℕ) → slice_get insides w ≡ None → views_in said w ≡ []
   pub no_plain : (w : ℕ) → slice_get insides w ≡ None → plain_in said w ≡ []
   pub begun_there : (w : ℕ) → window_of said.begun ≡ Some w → w < length insides
+  pub few_bitmaps : length said.bitmaps ≤ 64
+  pub new_windows : AreNew (window_names said)
+  pub new_bitmaps : AreNew (bitmap_names said)
+  pub no_filters : (w : ℕ) → slice_get insides w ≡ None → filter (λ line. line.window == w) said.filters ≡ []
+  pub no_bodies : (w : ℕ) → slice_get insides w ≡ None → filter (λ line. line.window == w) said.bodies ≡ []
+  pub drawn_there : (w v : ℕ) → is_drawn said w v ≡ true → (w < length insides) × (v < length (views_in said w) + 1)
+  pub can_close : CanClose said said.begun

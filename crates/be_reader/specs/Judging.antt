@@ -38,25 +38,25 @@ is_taken said closes = false
 -- ---- limits on counts and depth
 
 -- so many are there, and no more may be
-abbrev are_all : {X : Type 0} → ℕ → List X → Bool
+abbrev pub are_all : {X : Type 0} → ℕ → List X → Bool
 are_all most xs = nat_le most (length xs)
 
 -- how deep the views of a window lie: the root 1 deep, each other one deeper than its parent
-abbrev with_depth : List ℕ → ViewLine → List ℕ
+abbrev pub with_depth : List ℕ → ViewLine → List ℕ
 with_depth depths line = depths ++ (slice_index_or depths line.parent 0 + 1) ∷ []
 
 abbrev pub depths_of : List ViewLine → List ℕ
 depths_of lines = fold with_depth (1 ∷ []) lines
 
 -- the filters of one list of a window
-abbrev filters_beside : SoFar → FilterLine → List FilterLine
+abbrev pub filters_beside : SoFar → FilterLine → List FilterLine
 filters_beside said line = filter (λ other. other.window == line.window && same_list other.list line.list) said.filters
 
 -- a message is made by at most 255 words
-abbrev is_long_draft : DraftWords → Bool
+abbrev pub is_long_draft : DraftWords → Bool
 is_long_draft draft = nat_lt 255 (length draft.words)
 
-abbrev is_long_step : Instruction → Bool
+abbrev pub is_long_step : Instruction → Bool
 is_long_step (instruction.Note text) = false
 is_long_step (instruction.Post w target draft) = is_long_draft draft
 is_long_step (instruction.Send w target draft) = is_long_draft draft
@@ -89,7 +89,7 @@ is_too_many said closes = false
 -- ---- what is said then
 
 -- a row behind the others; the last one ends the bitmap
-abbrev with_colors : SoFar → List ℕ → ℕ → ℕ → List Color → SoFar
+abbrev pub with_colors : SoFar → List ℕ → ℕ → ℕ → List Color → SoFar
 with_colors said name width height colors =
     if nat_lt (length colors) (width * height) then record said { begun = bitmap name width height colors }
     else record said {
@@ -97,7 +97,7 @@ with_colors said name width height colors =
       begun = nothing;
     }
 
-abbrev with_row : SoFar → List Color → Begun → SoFar
+abbrev pub with_row : SoFar → List Color → Begun → SoFar
 with_row said row (bitmap name width height colors) = with_colors said name width height (colors ++ row)
 with_row said row nothing = said
 with_row said row (handler_body w target what steps) = said
@@ -105,7 +105,7 @@ with_row said row (draw_body w v steps) = said
 with_row said row (program name lock steps) = said
 
 -- an instruction behind the others
-abbrev with_step : Instruction → Begun → Begun
+abbrev pub with_step : Instruction → Begun → Begun
 with_step step (handler_body w target what steps) = handler_body w target what (steps ++ step ∷ [])
 with_step step (draw_body w v steps) = draw_body w v (steps ++ step ∷ [])
 with_step step (program name lock steps) = program name (lock_behind lock step) (steps ++ step ∷ [])
@@ -113,7 +113,7 @@ with_step step nothing = nothing
 with_step step (bitmap name width height colors) = bitmap name width height colors
 
 -- what was begun stands behind the others of its sort
-abbrev closed : SoFar → Begun → SoFar
+abbrev pub closed : SoFar → Begun → SoFar
 closed said (handler_body w target what steps) =
     record said { bodies = said.bodies ++ record { window = w; target = target; what = what; program = steps } ∷ []; begun = nothing }
 closed said (draw_body w v steps) =

@@ -4,6 +4,7 @@ ghost use Rattle.be_reader.specs.Outcomes.{fault_at};
 
 use be_command::Reason;
 use be_geom::NoMemory;
+use std::alloc::{AllocError, AllocFailed};
 use thiserror::Error;
 
 /// Why a line isn't taken.
@@ -30,6 +31,22 @@ impl From<NoMemory> for LineFault {
     ghost from_gives = { λ _ fault. fault ≡ line.NoMemory };
 
     fn from(_: NoMemory) -> LineFault {
+        LineFault::NoMemory
+    }
+}
+
+impl From<AllocError> for LineFault {
+    ghost from_gives = { λ _ fault. fault ≡ line.NoMemory };
+
+    fn from(_: AllocError) -> LineFault {
+        LineFault::NoMemory
+    }
+}
+
+impl<T: Drop> From<AllocFailed<T>> for LineFault {
+    ghost from_gives = { λ _ fault. fault ≡ line.NoMemory };
+
+    fn from(_: AllocFailed<T>) -> LineFault {
         LineFault::NoMemory
     }
 }
