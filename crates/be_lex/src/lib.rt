@@ -18,8 +18,6 @@ mod mode;
 mod name;
 mod number;
 mod pattern;
-#[cfg(test)]
-mod tests;
 mod word;
 
 pub use code::{is_reserved_code, read_code, write_code};

@@ -1,4 +1,4 @@
-use crate::*;
+use be_command::{Command, CommandFault, NameFault, Names, Reason, read_command, write_command};
 use std::alloc::Global;
 use std::process::Abort;
 use std::test::Fail;

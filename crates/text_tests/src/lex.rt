@@ -1,5 +1,9 @@
-use crate::*;
 use be_color::{Color, Mode, Pattern, Rgb};
+use be_lex::{
+    Lines, Number, Words, cut_at, is_field_name, is_name, is_passed_over, is_printable,
+    is_reserved_code, is_reserved_name, read_code, read_color, read_mode, read_pattern, read_pixel,
+    write_code, write_color, write_mode, write_natural, write_number, write_pattern, write_rgb,
+};
 use std::process::Abort;
 use std::test::Fail;
 
