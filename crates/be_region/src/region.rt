@@ -158,6 +158,3 @@ impl Region {
         frame_of(&self.rects)
     }
 }
-
-#[cfg(test)]
-mod tests;

@@ -200,6 +200,3 @@ fn part_of_all(layers: &[Layer], x: i32, y: i32) -> (bool, i32)
     }
     (true, last)
 }
-
-#[cfg(test)]
-mod tests;

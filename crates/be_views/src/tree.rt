@@ -300,6 +300,3 @@ fn view_below(views: &[View], x: i32, y: i32) -> u16
     }
     view
 }
-
-#[cfg(test)]
-mod tests;

@@ -1,7 +1,7 @@
 ghost use Rattle.std.specs.Prelude.{pos, ◌≤ℤ◌};
 
-use super::Region;
 use be_geom::{NoMemory, OutOfRange, Point, Rect};
+use be_region::Region;
 use std::alloc::Global;
 use std::test::Fail;
 

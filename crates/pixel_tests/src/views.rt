@@ -1,7 +1,6 @@
-use super::ViewTree;
-use crate::fault::{ClipFault, ViewFault};
 use be_follow::{Across, Down, Follow};
 use be_geom::{OutOfRange, Rect};
+use be_views::{ClipFault, ViewFault, ViewTree};
 use std::alloc::Global;
 use std::test::Fail;
 

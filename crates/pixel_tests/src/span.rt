@@ -1,7 +1,7 @@
-use super::*;
-use be_color::{Color, Mode};
+use be_color::{Color, Mode, Rgb};
 use be_geom::{NoMemory, Rect};
 use be_region::Region;
+use be_span::{Brush, Cell, Source, SpanBuf, paint_cells};
 use std::alloc::Global;
 use std::test::Fail;
 

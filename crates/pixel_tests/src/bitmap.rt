@@ -1,4 +1,4 @@
-use super::*;
+use be_bitmap::{Bitmap, BitmapFault};
 use be_color::{Color, Rgb};
 use std::alloc::Global;
 use std::process::Abort;

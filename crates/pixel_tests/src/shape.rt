@@ -1,4 +1,5 @@
-use super::*;
+use be_geom::{Point, Rect};
+use be_shape::{PenSize, Raster};
 use std::process::Abort;
 
 fn pen(rt: &impl Abort, pixels: u8) -> PenSize {

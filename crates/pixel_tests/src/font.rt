@@ -1,4 +1,4 @@
-use super::*;
+use be_font::{NotInFont, bit, next_run, width_of};
 use std::test::Fail;
 
 /// The glyphs as they are printed: for each code from 32 on five columns from the left, two digits each, of

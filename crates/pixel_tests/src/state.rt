@@ -1,8 +1,7 @@
-use super::StateStack;
-use crate::{StackEmpty, StackFull, State};
 use be_color::{Color, Mode, Rgb, blend};
 use be_geom::{NoMemory, Point, Rect};
 use be_region::Region;
+use be_state::{StackEmpty, StackFull, State, StateStack};
 use std::alloc::Global;
 use std::test::Fail;
 
