@@ -169,6 +169,3 @@ fn value_at(
         Kind::Message => Ok(Value::Message(Box::new(alloc, message_at(alloc, cursor, levels)?)?)),
     }
 }
-
-#[cfg(test)]
-mod tests;

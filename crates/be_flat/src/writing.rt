@@ -152,6 +152,3 @@ fn append_rect(out: &mut Vec<u8>, rect: Rect) -> Result<(), NoMemory>
     append_point(out, rect.left, rect.top)?;
     append_point(out, rect.right, rect.bottom)
 }
-
-#[cfg(test)]
-mod tests;

@@ -12,8 +12,6 @@ mod kind;
 mod message;
 mod names;
 mod target;
-#[cfg(test)]
-mod tests;
 mod text;
 mod value;
 

@@ -1,5 +1,5 @@
-use super::*;
 use be_message::Message;
+use be_reply::{Cell, PutFault};
 use std::alloc::Global;
 use std::test::Fail;
 

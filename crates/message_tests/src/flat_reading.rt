@@ -1,6 +1,6 @@
-use super::*;
-use crate::writing::flatten;
-use be_message::FindFault;
+use be_flat::{FlatError, flatten, unflatten};
+use be_message::{FindFault, Kind, Value};
+use std::alloc::Global;
 use std::test::Fail;
 
 /// PING with n = 5: a what, one field, its type, its name, one value.

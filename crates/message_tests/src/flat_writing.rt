@@ -1,6 +1,7 @@
-use super::*;
-use be_geom::Point;
-use be_message::Text;
+use be_flat::flatten;
+use be_geom::{Point, Rect};
+use be_message::{Message, Text, Value};
+use std::alloc::Global;
 use std::test::Fail;
 
 const PING: u32 = 0x5049_4e47;

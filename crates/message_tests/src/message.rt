@@ -1,5 +1,5 @@
-use super::*;
 use be_geom::{NoMemory, Point, Rect};
+use be_message::{AddFault, FindFault, Kind, Message, NameNotFound, ReplaceFault, Text, Value};
 use std::alloc::Global;
 use std::test::Fail;
 

@@ -1,4 +1,5 @@
-use super::*;
+use be_handler::{Chain, ChainFault, Route, Rule};
+use be_message::Target;
 use std::alloc::Global;
 use std::test::Fail;
 
