@@ -107,6 +107,3 @@ fn first_states(alloc: Global, colors: &[Color]) -> Result<Vec<StateStack>, NoMe
     }
     Ok(states)
 }
-
-#[cfg(test)]
-mod tests;

@@ -1,6 +1,6 @@
-use super::Pane;
 use be_color::{Color, Rgb};
 use be_geom::{NoMemory, Point, Rect};
+use be_pane::Pane;
 use be_region::Region;
 use be_span::{Cell, SpanBuf};
 use be_views::ViewTree;

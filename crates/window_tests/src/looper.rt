@@ -1,7 +1,7 @@
-use super::*;
 use be_command::Command;
 use be_flat::Bytes;
 use be_handler::Route;
+use be_looper::{BeginFault, Looper, Owner, ReplyFault};
 use be_message::{Message, Target};
 use be_port::{Duty, Letter, Sender};
 use std::alloc::Global;

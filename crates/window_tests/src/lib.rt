@@ -1,0 +1,11 @@
+//! The tests of the window crates. Nothing else is here.
+#![tactic(auto)]
+
+#[cfg(test)]
+mod input;
+#[cfg(test)]
+mod looper;
+#[cfg(test)]
+mod pane;
+#[cfg(test)]
+mod stack;
