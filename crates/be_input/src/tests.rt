@@ -9,8 +9,27 @@ use std::alloc::Global;
 use std::process::Abort;
 use std::test::Fail;
 
-/// The characters of `KEYD`.
+/// The characters of `MDWN`, `MUP_`, `MMOV` and `KEYD`.
+const DOWN: u32 = 0x4d44_574e;
+
+const UP: u32 = 0x4d55_505f;
+
+const MOVED: u32 = 0x4d4d_4f56;
+
 const KEY: u32 = 0x4b45_5944;
+
+/// A message about the mouse: window, view, word, place, and transit if it has one.
+type Sent = (u16, u16, u32, (i16, i16), Option<i32>);
+
+/// What is due of an event, which then is remembered.
+#[derive(Clone, Copy)]
+struct Due {
+    event: Event,
+    activate: Option<u16>,
+    first: Option<Sent>,
+    second: Option<Sent>,
+    under: Option<(u16, u16)>,
+}
 
 fn rect(left: i16, top: i16, right: i16, bottom: i16) -> Rect {
     Rect {
@@ -63,6 +82,118 @@ fn views(rt: &impl Alloc<A = Global>) -> Result<Pointing, Fail> {
         trees.push(tree)?;
     }
     Ok(Pointing::new(rt.alloc(), trees)?)
+}
+
+fn sent(post: &Option<Post>) -> Option<Sent> {
+    let post = post.as_ref()?;
+    let view = match post.target {
+        Target::View(view) => view,
+        _ => return None,
+    };
+    let place = match post.message.find("where", Kind::Point, 0).ok()? {
+        Value::Point(p) => (p.x, p.y),
+        _ => return None,
+    };
+    let transit = match post.message.find("transit", Kind::Int, 0) {
+        Ok(Value::Int(transit)) => Some(*transit),
+        _ => None,
+    };
+    Some((post.window, view, post.message.what(), place, transit))
+}
+
+fn is_due(
+    rt: &(impl Alloc<A = Global> + Abort),
+    stack: &Stack,
+    pointing: &mut Pointing,
+    due: &Due,
+) -> Result<(), Fail> {
+    let delivery = deliver(rt.alloc(), stack, pointing, &due.event)?;
+    assert_eq!(rt; delivery.activate, due.activate);
+    assert_eq!(rt; sent(&delivery.first), due.first);
+    assert_eq!(rt; sent(&delivery.second), due.second);
+    assert_eq!(rt; delivery.under, due.under);
+    pointing.remember(delivery.under);
+    Ok(())
+}
+
+fn press(x: i16, y: i16, activate: Option<u16>, first: Option<Sent>) -> Due {
+    Due {
+        event: Event::Press(Point { x, y }),
+        activate,
+        first,
+        second: None,
+        under: None,
+    }
+}
+
+fn release(x: i16, y: i16, first: Option<Sent>) -> Due {
+    Due {
+        event: Event::Release(Point { x, y }),
+        ..press(x, y, None, first)
+    }
+}
+
+fn move_to(x: i16, y: i16, posts: (Option<Sent>, Option<Sent>), under: Option<(u16, u16)>) -> Due {
+    Due {
+        event: Event::Move(Point { x, y }),
+        activate: None,
+        first: posts.0,
+        second: posts.1,
+        under,
+    }
+}
+
+#[test]
+fn presses_and_releases_go_by_flags_and_views(rt: HostRuntime) -> Result<(), Fail> {
+    let mut stack = three(&rt)?;
+    let mut pointing = views(&rt)?;
+    is_due(&rt, &stack, &mut pointing, &press(4, 5, Some(0), None))?;
+    change(&rt, &mut stack, 0, Change::Activate);
+    let cases = [
+        press(4, 5, None, Some((0, 1, DOWN, (2, 2), None))),
+        press(12, 3, Some(1), Some((1, 0, DOWN, (2, 3), None))),
+        press(25, 9, None, Some((2, 1, DOWN, (32_767, 9), None))),
+        press(35, 1, None, None),
+        release(0, 9, Some((0, 0, UP, (0, 9), None))),
+        release(12, 3, Some((1, 0, UP, (2, 3), None))),
+        release(39, 9, None),
+    ];
+    for case in &cases {
+        is_due(&rt, &stack, &mut pointing, case)?;
+    }
+    Ok(())
+}
+
+#[test]
+fn the_pointer_leaves_one_view_and_enters_another(rt: HostRuntime) -> Result<(), Fail> {
+    let mut stack = three(&rt)?;
+    let mut pointing = views(&rt)?;
+    let entered = (0, 1, MOVED, (3, 3), Some(0));
+    let inside = (0, 1, MOVED, (0, 0), Some(1));
+    let left = (0, 1, MOVED, (9, -2), Some(2));
+    let next = (1, 0, MOVED, (1, 1), Some(0));
+    let cases = [
+        move_to(5, 6, (Some(entered), None), Some((0, 1))),
+        move_to(2, 3, (Some(inside), None), Some((0, 1))),
+        move_to(11, 1, (Some(left), Some(next)), Some((1, 0))),
+    ];
+    for case in &cases {
+        is_due(&rt, &stack, &mut pointing, case)?;
+    }
+    change(&rt, &mut stack, 1, Change::Close);
+    let from_closed = (1, 0, MOVED, (25, 9), Some(2));
+    is_due(
+        &rt,
+        &stack,
+        &mut pointing,
+        &move_to(35, 9, (Some(from_closed), None), None),
+    )?;
+    is_due(
+        &rt,
+        &stack,
+        &mut pointing,
+        &move_to(36, 9, (None, None), None),
+    )
 }
 
 /// Where a key goes: window, target, word and key.

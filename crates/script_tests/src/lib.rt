@@ -1,4 +1,4 @@
-//! Tests of the crates of the script language, with values that were worked out by hand.
+//! The tests of the crates of the script language. Nothing else is here.
 #![tactic(auto)]
 
 #[cfg(test)]

@@ -2,10 +2,6 @@
 #![tactic(auto)]
 
 #[cfg(test)]
-mod input;
-#[cfg(test)]
 mod looper;
 #[cfg(test)]
 mod pane;
-#[cfg(test)]
-mod stack;
