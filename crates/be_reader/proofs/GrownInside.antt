@@ -1,6 +1,7 @@
 -- What is kept of the windows, where a line changes one of them or none.
-use Rattle.std.proofs.Common.{◌≡◌, ℕ, ◌+◌, ◌<◌, ◌≤◌, ◌==◌, Bool, true, false, List, [], length, map, set, get_or, Option, Some, None, refl, ap, sym, ◌∙◌, subst, inl, inr, arith, length-set, ne_eqb}
+use Rattle.std.proofs.Common.{◌≡◌, ℕ, ◌+◌, ◌<◌, ◌≤◌, ◌==◌, Bool, true, false, List, [], length, map, set, get_or, take, drop, ◌++◌, Option, Some, None, refl, ap, sym, ◌∙◌, subst, inl, inr, arith, length-set, ne_eqb}
 use Rattle.std.proofs.lemmas.Bool.{cases_eq}
+use Rattle.std.proofs.lemmas.List.{take_all, take-append-le}
 use Rattle.std.proofs.lemmas.Option.{same_Some, slice_get_within, slice_get-get_or}
 use Rattle.std.specs.List.{range_with_len}
 use Rattle.std.specs.Prelude.{slice_get}
@@ -55,3 +56,9 @@ here_at said insides w k here kept at there is =
 
 pub set_at : (said : SoFar) (insides : List Inside) (w k : ℕ) (new : Inside) → k ≡ w → AreInside said (set insides w new) → AreInside said (set insides k new)
 set_at said insides w k new at kept = subst (λ (n : ℕ). AreInside said (set insides n new)) (sym at) kept
+
+-- all of the windows are there
+pub taken_whole : (said : SoFar) (n : ℕ) (xs olds ys : List Inside) → xs ≡ ys → length ys ≡ n → AreInside said ys → AreInside said (take n (xs ++ drop (length xs) olds))
+taken_whole said n xs olds ys same all kept =
+    let count : length xs ≡ n = ap length same ∙ all in
+    subst (AreInside said) (sym (take-append-le n xs (drop (length xs) olds) (omega arith) ∙ take_all n xs (omega arith) ∙ same)) kept

@@ -32,3 +32,5 @@ pub mod PixelLemmas
 pub mod ProgramKept
 pub mod RuleLemmas
 pub mod ViewLemmas
+pub mod BitmapKept
+pub mod EverywhereLemmas

@@ -1,6 +1,7 @@
 -- What the code keeps of each window beside the lists (this project's own).
 use Rattle.std.specs.Prelude.{◌≡◌, ℕ, ◌+◌, ◌*◌, ◌==◌, ◌<◌, ◌≤◌, ◌&&◌, ◌||◌, Bool, true, false, if◌then◌else◌, List, [], filter, length, map, take, Some, None, slice_get}
 use Rattle.std.specs.List.{list_any, range_with_len}
+use Rattle.be_color.specs.declared.colors.Color.{Color}
 use Rattle.be_handler.specs.Growth.{with_new_body}
 use Rattle.be_handler.specs.Routes.{Chain}
 use Rattle.be_reader.specs.declared.inside.Inside.{Inside}
@@ -51,6 +52,12 @@ CanClose said (bitmap name width height colors) =
 CanClose said (handler_body w target what steps) = Unit {0}
 CanClose said (draw_body w v steps) = Unit {0}
 CanClose said (program name lock steps) = (length said.apps < 16) × IsNew (app_names said) name
+
+-- nothing is begun, and a bitmap with these whole rows may be
+abbrev pub HasRows : SoFar → List ℕ → ℕ → ℕ → List Color → Type 0
+HasRows said name width height colors =
+    (said.begun ≡ nothing) × (length said.bitmaps < 64) × IsNew (bitmap_names said) name × (width ≤ 256) × (height ≤ 256)
+    × ((rows : ℕ) × ((rows ≤ height) × (length colors ≡ rows * width)))
 
 -- what is kept of all windows: of each that is there, and no line is of another
 pub record AreInside (said : SoFar) (insides : List Inside) : Type 0 where

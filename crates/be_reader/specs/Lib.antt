@@ -1,6 +1,7 @@
 pub mod Begun
 pub mod Deeds
 pub mod Due
+pub mod Everywhere
 pub mod Fits
 pub mod Forms
 pub mod GivenDeeds
@@ -9,8 +10,8 @@ pub mod Inside
 pub mod Judging
 pub mod Keeps
 pub mod Kinds
-pub mod Outcomes
 pub mod LineDeeds
+pub mod Outcomes
 pub mod Progress
 pub mod Said
 pub mod SoFar

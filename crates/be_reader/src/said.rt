@@ -5,10 +5,12 @@ ghost use Rattle.be_command.specs.Names.{number_in};
 ghost use Rattle.be_reader.specs.Kinds.{handler_names};
 ghost use Rattle.be_reader.specs.SoFar.{app_names, bitmap_names, has_message, known_in, nothing_said, plain_names, row_width, site_of, view_names, window_names, window_of};
 
+mod bitmaps;
 mod chains;
 mod doing;
 mod ending;
 mod events;
+mod everywhere;
 mod names;
 mod programs;
 mod steps;
