@@ -34,3 +34,4 @@ pub mod RuleLemmas
 pub mod ViewLemmas
 pub mod BitmapKept
 pub mod EverywhereLemmas
+pub mod OpeningLemmas

@@ -1,5 +1,5 @@
 -- What the code keeps of each window beside the lists (this project's own).
-use Rattle.std.specs.Prelude.{◌≡◌, ℕ, ◌+◌, ◌*◌, ◌==◌, ◌<◌, ◌≤◌, ◌&&◌, ◌||◌, Bool, true, false, if◌then◌else◌, List, [], filter, length, map, take, Some, None, slice_get}
+use Rattle.std.specs.Prelude.{◌≡◌, ℕ, ◌+◌, ◌*◌, ◌==◌, ◌<◌, ◌≤◌, ◌&&◌, ◌||◌, Bool, true, false, if◌then◌else◌, List, [], ◌∷◌, codes, filter, length, map, take, Some, None, slice_get}
 use Rattle.std.specs.List.{list_any, range_with_len}
 use Rattle.be_color.specs.declared.colors.Color.{Color}
 use Rattle.be_handler.specs.Growth.{with_new_body}
@@ -58,6 +58,14 @@ abbrev pub HasRows : SoFar → List ℕ → ℕ → ℕ → List Color → Type 
 HasRows said name width height colors =
     (said.begun ≡ nothing) × (length said.bitmaps < 64) × IsNew (bitmap_names said) name × (width ≤ 256) × (height ≤ 256)
     × ((rows : ℕ) × ((rows ≤ height) × (length colors ≡ rows * width)))
+
+-- what is kept of a window as it is declared
+pub record IsOpened (windows bitmaps : List (List ℕ)) (inside : Inside) : Type 0 where
+  pub names : inside.names ≡ record { windows = windows; views = codes "root" ∷ []; bitmaps = bitmaps }
+  pub plain : inside.plain.items ≡ []
+  pub depths : inside.depths.items ≡ 1 ∷ []
+  pub chain : inside.chain ≡ record { parents = None ∷ []; nexts = []; filters = []; bodies = [] }
+  pub draws : inside.draws.items ≡ false ∷ []
 
 -- what is kept of all windows: of each that is there, and no line is of another
 pub record AreInside (said : SoFar) (insides : List Inside) : Type 0 where

@@ -12,6 +12,7 @@ mod ending;
 mod events;
 mod everywhere;
 mod names;
+mod opening;
 mod programs;
 mod steps;
 mod windows;
