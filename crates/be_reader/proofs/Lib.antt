@@ -15,6 +15,7 @@ pub mod GrownInside
 pub mod WindowKept
 pub mod DrawLemmas
 pub mod EventKept
+pub mod FaultLemmas
 pub mod WordFits
 pub mod FieldFits
 pub mod FitsLemmas

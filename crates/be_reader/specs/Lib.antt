@@ -10,8 +10,9 @@ pub mod Inside
 pub mod Judging
 pub mod Keeps
 pub mod Kinds
-pub mod LineDeeds
+pub mod Laws
 pub mod Outcomes
+pub mod LineDeeds
 pub mod Progress
 pub mod Said
 pub mod SoFar

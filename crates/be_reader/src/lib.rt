@@ -17,5 +17,7 @@ mod screen;
 mod tests;
 
 pub use fault::ScriptFault;
-pub use law::an_accepted_script_keeps_its_limits;
+pub use law::{
+    a_faulty_line_is_the_first, a_lines_reason_stays, an_accepted_script_keeps_its_limits,
+};
 pub use reader::read;
