@@ -116,7 +116,7 @@ reading number said (line ∷ lines) =
 -- the fault is of the line behind it, and of no line's own
 record IsAtEnd (line : ℕ) (alone : Fault) : Type 0 where
   behind : alone.line ≡ line
-  reason : IsOfNoLine alone.reason
+  reason : (alone.reason ≡ Unfinished) ⊎ (alone.reason ≡ TooMuchWork)
 
 unfinished : (line : ℕ) (alone : Fault) → fault {A = SoFar} line Unfinished ≡ Err alone → IsAtEnd line alone
 unfinished line alone e =
@@ -189,14 +189,15 @@ front_is : (front rest : List ℕ) → length (front ++ rest) ≤ 1048576 → sc
 front_is front rest few = short_enough front (omega (arith, length-append front rest))
 
 first : (front rest : List ℕ) (whole alone : Fault) → Stops 1 nothing_said (lines_of front) ⊎ GoesOn 1 nothing_said (lines_of front) → AreLines front → length (front ++ rest) ≤ 1048576
-    → script_of (front ++ rest) ≡ Err whole → length (lines_of front) < whole.line → script_of front ≡ Err alone → IsOfNoLine alone.reason
+    → script_of (front ++ rest) ≡ Err whole → length (lines_of front) < whole.line → script_of front ≡ Err alone → IsOfNoLine (length (lines_of front)) alone
 first front rest whole alone (inl s) lines few e behind e-alone =
     let same : s.fault ≡ whole = one_fault s.fault whole (script_of (front ++ rest)) (both_are front rest lines few ∙ s.is (lines_of rest)) e in
     let line : s.fault.line ≡ whole.line = ap (λ (g : Fault). g.line) same in
     absurd (omega (arith, s.below))
 first front rest whole alone (inr g) lines few e behind e-alone =
     let end = alone_ends 1 nothing_said (lines_of front) g alone (sym (front_is front rest few) ∙ e-alone) in
-    end.reason
+    let behind : alone.line ≡ length (lines_of front) + 1 = omega (arith, end.behind) in
+    (behind, end.reason)
 
 pub is-first : (front rest : List ℕ) → IsFirst front rest
 is-first front rest = λ whole alone lines e behind e-alone.

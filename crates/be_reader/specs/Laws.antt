@@ -1,6 +1,5 @@
 -- Laws of the first fault (the language is this project's own).
-use Rattle.std.specs.Prelude.{◌≡◌, ℕ, ◌<◌, ◌≤◌, ◌⊎◌, List, [], ◌∷◌, ◌++◌, length, Err}
-use Rattle.be_command.specs.declared.fault.Reason.{Reason}
+use Rattle.std.specs.Prelude.{◌≡◌, ℕ, ◌+◌, ◌<◌, ◌≤◌, ◌⊎◌, List, [], ◌∷◌, ◌++◌, length, Err}
 use Rattle.be_command.specs.declared.fault.Reason.TheVariants.{Unfinished, TooMuchWork}
 use Rattle.be_lex.specs.Lines.{lines_of}
 use Rattle.be_reader.specs.Grammar.{Fault, script_of}
@@ -9,17 +8,19 @@ use Rattle.be_reader.specs.Grammar.{Fault, script_of}
 abbrev pub AreLines : List ℕ → Type 0
 AreLines bytes = (bytes ≡ []) ⊎ ((before : List ℕ) × (bytes ≡ before ++ 10 ∷ []))
 
--- what may be wrong with lines of which each is read: something is missing behind them, or they want too much work
-abbrev pub IsOfNoLine : Reason → Type 0
-IsOfNoLine reason = (reason ≡ Unfinished) ⊎ (reason ≡ TooMuchWork)
+-- what is wrong with so many lines of which none is at fault: something is missing behind the last, or they want too much
+-- work; it is of the line behind the last
+abbrev pub IsOfNoLine : ℕ → Fault → Type 0
+IsOfNoLine count fault = (fault.line ≡ count + 1) × ((fault.reason ≡ Unfinished) ⊎ (fault.reason ≡ TooMuchWork))
 
--- where a script's fault is of a line behind these, nothing is wrong with any of these, also where they stand alone
+-- where a script's fault is of a line behind these, none of these is at fault where they stand alone
 abbrev pub IsFirst : List ℕ → List ℕ → Type 0
 IsFirst front rest =
     (whole alone : Fault) → AreLines front → script_of (front ++ rest) ≡ Err whole → length (lines_of front) < whole.line
-    → script_of front ≡ Err alone → IsOfNoLine alone.reason
+    → script_of front ≡ Err alone → IsOfNoLine (length (lines_of front)) alone
 
--- what is wrong with one of these lines, where they stand alone, is the fault of each script that begins with them
+-- what is wrong with one of these lines, where they stand alone, is the fault of all bytes that begin with them, up to as many
+-- as a script may have
 abbrev pub Stays : List ℕ → List ℕ → Type 0
 Stays front rest =
     (fault : Fault) → AreLines front → length (front ++ rest) ≤ 1048576 → script_of front ≡ Err fault → fault.line ≤ length (lines_of front)

@@ -10,13 +10,14 @@ pub fn an_accepted_script_keeps_its_limits(bytes: &[u8])
 {}
 
 /// Where a script's fault is of a line behind some of its first ones, these lines alone have no
-/// fault but that something is missing behind them, or that they want too much work.
+/// fault but, at the line behind them, that something is missing or that they want too much work.
 pub fn a_faulty_line_is_the_first(front: &[u8], rest: &[u8])
     ensures { IsFirst front.now rest.now }
 {}
 
-/// What is wrong with a line of a script doesn't change by what stands behind that line: these
-/// lines alone have that fault, and each script that begins with them has it.
+/// What is wrong with a line doesn't change by what stands behind it: where the first lines alone
+/// have a fault of a line of theirs, all bytes that begin with them have it, up to as many as a
+/// script may have, and the other way round.
 pub fn a_lines_reason_stays(front: &[u8], rest: &[u8])
     ensures stays { Stays front.now rest.now }
     ensures was_there { WasThere front.now rest.now }
