@@ -6,3 +6,4 @@ pub mod Told
 pub mod ToldLegal
 pub mod ToldScripts
 pub mod Served
+pub mod Checked

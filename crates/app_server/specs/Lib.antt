@@ -1,8 +1,9 @@
+pub mod CheckText
 pub mod Commands
-pub mod Statuses
 pub mod EntryText
-pub mod TraceText
-pub mod ScreenText
-pub mod Report
-pub mod Told
 pub mod Headline
+pub mod Report
+pub mod ScreenText
+pub mod Statuses
+pub mod Told
+pub mod TraceText

@@ -6,6 +6,8 @@ ghost use Rattle.app_server.specs.Commands.{command_of};
 pub enum CommandWords {
     /// `serial 0`: one thread, on which the first activity that can step always does.
     Serial,
+    /// `check`: how much work a script is, and how many activities run it.
+    Check,
 }
 
 /// The command that the words spell, if they spell one.
@@ -16,6 +18,7 @@ pub fn command(words: &[String]) -> Option<CommandWords>
         [first, second] if first.as_str() == "serial" && second.as_str() == "0" => {
             Some(CommandWords::Serial)
         }
+        [word] if word.as_str() == "check" => Some(CommandWords::Check),
         _ => None,
     }
 }

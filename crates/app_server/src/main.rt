@@ -4,7 +4,9 @@
 
 ghost use Rattle.std.specs.Prelude.{◌≡◌, ◌⊎◌, IfErr};
 
+mod check;
 mod command;
+mod input;
 mod laws;
 mod report;
 mod serve;

@@ -18,7 +18,8 @@ use be_geom::NoMemory;
 use be_outside::Sink;
 use first_script::Script;
 use first_world::Finished;
-use page::Page;
+pub use page::Page;
+pub use puts::put_lines;
 use std::alloc::Global;
 use thiserror::Error;
 
@@ -46,7 +47,7 @@ pub fn report<K: Sink>(
     ensures never_falls { K.faults sink.old ≤ K.faults sink.new }
 {
     match text(alloc, script, finished) {
-        Ok(page) => puts::put_lines(page.as_slice(), sink).map_err(|_| ReportFault::WriteFault),
+        Ok(page) => put_lines(page.as_slice(), sink).map_err(|_| ReportFault::WriteFault),
         Err(NoMemory) => Err(ReportFault::NoMemory),
     }
 }

@@ -1,6 +1,6 @@
 use Rattle.std.proofs.Common.{◌≡◌, ◌≤◌, ◌-◌, vec_len}
 use Rattle.be_outside.specs.Telling.{with_front}
-use Rattle.app_server.proofs.serve.read_all.Given as goal
+use Rattle.app_server.proofs.input.read_all.Given as goal
 
 -- what was read so far, and no more of it than that
 abbrev pub invariant-loop-buffer : goal.invariant-loop-buffer
