@@ -8,11 +8,7 @@ use be_script::{FilterLine, HandlerLine, InputLine, ViewLine, WindowLine};
 pub(crate) enum Deed {
     /// The screen's width and height.
     Screen(u16, u16),
-    Bitmap {
-        name: Text,
-        width: u16,
-        height: u16,
-    },
+    Bitmap { name: Text, width: u16, height: u16 },
     Row(Vec<Color>),
     Window(WindowLine),
     View(ViewLine),

@@ -13,8 +13,6 @@ mod reader;
 mod reading;
 mod said;
 mod screen;
-#[cfg(test)]
-mod tests;
 
 pub use fault::ScriptFault;
 pub use law::{

@@ -30,8 +30,8 @@ loop-line-smaller c = c.in-Some.ensures.shorter
 pub loop-line-preserved : goal.loop-line-preserved
 loop-line-preserved c = (
   sym (goes_on c.loop-line.number c.loop-line.said c.in-Ok.said c.in-Some.line (lines_of c.next.new.self) c.in-Ok.ensures)
-  ∙ ap (read_lines c.loop-line.number c.loop-line.said) (sym c.in-Some.ensures.lines)
-  ∙ c.loop-line.invariant.0,
+      ∙ ap (read_lines c.loop-line.number c.loop-line.said) (sym c.in-Some.ensures.lines)
+      ∙ c.loop-line.invariant.0,
   step c.loop-line.said c.in-Ok.said c.in-Some.line c.loop-line.invariant.1 c.in-Ok.ensures,
   omega (arith, c.loop-line.invariant.2, c.in-Some.ensures.shorter),
 )
