@@ -31,6 +31,3 @@ pub use program::{Instruction, Program};
 pub use reading::read;
 pub use reason::{Reason, ScriptFault};
 pub use script::{AppLine, Script, WindowLine};
-
-#[cfg(test)]
-mod tests;

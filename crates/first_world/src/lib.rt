@@ -17,8 +17,6 @@ mod queue;
 mod screen;
 mod serial;
 mod steps;
-#[cfg(test)]
-mod tests;
 mod trace;
 mod world;
 

@@ -1,8 +1,8 @@
 ghost use Rattle.std.specs.Prelude.{◌≡◌, ◌≤◌, IfOk};
 ghost use Rattle.be_message.specs.Depths.{depth_of};
 
-use be_actor::{Draft, FieldWord, Instruction, Place, Program, next};
 use crate::rules::{are_kept, is_alone, is_place};
+use be_actor::{Draft, FieldWord, Instruction, Place, Program, next};
 use be_command::Command;
 use be_geom::{NoMemory, Point, Rect};
 use be_message::{Message, Target, Text, Value};

@@ -8,6 +8,8 @@ mod line;
 #[cfg(test)]
 mod plain;
 #[cfg(test)]
+mod reader;
+#[cfg(test)]
 mod rules;
 #[cfg(test)]
 mod work;

@@ -1,6 +1,3 @@
-use be_line::{Options, read_options};
-use be_line::Site;
-use be_line::Statement;
 use be_actor::FieldWord;
 use be_color::{Color, Rgb};
 use be_command::{FirstWord, Reason};

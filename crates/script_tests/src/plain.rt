@@ -5,9 +5,9 @@ ghost use Rattle.script_tests.specs.Plain.{is_near, leads_near, is_plain_view, i
 ghost use Rattle.be_script.specs.Routable.{IsRoutable};
 ghost use Rattle.be_script.specs.Script.{declared_by};
 
-use be_script::{BodyLine, DrawLine, FilterLine, Script, ViewLine};
 use be_handler::Rule;
 use be_message::Target;
+use be_script::{BodyLine, DrawLine, FilterLine, Script, ViewLine};
 
 /// Whether the script is seen at once to have ways for its messages.
 pub fn is_plain(script: &Script) -> bool

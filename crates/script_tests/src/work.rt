@@ -8,7 +8,9 @@ use be_follow::{Across, Down, Follow};
 use be_geom::{Change, NoMemory, Point, Rect};
 use be_handler::Rule;
 use be_message::{Target, Text};
-use be_script::{AppLine, BodyLine, DrawLine, FilterLine, InputLine, Script, ViewLine, WindowLine, work};
+use be_script::{
+    AppLine, BodyLine, DrawLine, FilterLine, InputLine, Script, ViewLine, WindowLine, work,
+};
 use std::alloc::Global;
 use std::process::Abort;
 use std::test::Fail;

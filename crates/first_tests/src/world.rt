@@ -1,7 +1,7 @@
-use super::*;
 use be_color::Rgb;
 use be_geom::{NoMemory, Rect};
 use first_script::ScriptFault;
+use first_world::{Act, Actor, Cell, EndAnswer, Entry, Finished, Outcome, Trace, run_serial};
 use std::alloc::Global;
 use std::test::Fail;
 

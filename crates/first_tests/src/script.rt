@@ -1,4 +1,4 @@
-use super::*;
+use first_script::{Instruction, Reason, ScriptFault, read, work};
 use std::alloc::Global;
 use std::test::*;
 
