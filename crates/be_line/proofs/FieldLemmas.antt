@@ -1,5 +1,5 @@
 -- The words of FIELDS, read one after the other, are those of the whole line.
-use Rattle.std.proofs.Common.{◌≡◌, Bool, true, false, not, ◌&&◌, cond, List, [], ◌∷◌, ◌++◌, map, Option, Some, None, Result, Ok, Err, refl, ap, sym, ◌∙◌, append_assoc}
+use Rattle.std.proofs.Common.{◌≡◌, Bool, true, false, ◌&&◌, cond, List, [], ◌∷◌, ◌++◌, Option, Some, None, Result, Ok, Err, refl, ap, sym, subst, ◌∙◌, append_assoc}
 use Rattle.std.specs.Prelude.{fold, option_map, OnOk}
 use Rattle.std.specs.List.{list_all, list_any}
 use Rattle.std.proofs.lemmas.List.{map-append}
@@ -8,13 +8,12 @@ use Rattle.be_actor.specs.declared.FieldWord.{FieldWord}
 use Rattle.be_actor.specs.Drafts.{Word}
 use Rattle.be_actor.specs.DraftViews as views
 use Rattle.be_actor.specs.Limits.{go_together, all_go_together}
-use Rattle.be_command.specs.declared.fault.Reason.{Reason}
 use Rattle.be_command.specs.declared.fault.Reason.TheVariants.{Shape}
 use Rattle.be_line.specs.declared.fields.GivenFields.{GivenFields}
 use Rattle.be_line.specs.declared.standing.Standing.{Standing}
 use Rattle.be_line.specs.Fields.{all_there, is_in_range, ranged, together}
-use Rattle.be_line.specs.Standing.{IsFormed, IsGiven, IsStanding, kind_under}
-use Rattle.be_line.specs.Words.{ended, goes_with, is_copied, is_current, name_of, next, standing}
+use Rattle.be_line.specs.Standing.{IsFormed, IsGiven, IsPushed, IsStanding, kind_under}
+use Rattle.be_line.specs.Words.{ended, goes_with, is_current, name_of, next, standing}
 use Rattle.be_line.proofs.OptionLemmas.{and-false, and-left, and-right, and-true}
 use Rattle.be_line.proofs.StandingLemmas.{word_goes}
 
@@ -126,37 +125,53 @@ none_is : (v : Bool) (w : Word) → None ≡ cond v (Some w) None → v ≡ fals
 none_is true w e = (cc)
 none_is false w e = refl
 
-ranged_more : (ws : List Word) (w : Word) (v : Bool) → is_in_range w ≡ v → list_all is_in_range (ws ++ w ∷ []) ≡ (list_all is_in_range ws && v)
-ranged_more ws w v e = list_all-append is_in_range ws (w ∷ []) ∙ ap (λ b. list_all is_in_range ws && (b && true)) e ∙ ap (λ b. list_all is_in_range ws && b) (and-true v)
+ranged_more : (ws : List Word) (w : Word) → list_all is_in_range (ws ++ w ∷ []) ≡ (list_all is_in_range ws && is_in_range w)
+ranged_more ws w = list_all-append is_in_range ws (w ∷ []) ∙ ap (λ b. list_all is_in_range ws && b) (and-true (is_in_range w))
 
--- one word more, in its range
-pub taken_some : (ws : List Word) (w : Word) (g h : GivenFields) (field : FieldWord) → IsFormed ws g → goes ws w ≡ true →
-    h.is_formed ≡ g.is_formed → IsStanding (ws ++ w ∷ []) h.standing → h.is_in_range ≡ g.is_in_range →
-    h.fields.items ≡ g.fields.items ++ field ∷ [] → Some (views.seen_word field) ≡ cond (is_in_range w) (Some w) None → IsFormed (ws ++ w ∷ []) h
-taken_some ws w g h field k one formed stand same items is =
+-- one word more that is given
+pub pushed_some : (w : Word) (g h : GivenFields) (field : FieldWord) → h.is_formed ≡ g.is_formed → h.standing ≡ g.standing →
+    h.is_in_range ≡ g.is_in_range → h.fields.items ≡ g.fields.items ++ field ∷ [] →
+    Some (views.seen_word field) ≡ cond (is_in_range w) (Some w) None → IsPushed w g h
+pushed_some w g h field formed stand same items is =
     let parts = some_is (is_in_range w) w (views.seen_word field) is in
     record {
-      formed = formed ∙ k.formed;
-      together = together_then ws w k.together one;
+      formed = formed;
       stand = stand;
-      in_range = same ∙ k.in_range ∙ sym (ranged_more ws w true parts.0 ∙ and-true (list_all is_in_range ws));
-      fields = λ e.
+      in_range = same ∙ sym (ap (λ b. g.is_in_range && b) parts.0 ∙ and-true g.is_in_range);
+      fields =
           ap views.seen_words items
           ∙ map-append views.seen_word g.fields.items (field ∷ [])
-          ∙ ap (λ before. before ++ views.seen_word field ∷ []) (k.fields (sym same ∙ e))
-          ∙ ap (λ x. ws ++ x ∷ []) parts.1;
+          ∙ ap (λ x. views.seen_words g.fields.items ++ x ∷ []) parts.1
+          ∙ sym (ap (λ b. cond b (views.seen_words g.fields.items ++ w ∷ []) (views.seen_words g.fields.items)) parts.0);
     }
 
--- and one that isn't
-pub taken_none : (ws : List Word) (w : Word) (g h : GivenFields) → IsFormed ws g → goes ws w ≡ true →
-    h.is_formed ≡ g.is_formed → IsStanding (ws ++ w ∷ []) h.standing → h.is_in_range ≡ false →
-    None ≡ cond (is_in_range w) (Some w) None → IsFormed (ws ++ w ∷ []) h
-taken_none ws w g h k one formed stand out is = record {
-  formed = formed ∙ k.formed;
+-- and one whose number is out of its range
+pub pushed_none : (w : Word) (g h : GivenFields) → h.is_formed ≡ g.is_formed → h.standing ≡ g.standing → h.is_in_range ≡ false →
+    h.fields.items ≡ g.fields.items → None ≡ cond (is_in_range w) (Some w) None → IsPushed w g h
+pushed_none w g h formed stand out items is =
+    let never = none_is (is_in_range w) w is in
+    record {
+      formed = formed;
+      stand = stand;
+      in_range = out ∙ sym (ap (λ b. g.is_in_range && b) never ∙ and-false g.is_in_range);
+      fields =
+          ap views.seen_words items
+          ∙ sym (ap (λ b. cond b (views.seen_words g.fields.items ++ w ∷ []) (views.seen_words g.fields.items)) never);
+    }
+
+-- words that go together, and one more that goes with them
+formed_more : (ws : List Word) (w : Word) (g h : GivenFields) (s : Standing) → IsFormed ws g → goes ws w ≡ true →
+    IsStanding (ws ++ w ∷ []) s → IsPushed w (record g { standing = s }) h → IsFormed (ws ++ w ∷ []) h
+formed_more ws w g h s k one stand p = record {
+  formed = p.formed ∙ k.formed;
   together = together_then ws w k.together one;
-  stand = stand;
-  in_range = out ∙ sym (ranged_more ws w false (none_is (is_in_range w) w is) ∙ and-false (list_all is_in_range ws));
-  fields = λ e. (cc);
+  stand = subst (λ (t : Standing). IsStanding (ws ++ w ∷ []) t) (sym p.stand) stand;
+  in_range = p.in_range ∙ ap (λ b. b && is_in_range w) k.in_range ∙ sym (ranged_more ws w);
+  fields = λ e.
+      let both : (g.is_in_range && is_in_range w) ≡ true = sym p.in_range ∙ e in
+      p.fields
+      ∙ ap (λ b. cond b (views.seen_words g.fields.items ++ w ∷ []) (views.seen_words g.fields.items)) (and-right g.is_in_range (is_in_range w) both)
+      ∙ ap (λ before. before ++ w ∷ []) (k.fields (and-left g.is_in_range (is_in_range w) both));
 }
 
 -- a word without a form
@@ -186,14 +201,14 @@ refused_next (Some ws) w g h formed never broken k =
     given_unless (goes ws w) (ws ++ w ∷ []) h (sym (goes_is ws w g.standing k.stand k.together) ∙ never) broken
 
 -- a word that does
-pub taken_next : (state : Option (List Word)) (w : Word) (g h : GivenFields) → g.is_formed ≡ true →
+pub pushed_next : (state : Option (List Word)) (w : Word) (g h : GivenFields) (s : Standing) → g.is_formed ≡ true →
     goes_with (kind_under g.standing (name_of w)) g.standing.has_current g.standing.has_copy w ≡ true →
-    ((ws : List Word) → IsFormed ws g → goes ws w ≡ true → IsFormed (ws ++ w ∷ []) h) →
+    ((ws : List Word) → IsStanding ws g.standing → IsStanding (ws ++ w ∷ []) s) → IsPushed w (record g { standing = s }) h →
     IsGiven state g → IsGiven (next state (Some w)) h
-taken_next None w g h formed always then k = (cc)
-taken_next (Some ws) w g h formed always then k =
+pushed_next None w g h s formed always stands p k = (cc)
+pushed_next (Some ws) w g h s formed always stands p k =
     let one : goes ws w ≡ true = sym (goes_is ws w g.standing k.stand k.together) ∙ always in
-    given_if (goes ws w) (ws ++ w ∷ []) h one (then ws k one)
+    given_if (goes ws w) (ws ++ w ∷ []) h one (formed_more ws w g h s k one (stands ws k.stand) p)
 
 -- ---- results
 

@@ -12,8 +12,9 @@ use Rattle.be_message.specs.Messages.{Datum}
 use Rattle.be_message.specs.declared.kind.Kind.{Kind}
 use Rattle.be_message.specs.Kinds.{is_kind, kind_number}
 use Rattle.be_message.specs.Sound.{kind_of}
-use Rattle.be_line.specs.Words.{name_of, sort_of, is_current, is_copied, standing, fits_kind, fits, is_free, goes_with, put_under}
-use Rattle.be_line.proofs.OptionLemmas.{and-true, and-false, and-left, and-right}
+use Rattle.be_message.proofs.SoundLemmas.{same_kind}
+use Rattle.be_line.specs.Words.{name_of, sort_of, is_current, is_copied, standing, fits, is_free, goes_with}
+use Rattle.be_line.proofs.OptionLemmas.{and-false, and-left, and-right}
 
 -- ---- names and types
 
@@ -131,44 +132,29 @@ none_or : (before : Option (Option Kind)) → before ≡ option_or before None
 none_or None = refl
 none_or (Some sort) = refl
 
-taken : (there : Option (Option Kind)) (sort : Option Kind) (v : Bool) (before : Option (Option Kind)) → (v ≡ true → before ≡ there) →
-    is_free there ≡ true → cond v (Some sort) before ≡ option_or before (cond v (Some sort) None)
-taken None sort true before same free = sym (ap (λ b. option_or b (Some sort)) (same refl))
-taken None sort false before same free = none_or before
-taken (Some other) sort v before same free = (cc)
+-- a word that goes with others is of the sort of what stands under its name, if anything does
+same_sort : (there : Option (Option Kind)) (c d : Bool) (w : Word) → goes_with there c d w ≡ true → option_or there (Some (sort_of w)) ≡ Some (sort_of w)
+same_sort None c d w goes = refl
+same_sort (Some (Some kind)) c d (value name datum) goes = ap (λ k. Some (Some k)) (sym (same_kind kind (kind_of datum) goes))
+same_sort (Some None) c d (value name datum) goes = (cc)
+same_sort (Some sort) c d (current name) goes = (cc (and-right (not d) false (and-right (not c) (not d && false) goes)))
+same_sort (Some sort) c d (copied name) goes = (cc (and-right (not c) false goes))
 
-kept_step : (v : Bool) (sort : Option Kind) (there before : Option (Option Kind)) → (v ≡ true → before ≡ there) →
-    is_free there ≡ false → before ≡ option_or before (cond v (Some sort) None)
-kept_step true sort None before same free = (cc)
-kept_step true sort (Some other) before same free = same refl ∙ sym (ap (λ b. option_or b (Some sort)) (same refl))
-kept_step false sort there before same free = none_or before
+put_step : (v : Bool) (sort : Option Kind) (there before : Option (Option Kind)) → (v ≡ true → before ≡ there) →
+    option_or there (Some sort) ≡ Some sort → cond v (Some sort) before ≡ option_or before (cond v (Some sort) None)
+put_step true sort there before same first = sym (ap (λ b. option_or b (Some sort)) (same refl) ∙ first)
+put_step false sort there before same first = none_or before
 
-kept : (ws : List Word) (w : Word) (name : List ℕ) → is_free (standing ws (name_of w)) ≡ false → standing ws name ≡ standing (ws ++ w ∷ []) name
-kept ws w name free =
-    kept_step (bytes_eq (name_of w) name) (sort_of w) (standing ws (name_of w)) (standing ws name) (λ same. ap (standing ws) (sym ((bytes_eq-Decides (name_of w) name).0 same))) free
-    ∙ sym (standing_more ws w name)
-
-put : (ws : List Word) (w : Word) (name : List ℕ) → is_free (standing ws (name_of w)) ≡ true →
-    cond (bytes_eq (name_of w) name) (Some (sort_of w)) (standing ws name) ≡ standing (ws ++ w ∷ []) name
-put ws w name free =
-    taken (standing ws (name_of w)) (sort_of w) (bytes_eq (name_of w) name) (standing ws name) (λ same. ap (standing ws) (sym ((bytes_eq-Decides (name_of w) name).0 same))) free
-    ∙ sym (standing_more ws w name)
-
-put_by : (ws : List Word) (w : Word) (name : List ℕ) (v : Bool) → is_free (standing ws (name_of w)) ≡ v →
-    cond v (cond (bytes_eq (name_of w) name) (Some (sort_of w)) (standing ws name)) (standing ws name) ≡ standing (ws ++ w ∷ []) name
-put_by ws w name true free = put ws w name free
-put_by ws w name false free = kept ws w name free
-
-put_known : (name : List ℕ) (sort : Option Kind) (there : List ℕ → Option (Option Kind)) (ws : List Word) → ((other : List ℕ) → there other ≡ standing ws other) →
-    (other : List ℕ) → put_under name sort there other ≡ put_under name sort (standing ws) other
-put_known name sort there ws known other =
-    ap (λ t. cond (is_free t) (cond (bytes_eq name other) (Some sort) (there other)) (there other)) (known name)
-    ∙ ap (λ t. cond (is_free (standing ws name)) (cond (bytes_eq name other) (Some sort) t) t) (known other)
-
--- what stands once a word was put under its name
-pub stands_then : (there : List ℕ → Option (Option Kind)) (ws : List Word) (w : Word) → ((other : List ℕ) → there other ≡ standing ws other) →
-    (other : List ℕ) → put_under (name_of w) (sort_of w) there other ≡ standing (ws ++ w ∷ []) other
-stands_then there ws w known other = put_known (name_of w) (sort_of w) there ws known other ∙ put_by ws w other _ refl
+-- what stands once the sort of a word that goes with the others was put under its name
+pub stands_then : (there : List ℕ → Option (Option Kind)) (ws : List Word) (w : Word) (c d : Bool) → ((other : List ℕ) → there other ≡ standing ws other) →
+    goes_with (there (name_of w)) c d w ≡ true → (other : List ℕ) →
+    cond (bytes_eq (name_of w) other) (Some (sort_of w)) (there other) ≡ standing (ws ++ w ∷ []) other
+stands_then there ws w c d known goes other =
+    ap (cond (bytes_eq (name_of w) other) (Some (sort_of w))) (known other)
+    ∙ put_step (bytes_eq (name_of w) other) (sort_of w) (there (name_of w)) (standing ws other)
+    (λ same. ap (standing ws) (sym ((bytes_eq-Decides (name_of w) other).0 same)) ∙ sym (known (name_of w)))
+    (same_sort (there (name_of w)) c d w goes)
+    ∙ sym (standing_more ws w other)
 
 -- whether one of them is of a sort
 pub any_more : (test : Word → Bool) (ws : List Word) (w : Word) → (list_any test ws || test w) ≡ list_any test (ws ++ w ∷ [])

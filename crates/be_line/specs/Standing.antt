@@ -1,5 +1,5 @@
 -- What the code knows of the words of FIELDS that were read (this project's own).
-use Rattle.std.specs.Prelude.{◌≡◌, ℕ, Bool, true, false, List, Option, Some, None}
+use Rattle.std.specs.Prelude.{◌≡◌, ℕ, true, false, ◌&&◌, if◌then◌else◌, List, [], ◌∷◌, ◌++◌, Option, Some, None}
 use Rattle.std.specs.BTreeMap.{get_by}
 use Rattle.std.specs.Cmp.Lexicographic.{slice_cmp}
 use Rattle.std.specs.List.{list_all, list_any}
@@ -29,6 +29,13 @@ pub record IsFormed (ws : List Word) (g : GivenFields) : Type 0 where
   pub stand : IsStanding ws g.standing
   pub in_range : g.is_in_range ≡ list_all is_in_range ws
   pub fields : g.is_in_range ≡ true → seen_words g.fields.items ≡ ws
+
+-- one word more is there to be given, unless its number is out of its range
+pub record IsPushed (w : Word) (before after : GivenFields) : Type 0 where
+  pub formed : after.is_formed ≡ before.is_formed
+  pub stand : after.standing ≡ before.standing
+  pub in_range : after.is_in_range ≡ (before.is_in_range && is_in_range w)
+  pub fields : seen_words after.fields.items ≡ (if is_in_range w then seen_words before.fields.items ++ w ∷ [] else seen_words before.fields.items)
 
 -- so much was read
 abbrev pub IsGiven : Option (List Word) → GivenFields → Type 0

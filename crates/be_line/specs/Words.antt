@@ -58,10 +58,6 @@ goes_with there has_current has_copy (value name datum) = fits there (kind_of da
 goes_with there has_current has_copy (current name) = not has_current && (not has_copy && is_free there)
 goes_with there has_current has_copy (copied name) = not has_current && is_free there
 
--- what stands under each name, once this stands under one that was free
-abbrev pub put_under : List ℕ → Option Kind → (List ℕ → Option (Option Kind)) → List ℕ → Option (Option Kind)
-put_under name sort there other = if is_free (there name) then (if bytes_eq name other then Some sort else there other) else there other
-
 -- ---- words that go together
 
 -- the words so far, or none once something was wrong with their form

@@ -1,16 +1,14 @@
-ghost use Rattle.std.specs.Prelude.{◌≡◌, ◌&&◌, ◌++◌, true, [], ◌∷◌, ℤ, negsuc, pos, false, Some, None, Ok, Option, List, IfOk, OnOk, if◌then◌else◌};
+ghost use Rattle.std.specs.Prelude.{◌≡◌, ◌&&◌, [], ℤ, negsuc, pos, false, Some, None, Ok, Option, List, IfOk, OnOk, if◌then◌else◌};
 ghost use Rattle.std.specs.Option.{option_map};
 ghost use Rattle.std.specs.Result.{result_map_both};
-ghost use Rattle.std.specs.List.{list_all};
 ghost use Rattle.be_actor.specs.Drafts.{Word};
-ghost use Rattle.be_actor.specs.Limits.{go_together};
 ghost use Rattle.be_actor.specs.DraftViews as views;
 ghost use Rattle.be_geom.specs.Points.{in_range};
 ghost use Rattle.be_lex.specs.Words.{words_of};
 ghost use Rattle.be_message.specs.Views.{seen_value};
 ghost use Rattle.be_line.specs.Fields.{fields_said, is_datum_in_range, is_in_range};
 ghost use Rattle.be_line.specs.Shaped.{seen_shaped, seen_word};
-ghost use Rattle.be_line.specs.Standing.{IsFormed, IsGiven};
+ghost use Rattle.be_line.specs.Standing.{IsGiven, IsPushed};
 ghost use Rattle.be_line.specs.Words.{ended, next};
 
 use crate::shaped::{Shaped, ShapedWord, shaped_word};
@@ -73,20 +71,18 @@ impl<'a> GivenFields<'a> {
         if !self.is_formed {
             return Ok(());
         }
-        if !self.standing.goes_with(&word) {
+        let goes = self.standing.take(&word)?;
+        if !goes {
             self.is_formed = false;
             return Ok(());
         }
-        self.take(alloc, word)
+        self.push(alloc, word)
     }
 
-    /// With one word more, which goes with all others.
-    fn take(&mut self, alloc: Global, word: ShapedWord<'a>) -> Result<(), NoMemory>
-        ensures { OnOk result ((ws : List Word) → IsFormed ws self.old
-            → list_all (λ other. go_together other (seen_word word.entry)) ws ≡ true
-            → IsFormed (ws ++ seen_word word.entry ∷ []) self.new) }
+    /// With one word more among those of the draft.
+    fn push(&mut self, alloc: Global, word: ShapedWord<'a>) -> Result<(), NoMemory>
+        ensures { OnOk result (IsPushed (seen_word word.entry) self.old self.new) }
     {
-        self.standing.add(&word)?;
         match field_of(alloc, word)? {
             Some(field) => self.fields.push(field)?,
             None => self.is_in_range = false,

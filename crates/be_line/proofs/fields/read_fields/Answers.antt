@@ -1,4 +1,4 @@
-use Rattle.std.proofs.Common.{◌≡◌, ℕ, [], List, Some, ap, sym, refl, ◌∙◌, map}
+use Rattle.std.proofs.Common.{ℕ, [], List, Some, ap, sym, refl, ◌∙◌, map}
 use Rattle.std.specs.Prelude.{fold}
 use Rattle.be_lex.specs.Words.{words_of}
 use Rattle.be_line.specs.Fields.{field_of, fields_said}

@@ -1,4 +1,4 @@
-use Rattle.std.proofs.Common.{◌≡◌, ℕ, List, ap, sym, ◌∙◌, map}
+use Rattle.std.proofs.Common.{ℕ, List, ap, sym, ◌∙◌, map}
 use Rattle.be_lex.specs.Words.{words_of}
 use Rattle.be_line.specs.declared.options.Given.{Given}
 use Rattle.be_line.specs.GivenOptions.{told}
