@@ -4,7 +4,7 @@ use Rattle.std.specs.Prelude.{nat_lt}
 use Rattle.std.proofs.lemmas.Bool.Decides.{nat_tests}
 use Rattle.be_command.specs.declared.fault.Reason.TheVariants.{TooLong}
 use Rattle.be_reader.specs.Grammar.{Fault, fault, script_of}
-use Rattle.be_reader.specs.SoFar.{SoFar}
+use Rattle.be_said.specs.SoFar.{SoFar}
 use Rattle.app_server.specs.Headline.{WasRead, IsJudged}
 
 not_too_long : (b : Bool) (rest : Result SoFar Fault) (said : SoFar) → cond b (fault 0 TooLong) rest ≡ Ok said → b ≡ false

@@ -4,7 +4,7 @@ use Rattle.be_outside.specs.Faults.{FaultsRose}
 use Rattle.be_outside.specs.Telling.{with_front, with_end, IsDrained, TakesPrefix}
 use Rattle.be_command.specs.declared.fault.Reason.{Reason}
 use Rattle.be_reader.specs.Grammar as grammar
-use Rattle.be_reader.specs.SoFar.{SoFar, declared_in}
+use Rattle.be_said.specs.SoFar.{SoFar, declared_in}
 use Rattle.first_script.specs.Script.{Declared}
 use Rattle.first_script.specs.Grammar.{script_of, IsFaultOf}
 use Rattle.first_script.specs.declared.reason.ScriptFault.{ScriptFault}

@@ -11,12 +11,13 @@ use Rattle.be_command.specs.declared.first_word.FirstWord.{FirstWord}
 use Rattle.be_line.specs.FirstWords.{misplaced, seat_of}
 use Rattle.be_line.specs.Kinds.{said_as}
 use Rattle.be_line.specs.declared.statement.Statement.TheVariants as statement
-use Rattle.be_reader.specs.Due.{IsDue}
-use Rattle.be_reader.specs.Forms.{Deed, adds_step, form_of}
+use Rattle.be_said.specs.Due.{IsDue}
+use Rattle.be_said.specs.Deeds.{Deed, adds_step}
+use Rattle.be_reader.specs.Forms.{form_of}
 use Rattle.be_reader.specs.Kinds.{At, both}
 use Rattle.be_reader.specs.LineDeeds.{command_said, deed_said}
-use Rattle.be_reader.specs.SoFar.{SoFar, Begun, nothing, bitmap, handler_body, draw_body, program, known_in, site_of, window_of}
-use Rattle.be_reader.specs.declared.fault.LineFault.{LineFault}
+use Rattle.be_said.specs.SoFar.{SoFar, Begun, nothing, bitmap, handler_body, draw_body, program, known_in, site_of, window_of}
+use Rattle.be_said.specs.declared.fault.LineFault.{LineFault}
 
 -- ---- where a command may stand a window is for it
 

@@ -4,16 +4,17 @@ use Rattle.std.specs.Result.{result_err, result_map_both}
 use Rattle.be_command.specs.declared.fault.Reason.{Reason}
 use Rattle.be_line.specs.Kinds.{said_as}
 use Rattle.be_line.specs.declared.statement.Statement.{Statement}
-use Rattle.be_reader.specs.Deeds.{seen_deed}
-use Rattle.be_reader.specs.Due.{IsDue}
-use Rattle.be_reader.specs.Forms.{Deed, form_of}
+use Rattle.be_said.specs.SeenDeeds.{seen_deed}
+use Rattle.be_said.specs.Due.{IsDue}
+use Rattle.be_said.specs.Deeds.{Deed}
+use Rattle.be_reader.specs.Forms.{form_of}
 use Rattle.be_reader.specs.GivenDeeds.{IsDeed, unless_faulty}
 use Rattle.be_reader.specs.Kinds.{At, Kind, Said, SaidAll, after, both, ended, said, said_all}
 use Rattle.be_reader.specs.LineDeeds.{deed_said}
 use Rattle.be_reader.specs.Progress.{Progress, Takes, first_reason}
-use Rattle.be_reader.specs.SoFar.{SoFar}
-use Rattle.be_reader.specs.declared.deed.Deed as code
-use Rattle.be_reader.specs.declared.fault.LineFault.{LineFault}
+use Rattle.be_said.specs.SoFar.{SoFar}
+use Rattle.be_said.specs.declared.deeds.Deed as code
+use Rattle.be_said.specs.declared.fault.LineFault.{LineFault}
 use Rattle.be_reader.proofs.TakesLemmas.{err-both, first_reason-assoc, ok-both}
 
 -- from here on these kinds were read, to the end: the reason of the whole line, and what they say

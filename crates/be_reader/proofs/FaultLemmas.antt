@@ -9,9 +9,9 @@ use Rattle.be_command.specs.declared.fault.Reason.TheVariants.{TooLong, Unfinish
 use Rattle.be_lex.specs.Lines.{Line, lines_from, lines_of}
 use Rattle.be_lex.proofs.Cuts.{split_pieces}
 use Rattle.be_reader.proofs.LineLemmas.{goes_on, stops, short_enough}
-use Rattle.be_reader.specs.Grammar.{Fault, fault, finished, is_closed, read_line, read_lines, script_of}
+use Rattle.be_said.specs.SoFar.{is_closed, SoFar, nothing_said, declared_in}
+use Rattle.be_reader.specs.Grammar.{Fault, fault, finished, read_line, read_lines, script_of}
 use Rattle.be_reader.specs.Laws.{AreLines, IsOfNoLine, IsFirst, Stays, WasThere}
-use Rattle.be_reader.specs.SoFar.{SoFar, nothing_said, declared_in}
 use Rattle.be_script.specs.Work.{work_of}
 
 -- ---- lines in front

@@ -15,7 +15,7 @@ use Rattle.be_line.specs.Fields.{all_there, copied_word, datum_of, field_of, fie
 use Rattle.be_message.specs.Fields.{is_allowed}
 use Rattle.be_message.specs.Messages.{Datum, bool, int, text, point, rect}
 use Rattle.be_message.specs.Names.{is_name, is_text}
-use Rattle.be_reader.proofs.AppendLemmas.{all-weaker}
+use Rattle.be_said.proofs.AppendLemmas.{all-weaker}
 use Rattle.be_reader.proofs.WordFits.{is_shown, is_shown_word}
 use Rattle.be_script.proofs.RoutableLemmas.{and-both, not-false}
 use Rattle.be_script.proofs.WorkNumbers.{and-left, and-right}

@@ -1,5 +1,5 @@
 -- What a line says, as it is read, fits what was said before.
-use Rattle.std.proofs.Common.{◌≡◌, ℕ, ◌+◌, ◌<◌, ◌≤◌, ℤ, pos, unsigned_abs, zero, suc, take, drop, Bool, true, false, ◌||◌, codes, cond, arith, List, [], ◌∷◌, length, map, Option, Some, None, option_map, Result, Ok, Err, refl, ap, sym, subst, ◌∙◌}
+use Rattle.std.proofs.Common.{◌≡◌, ℕ, ◌+◌, ◌<◌, ◌≤◌, ℤ, pos, unsigned_abs, zero, suc, take, drop, Bool, true, false, ◌||◌, codes, cond, arith, List, [], ◌∷◌, length, Option, Some, None, option_map, Result, Ok, Err, refl, ap, sym, subst, ◌∙◌}
 use Rattle.std.proofs.lemmas.Int.{ints}
 use Rattle.std.proofs.lemmas.List.{length-map}
 use Rattle.std.specs.List.{list_any, position_from}
@@ -25,17 +25,19 @@ use Rattle.be_line.specs.declared.site.Seat.TheVariants as seat
 use Rattle.be_line.specs.declared.statement.Statement.{Statement}
 use Rattle.be_line.specs.declared.statement.Statement.TheVariants as statement
 use Rattle.be_line.specs.FirstWords.{misplaced, seat_of}
-use Rattle.be_line.specs.Kinds.{new_named, pixels_in, said_as}
+use Rattle.be_line.specs.Kinds.{pixels_in, said_as}
 use Rattle.be_message.specs.declared.target.Target.{Target}
 use Rattle.be_message.specs.declared.target.Target.TheVariants as target
 use Rattle.be_reader.proofs.TakesLemmas.{ok-both, ok-said_as}
-use Rattle.be_reader.specs.Fits.{Fits, HasSteps, IsList, IsNew, IsRow, IsRule, IsTarget}
-use Rattle.be_reader.specs.declared.fault.LineFault.{LineFault}
-use Rattle.be_reader.specs.Due.{IsDue}
-use Rattle.be_reader.specs.Forms.{Deed, form_of}
+use Rattle.be_said.specs.Fits.{Fits, HasSteps, IsList, IsNew, IsRow, IsRule, IsTarget}
+use Rattle.be_said.specs.declared.fault.LineFault.{LineFault}
+use Rattle.be_said.specs.Due.{IsDue}
+use Rattle.be_said.specs.Deeds.{Deed}
+use Rattle.be_reader.specs.Forms.{form_of}
 use Rattle.be_reader.specs.LineDeeds.{deed_said}
-use Rattle.be_reader.specs.Kinds.{At, Kind, Said, SaidAll, a_down, a_filter_what, a_frame, a_handler, a_last_color, a_list, a_new_app, a_new_bitmap, a_new_handler, a_new_window, a_number, a_rule, a_view, a_what, a_window, a_window_frame, an_across, some_options, some_pixels, after, behind, handler_named, handler_names, handler_with, list_named, new_name, rule_by, said, said_all, view_or, word_said}
-use Rattle.be_reader.specs.SoFar.{SoFar, Begun, nothing, bitmap, handler_body, draw_body, program, app_names, bitmap_names, nothing_said, plain_names, row_width, site_of, view_names, window_names}
+use Rattle.be_said.specs.Names.{handler_names, new_name}
+use Rattle.be_reader.specs.Kinds.{At, Kind, Said, SaidAll, a_down, a_filter_what, a_frame, a_handler, a_last_color, a_list, a_new_app, a_new_bitmap, a_new_handler, a_new_window, a_number, a_rule, a_view, a_what, a_window, a_window_frame, an_across, some_options, some_pixels, after, behind, handler_named, handler_with, list_named, rule_by, said, said_all, view_or, word_said}
+use Rattle.be_said.specs.SoFar.{SoFar, Begun, nothing, bitmap, handler_body, draw_body, program, app_names, bitmap_names, nothing_said, plain_names, row_width, site_of, view_names, window_names}
 
 -- ---- where the line stands
 

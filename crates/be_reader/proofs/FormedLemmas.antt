@@ -34,17 +34,17 @@ use Rattle.be_line.specs.FirstWords.{is_of_drawing, misplaced, seat_of}
 use Rattle.be_line.specs.Kinds.{filter_what_said, note_said, what_said}
 use Rattle.be_line.proofs.PortLemmas.{options-port}
 use Rattle.be_message.specs.declared.target.Target.{Target}
-use Rattle.be_reader.proofs.AppendLemmas.{or-right}
+use Rattle.be_said.proofs.AppendLemmas.{or-right}
 use Rattle.be_reader.proofs.CommandFits.{command-draws, command-keeps, command-made, command-names}
-use Rattle.be_reader.proofs.DoneLemmas.{target-there, window-there}
+use Rattle.be_said.proofs.DoneLemmas.{target-there, window-there}
 use Rattle.be_reader.proofs.FieldFits.{draft-keeps}
 use Rattle.be_reader.proofs.FitsLemmas.{handler_fits, judged_is, named_within, number_fits}
 use Rattle.be_reader.proofs.TakesLemmas.{ok-both, ok-said_as}
 use Rattle.be_reader.proofs.WordFits.{filter_what-keeps, is_shown_word, note-keeps, what-keeps}
 use Rattle.be_reader.specs.Forms.{form_of}
-use Rattle.be_reader.specs.Keeps.{IsFormed, IsUnlocked, declared_so_far, is_step_in, size_of}
+use Rattle.be_said.specs.Keeps.{IsFormed, IsUnlocked, declared_so_far, is_step_in, size_of}
 use Rattle.be_reader.specs.Kinds.{At, Kind, Said, SaidAll, a_filter_what, a_handler, a_list, a_new_window, a_number, a_place, a_rule, a_what, a_window, a_window_frame, an_app, after, behind, both, frame_said, handler_named, place_said, said, said_all, a_command, a_note, some_fields, some_options, window_frame, word_said}
-use Rattle.be_reader.specs.SoFar.{SoFar, Begun, nothing, bitmap, handler_body, draw_body, program, app_names, has_message, known_in, nothing_said, site_of, window_names, window_of}
+use Rattle.be_said.specs.SoFar.{SoFar, Begun, nothing, bitmap, handler_body, draw_body, program, app_names, has_message, known_in, nothing_said, site_of, window_names, window_of}
 use Rattle.be_script.specs.Limits.{is_frame, is_place}
 use Rattle.be_script.specs.Programs.{is_address, is_body_step, is_command_for, is_draw_step, is_free_step, is_handler_of, is_locked_step, is_note, view_count}
 use Rattle.be_script.specs.Script.{Declared}

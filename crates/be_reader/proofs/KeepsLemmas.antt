@@ -21,17 +21,17 @@ use Rattle.be_line.specs.declared.site.Site.TheVariants as site
 use Rattle.be_line.specs.declared.statement.Statement.{Statement}
 use Rattle.be_line.specs.declared.statement.Statement.TheVariants as statement
 use Rattle.be_line.specs.FirstWords.{as_command, declaration_words, in_body, instruction_words, meant, misplaced, seat_of, statement_of}
-use Rattle.be_reader.proofs.DeclaredNames.{no-names}
-use Rattle.be_reader.proofs.DoneLemmas.{keeps_done}
+use Rattle.be_said.proofs.DeclaredNames.{no-names}
+use Rattle.be_said.proofs.DoneLemmas.{keeps_done}
 use Rattle.be_reader.proofs.FitsLemmas.{line_fits}
 use Rattle.be_reader.proofs.FormedLemmas.{BeginsWith, line_formed}
 use Rattle.be_reader.proofs.WordFits.{is_shown_word, words-shown}
 use Rattle.be_reader.specs.Forms.{form_of}
-use Rattle.be_reader.specs.Grammar.{fault, finished, is_closed, read_line, read_lines, script_of}
+use Rattle.be_said.specs.SoFar.{is_closed, SoFar, declared_in, nothing_said, site_of}
+use Rattle.be_reader.specs.Grammar.{fault, finished, read_line, read_lines, script_of}
 use Rattle.be_reader.specs.LineDeeds.{deed_said}
-use Rattle.be_reader.specs.Keeps.{AreKept, IsScreen, Keeps, declared_so_far, size_of}
+use Rattle.be_said.specs.Keeps.{AreKept, IsScreen, Keeps, declared_so_far, size_of}
 use Rattle.be_reader.specs.Kinds.{At, SaidAll, said_all}
-use Rattle.be_reader.specs.SoFar.{SoFar, declared_in, nothing_said, site_of}
 use Rattle.be_script.specs.Limits.{IsWithinLimits, is_window_declared}
 use Rattle.be_script.specs.Routable.{IsRoutable}
 use Rattle.be_script.specs.Work.{work_of}

@@ -1,15 +1,15 @@
 -- Lines that are read one behind the other.
-use Rattle.std.proofs.Common.{◌≡◌, ℕ, ◌+◌, ◌≤◌, Bool, true, false, List, ◌∷◌, length, Ok, Err, refl, arith}
+use Rattle.std.proofs.Common.{◌≡◌, ℕ, ◌+◌, ◌≤◌, false, List, ◌∷◌, length, Ok, Err, refl, arith}
 use Rattle.std.specs.Prelude.{nat_lt}
 use Rattle.std.proofs.lemmas.Bool.Decides.{nat_tests}
 use Rattle.be_command.specs.declared.fault.Reason.{Reason}
 use Rattle.be_lex.specs.Lines.{Line, lines_of}
-use Rattle.be_reader.specs.declared.fault.LineFault.{LineFault}
-use Rattle.be_reader.specs.declared.fault.LineFault.TheVariants as fault
-use Rattle.be_reader.specs.Due.{IsDue}
+use Rattle.be_said.specs.declared.fault.LineFault.{LineFault}
+use Rattle.be_said.specs.declared.fault.LineFault.TheVariants as fault
+use Rattle.be_said.specs.Due.{IsDue}
 use Rattle.be_reader.specs.Grammar.{read_line, read_lines, script_of}
 use Rattle.be_reader.specs.Outcomes.{IsRead, fault_at}
-use Rattle.be_reader.specs.SoFar.{SoFar, nothing_said}
+use Rattle.be_said.specs.SoFar.{SoFar, nothing_said}
 
 pub goes_on : (number : ℕ) (said new : SoFar) (line : Line) (lines : List Line) → read_line said line ≡ Ok new → read_lines number said (line ∷ lines) ≡ read_lines (number + 1) new lines
 unfolding read_lines

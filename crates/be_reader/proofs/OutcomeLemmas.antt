@@ -1,8 +1,7 @@
 -- What a script says that is whole.
-use Rattle.std.proofs.Common.{◌≡◌, ℕ, Bool, true, false, cond, Option, Some, None, option_map, refl, ap, sym, subst, ◌∙◌}
-use Rattle.be_reader.specs.Grammar.{is_closed}
-use Rattle.be_reader.specs.Outcomes.{said_by, whole}
-use Rattle.be_reader.specs.SoFar.{SoFar, declared_in}
+use Rattle.std.proofs.Common.{◌≡◌, ℕ, Bool, true, false, cond, Option, Some, None, option_map, refl, ap, sym, subst}
+use Rattle.be_said.specs.SoFar.{is_closed, SoFar, declared_in}
+use Rattle.be_said.specs.Whole.{said_by, whole}
 use Rattle.be_script.specs.declared.Script.{Script}
 use Rattle.be_script.specs.Routable.{IsRoutable}
 use Rattle.be_script.specs.Script.{declared_by}

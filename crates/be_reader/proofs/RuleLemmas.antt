@@ -9,7 +9,7 @@ use Rattle.be_message.specs.declared.target.Target.{Target}
 use Rattle.be_line.specs.Kinds.{said_as}
 use Rattle.be_reader.specs.Kinds.{a_rule, after, behind, handler_named, rule_by, word_said}
 use Rattle.be_reader.specs.Progress.{Progress, Takes, first_reason}
-use Rattle.be_reader.specs.SoFar.{SoFar}
+use Rattle.be_said.specs.SoFar.{SoFar}
 use Rattle.be_reader.proofs.TakesLemmas.{behind_two, said_second, takes_as, takes_same}
 
 third : {A : Type 0} (a b c : Bool) (w x y z : A) → a ≡ false → b ≡ false → c ≡ true → cond a w (cond b x (cond c y z)) ≡ y

@@ -1,39 +1,11 @@
 -- The lines of a script, each by its first word, and what each makes (the language is this project's own).
-use Rattle.std.specs.Prelude.{ℕ, ℤ, pos, List, [], ◌∷◌, Option}
-use Rattle.be_actor.specs.declared.Instruction.{Instruction}
+use Rattle.std.specs.Prelude.{pos, List, [], ◌∷◌}
 use Rattle.be_actor.specs.declared.Instruction.TheVariants as instruction
-use Rattle.be_color.specs.declared.colors.Color.{Color}
-use Rattle.be_message.specs.declared.target.Target.{Target}
-use Rattle.be_script.specs.declared.FilterLine.{FilterLine}
-use Rattle.be_script.specs.declared.HandlerLine.{HandlerLine}
-use Rattle.be_script.specs.declared.InputLine.{InputLine}
 use Rattle.be_script.specs.declared.InputLine.TheVariants as input
-use Rattle.be_script.specs.declared.ViewLine.{ViewLine}
-use Rattle.be_script.specs.declared.WindowLine.{WindowLine}
 use Rattle.be_line.specs.declared.statement.Statement.{Statement}
 use Rattle.be_line.specs.declared.statement.Statement.TheVariants as statement
+use Rattle.be_said.specs.Deeds.{Deed, sizes_screen, begins_bitmap, adds_row, adds_window, adds_view, adds_handler, adds_filter, begins_body, begins_draw, begins_program, adds_input, adds_step, closes}
 use Rattle.be_reader.specs.Kinds.{Kind, a_new_bitmap, a_new_window, a_new_handler, a_new_app, a_window, a_view, a_handler, a_list, an_app, a_number, a_frame, a_window_frame, a_place, an_across, a_down, a_last_color, some_options, a_what, a_filter_what, a_rule, a_note, some_fields, some_pixels, a_command, SaidAll}
-
--- what a line adds to what was said
-pub data Deed : Type 0 where
-  -- the screen is so wide and high
-  sizes_screen : ℕ → ℕ → Deed
-  -- a bitmap of this name, width and height is begun
-  begins_bitmap : List ℕ → ℕ → ℕ → Deed
-  adds_row : List Color → Deed
-  adds_window : WindowLine → Deed
-  adds_view : ViewLine → Deed
-  adds_handler : HandlerLine → Deed
-  adds_filter : FilterLine → Deed
-  -- the body of a handler of a window for a word is begun
-  begins_body : ℕ → Target → ℕ → Deed
-  -- the Draw body of a view of a window is begun
-  begins_draw : ℕ → ℕ → Deed
-  begins_program : List ℕ → Deed
-  adds_input : InputLine → Deed
-  adds_step : Instruction → Deed
-  -- what was begun is closed
-  closes : Deed
 
 -- what stands behind a first word, and what that makes
 pub record Form : Type 0 where

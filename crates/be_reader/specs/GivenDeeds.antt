@@ -3,14 +3,14 @@ use Rattle.std.specs.Prelude.{Option, Some, None, Result, Ok, Err}
 use Rattle.std.specs.Result.{result_map_both}
 use Rattle.be_command.specs.declared.fault.Reason.{Reason}
 use Rattle.be_line.specs.declared.statement.Statement.{Statement}
-use Rattle.be_reader.specs.Deeds.{seen_deed}
-use Rattle.be_reader.specs.Due.{IsDue}
+use Rattle.be_said.specs.SeenDeeds.{seen_deed}
+use Rattle.be_said.specs.Due.{IsDue}
 use Rattle.be_reader.specs.Kinds.{At}
 use Rattle.be_reader.specs.LineDeeds.{deed_said}
-use Rattle.be_reader.specs.SoFar.{SoFar}
-use Rattle.be_reader.specs.declared.deed.Deed.{Deed}
-use Rattle.be_reader.specs.declared.fault.LineFault.{LineFault}
-use Rattle.be_reader.specs.declared.fault.LineFault.TheVariants as fault
+use Rattle.be_said.specs.SoFar.{SoFar}
+use Rattle.be_said.specs.declared.deeds.Deed.{Deed}
+use Rattle.be_said.specs.declared.fault.LineFault.{LineFault}
+use Rattle.be_said.specs.declared.fault.LineFault.TheVariants as fault
 
 -- the line's deed was given, or its reason
 abbrev pub IsDeed : SoFar → Statement → At → Result Deed LineFault → Type 0

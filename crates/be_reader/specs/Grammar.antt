@@ -1,16 +1,16 @@
 -- Which bytes are a script and what it says, and which fault all others have (the language is this project's own).
-use Rattle.std.specs.Prelude.{ℕ, ◌+◌, Bool, true, false, not, nat_lt, if◌then◌else◌, List, [], ◌∷◌, length, Option, Some, None, Result, Ok, Err}
+use Rattle.std.specs.Prelude.{ℕ, ◌+◌, not, nat_lt, if◌then◌else◌, List, [], ◌∷◌, length, Option, Some, None, Result, Ok, Err}
 use Rattle.be_command.specs.declared.fault.Reason.{Reason}
 use Rattle.be_command.specs.declared.fault.Reason.TheVariants.{TooLong, LongLine, BadByte, UnknownWord, Unfinished, TooMuchWork}
 use Rattle.be_lex.specs.Lines.{Line, lines_of, text_of, is_printable}
 use Rattle.be_lex.specs.Words.{words_of, is_passed_over}
 use Rattle.be_line.specs.declared.statement.Statement.{Statement}
 use Rattle.be_line.specs.FirstWords.{statement_of, seat_of, meant, misplaced}
-use Rattle.be_reader.specs.Forms.{Deed}
-use Rattle.be_reader.specs.Judging.{done}
+use Rattle.be_said.specs.Deeds.{Deed}
+use Rattle.be_said.specs.Judging.{done}
 use Rattle.be_reader.specs.LineDeeds.{deed_said}
 use Rattle.be_reader.specs.Kinds.{At}
-use Rattle.be_reader.specs.SoFar.{SoFar, Begun, nothing, bitmap, handler_body, draw_body, program, nothing_said, declared_in, site_of}
+use Rattle.be_said.specs.SoFar.{SoFar, nothing_said, declared_in, is_closed, site_of}
 use Rattle.be_script.specs.Work.{work_of}
 
 -- ---- a line
@@ -53,14 +53,6 @@ pub record Fault : Type 0 where
 
 abbrev pub fault : {A : Type 0} → ℕ → Reason → Result A Fault
 fault line reason = Err (record { line = line; reason = reason })
-
--- all that was begun is closed
-abbrev pub is_closed : Begun → Bool
-is_closed nothing = true
-is_closed (bitmap name width height colors) = false
-is_closed (handler_body w target what steps) = false
-is_closed (draw_body w v steps) = false
-is_closed (program name lock steps) = false
 
 -- the work is at most 262,144
 abbrev within_work : ℕ → SoFar → ℕ × ℕ → Result SoFar Fault

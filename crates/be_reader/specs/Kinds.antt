@@ -1,6 +1,5 @@
 -- The kinds of what a line says behind its first word, and how each is read (the language is this project's own).
-use Rattle.std.specs.Prelude.{ℕ, ℤ, pos, ◌-ℤ◌, if◌then◌else◌, List, [], ◌∷◌, ◌++◌, drop, Option, Some, None, Result, Ok, Err, codes, unsigned_abs, slice_get, option_map}
-use Rattle.std.specs.List.{list_any}
+use Rattle.std.specs.Prelude.{ℕ, ℤ, pos, ◌-ℤ◌, if◌then◌else◌, List, [], ◌∷◌, drop, Option, Some, None, Result, Ok, Err, codes, unsigned_abs, slice_get, option_map}
 use Rattle.std.specs.Option.{ok_or}
 use Rattle.std.specs.Result.{result_ok}
 use Rattle.std.specs.Map.{lookup}
@@ -27,8 +26,9 @@ use Rattle.be_line.specs.Fields.{fields_said}
 use Rattle.be_script.specs.Limits.{is_frame}
 use Rattle.be_line.specs.declared.options.Options.{Options}
 use Rattle.be_line.specs.Options.{options_said}
-use Rattle.be_reader.specs.SoFar.{SoFar, bitmap_names, window_names, app_names, view_names, plain_names, known_in, window_of, row_width, has_message}
-use Rattle.be_line.specs.Kinds.{first_of, said_as, new_named, across_words, down_words, what_said, filter_what_said, note_said, pixels_in, color_or_white}
+use Rattle.be_said.specs.SoFar.{SoFar, bitmap_names, window_names, app_names, view_names, plain_names, known_in, window_of, row_width, has_message}
+use Rattle.be_said.specs.Names.{handler_names, new_name}
+use Rattle.be_line.specs.Kinds.{first_of, said_as, across_words, down_words, what_said, filter_what_said, note_said, pixels_in, color_or_white}
 
 pub data Kind : Type 0 where
   -- names that are declared; a handler's is one of the window that the line names, and none of its others
@@ -117,14 +117,6 @@ abbrev pub behind : ℕ → At → At
 behind count at = record at { words = drop count at.words }
 
 -- ---- one word
-
--- a name beside these
-abbrev pub new_name : List (List ℕ) → List ℕ → Result (List ℕ) Reason
-new_name names word = new_named (list_any (λ other. bytes_eq other word) names) word
-
--- the names of a window's handlers
-abbrev pub handler_names : SoFar → Option ℕ → List (List ℕ)
-handler_names said w = view_names said w ++ plain_names said w
 
 -- a handler by its name: the window itself, a view or a plain handler
 abbrev plain_handler : Option ℕ → Option Target

@@ -6,9 +6,10 @@ use Rattle.be_command.specs.Reading.{command_or_reason}
 use Rattle.be_command.specs.declared.fault.Reason.{Reason}
 use Rattle.be_line.specs.Kinds.{said_as}
 use Rattle.be_line.specs.declared.statement.Statement.{Statement}
-use Rattle.be_reader.specs.Forms.{Deed, adds_step, form_of}
+use Rattle.be_said.specs.Deeds.{Deed, adds_step}
+use Rattle.be_reader.specs.Forms.{form_of}
 use Rattle.be_reader.specs.Kinds.{At, said_all}
-use Rattle.be_reader.specs.SoFar.{SoFar}
+use Rattle.be_said.specs.SoFar.{SoFar}
 
 -- behind the first word of a line
 abbrev pub line_at : List (List ℕ) → List ℕ → At

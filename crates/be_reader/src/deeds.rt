@@ -2,26 +2,24 @@ ghost use Rattle.std.specs.Prelude.{◌≡◌, IsSome, None};
 ghost use Rattle.std.specs.Result.{result_err, result_map_both};
 ghost use Rattle.be_lex.specs.Words.{words_of};
 ghost use Rattle.be_line.specs.FirstWords.{misplaced, seat_of};
-ghost use Rattle.be_reader.specs.Deeds.{seen_deed};
-ghost use Rattle.be_reader.specs.Due.{IsDue};
+ghost use Rattle.be_said.specs.SeenDeeds.{seen_deed};
+ghost use Rattle.be_said.specs.Due.{IsDue};
 ghost use Rattle.be_reader.specs.GivenDeeds.{IsDeed, unless_faulty};
 ghost use Rattle.be_reader.specs.Kinds.{ended};
 ghost use Rattle.be_reader.specs.LineDeeds.{command_said, line_at};
 ghost use Rattle.be_reader.specs.Progress.{first_reason};
-ghost use Rattle.be_reader.specs.SoFar.{known_in, site_of, window_of};
+ghost use Rattle.be_said.specs.SoFar.{known_in, site_of, window_of};
 
 mod declarations;
 mod inputs;
 mod instructions;
 
-use crate::deed::Deed;
-use crate::fault::LineFault;
 use crate::reading::Reading;
-use crate::said::SoFar;
 use be_actor::Instruction;
 use be_command::{CommandFault, read_command};
 use be_lex::Words;
 use be_line::Statement;
+use be_said::{Deed, LineFault, SoFar};
 use std::alloc::Global;
 
 /// What a line says behind its first word, which may stand here.

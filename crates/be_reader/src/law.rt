@@ -1,7 +1,7 @@
 ghost use Rattle.std.specs.Prelude.{◌≡◌, ℕ, Some, Ok};
 ghost use Rattle.be_reader.specs.Grammar.{script_of};
 ghost use Rattle.be_reader.specs.Laws.{IsFirst, Stays, WasThere};
-ghost use Rattle.be_reader.specs.SoFar.{SoFar, declared_in};
+ghost use Rattle.be_said.specs.SoFar.{SoFar, declared_in};
 ghost use Rattle.be_script.specs.Limits.{IsWithinLimits};
 
 /// What a script says that is read keeps every limit, so that the laws of the machine hold of it.

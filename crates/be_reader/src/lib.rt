@@ -1,17 +1,13 @@
 //! Reads scripts: which bytes are one, what it declares, and the first fault of all others.
 #![tactic(auto)]
 
-mod begun;
-mod deed;
 mod deeds;
 mod fault;
-mod inside;
 mod law;
 mod naming;
 mod pixels;
 mod reader;
 mod reading;
-mod said;
 mod screen;
 
 pub use fault::ScriptFault;

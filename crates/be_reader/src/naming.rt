@@ -3,17 +3,18 @@ ghost use Rattle.std.specs.Option.{option_map};
 ghost use Rattle.std.specs.Result.{result_map_both};
 ghost use Rattle.be_command.specs.Kinds.{named};
 ghost use Rattle.be_command.specs.Places.{judged};
-ghost use Rattle.be_reader.specs.Kinds.{handler_named, handler_names, list_named, new_name};
-ghost use Rattle.be_reader.specs.SoFar.{app_names, bitmap_names, view_names, window_names};
+ghost use Rattle.be_said.specs.Names.{handler_names, new_name};
+ghost use Rattle.be_reader.specs.Kinds.{handler_named, list_named};
+ghost use Rattle.be_said.specs.SoFar.{app_names, bitmap_names, view_names, window_names};
 
 // What a word says that is a name, beside the names that were said so far, or what is wrong with it.
 // None stands for a missing word.
 
-use crate::said::SoFar;
 use be_command::Reason;
 use be_lex::is_name;
 use be_line::judging;
 use be_message::Target;
+use be_said::SoFar;
 
 pub(crate) fn new_bitmap<'a>(said: &SoFar, word: Option<&'a [u8]>) -> Result<&'a [u8], Reason>
     ensures { result_map_both (λ name. name.now) (λ reason. reason) result

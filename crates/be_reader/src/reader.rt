@@ -5,19 +5,19 @@ ghost use Rattle.be_line.specs.FirstWords.{meant, statement_of};
 ghost use Rattle.be_script.specs.Limits.{IsWithinLimits};
 ghost use Rattle.be_script.specs.Routable.{IsRoutable};
 ghost use Rattle.be_script.specs.Script.{declared_by};
-ghost use Rattle.be_reader.specs.Due.{IsDue};
-ghost use Rattle.be_reader.specs.Grammar.{finished, is_closed, read_known, read_line, read_lines, script_of};
+ghost use Rattle.be_said.specs.Due.{IsDue};
+ghost use Rattle.be_said.specs.SoFar.{is_closed, declared_in, nothing_said};
+ghost use Rattle.be_reader.specs.Grammar.{finished, read_known, read_line, read_lines, script_of};
 ghost use Rattle.be_reader.specs.Outcomes.{IsRead};
-ghost use Rattle.be_reader.specs.SoFar.{declared_in, nothing_said};
 
 use crate::deeds::read_deed;
-use crate::fault::{LineFault, ScriptFault};
+use crate::fault::{ScriptFault, fault_at};
 use crate::law::an_accepted_script_keeps_its_limits;
-use crate::said::SoFar;
 use be_command::Reason;
 use be_geom::NoMemory;
 use be_lex::{Line, Lines, Words, is_passed_over, is_printable};
 use be_line::{Site, Statement};
+use be_said::{LineFault, SoFar};
 use be_script::{Script, work};
 use std::alloc::Global;
 
@@ -57,7 +57,7 @@ fn read_lines(alloc: Global, bytes: &[u8]) -> Result<Script, ScriptFault>
     while let Some(line) = lines.next() {
         said = match read_line(alloc, said, &line) {
             Ok(said) => said,
-            Err(fault) => return Err(fault.at(number)),
+            Err(fault) => return Err(fault_at(number, fault)),
         };
         number += 1;
     }

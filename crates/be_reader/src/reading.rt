@@ -9,11 +9,11 @@ ghost use Rattle.be_lex.specs.Words.{words_of};
 ghost use Rattle.be_line.specs.Fields.{fields_said};
 ghost use Rattle.be_line.specs.Kinds.{across_words, color_or_white, down_words, filter_what_said, note_said, pixels_in, said_as, what_said};
 ghost use Rattle.be_line.specs.Options.{options_said};
-ghost use Rattle.be_reader.specs.Kinds.{a_rule, a_window, after, behind, ended, frame_said, handler_named, handler_names, list_named, new_name, place_said, rule_by, window_frame, word_said};
+ghost use Rattle.be_said.specs.Names.{handler_names, new_name};
+ghost use Rattle.be_reader.specs.Kinds.{a_rule, a_window, after, behind, ended, frame_said, handler_named, list_named, place_said, rule_by, window_frame, word_said};
 ghost use Rattle.be_reader.specs.Progress.{Takes, first_reason};
-ghost use Rattle.be_reader.specs.SoFar.{app_names, bitmap_names, has_message, row_width, view_names, window_names};
+ghost use Rattle.be_said.specs.SoFar.{app_names, bitmap_names, has_message, row_width, view_names, window_names};
 
-use crate::said::SoFar;
 use crate::{naming, pixels, screen};
 use be_actor::FieldWord;
 use be_color::Color;
@@ -24,6 +24,7 @@ use be_handler::Rule;
 use be_lex::Words;
 use be_line::{Options, judging, read_fields, read_options};
 use be_message::Target;
+use be_said::SoFar;
 use std::alloc::Global;
 use std::marker::Model;
 

@@ -1,17 +1,15 @@
 ghost use Rattle.std.specs.Prelude.{◌≡◌, None};
 ghost use Rattle.be_line.specs.declared.statement.Statement.TheVariants as statement;
 ghost use Rattle.be_reader.specs.GivenDeeds.{IsDeed};
-ghost use Rattle.be_reader.specs.SoFar as sofar;
+ghost use Rattle.be_said.specs.SoFar as sofar;
 
 // The lines that declare something, and those that begin it.
 
-use crate::deed::Deed;
 use crate::deeds::unless_faulty;
-use crate::fault::LineFault;
 use crate::reading::Reading;
-use crate::said::SoFar;
 use be_follow::Follow;
 use be_message::Text;
+use be_said::{Deed, LineFault, SoFar};
 use be_script::{FilterLine, HandlerLine, ViewLine, WindowLine};
 use std::alloc::Global;
 

@@ -1,17 +1,15 @@
 ghost use Rattle.std.specs.Prelude.{◌≡◌, None};
 ghost use Rattle.be_line.specs.declared.statement.Statement.TheVariants as statement;
 ghost use Rattle.be_reader.specs.GivenDeeds.{IsDeed};
-ghost use Rattle.be_reader.specs.SoFar as sofar;
+ghost use Rattle.be_said.specs.SoFar as sofar;
 
 // The lines of bodies and programs, beside commands.
 
-use crate::deed::Deed;
 use crate::deeds::unless_faulty;
-use crate::fault::LineFault;
 use crate::reading::Reading;
-use crate::said::SoFar;
 use be_actor::{Draft, Instruction};
 use be_message::Text;
+use be_said::{Deed, LineFault, SoFar};
 use std::alloc::Global;
 
 pub(crate) fn note(alloc: Global, mut line: Reading<'_>) -> Result<Deed, LineFault>

@@ -1,7 +1,7 @@
 use Rattle.std.proofs.Common.{◌≡◌, Ok, refl, ap, subst, ◌∙◌}
 use Rattle.be_outside.specs.Telling.{with_end, TakesPrefix}
 use Rattle.be_reader.specs.Grammar.{script_of}
-use Rattle.be_reader.specs.Outcomes.{said_by}
+use Rattle.be_said.specs.Whole.{said_by}
 use Rattle.app_server.proofs.Checked.{judged}
 use Rattle.app_server.proofs.check.check.Goals as goal
 

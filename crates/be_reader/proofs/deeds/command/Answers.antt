@@ -1,7 +1,7 @@
 use Rattle.std.proofs.Common.{◌≡◌, Bor, Option, subst}
 use Rattle.std.specs.Option.{IfSome}
 use Rattle.be_command.specs.Names.{Known}
-use Rattle.be_reader.specs.SoFar.{known_in, window_of}
+use Rattle.be_said.specs.SoFar.{known_in, window_of}
 use Rattle.be_reader.proofs.CommandLemmas.{command_faulty, command_made}
 use Rattle.be_reader.proofs.deeds.command.Goals as goal
 

@@ -6,7 +6,7 @@ use Rattle.be_line.specs.declared.statement.Statement.TheVariants as statement
 use Rattle.be_reader.specs.Forms.{form_of}
 use Rattle.be_reader.specs.LineDeeds.{line_at}
 use Rattle.be_reader.specs.Progress.{Progress}
-use Rattle.be_reader.specs.SoFar.{site_of}
+use Rattle.be_said.specs.SoFar.{site_of}
 use Rattle.be_reader.proofs.CommandLemmas.{command_deed, has_window}
 use Rattle.be_reader.proofs.DeedLemmas.{deed_here, deed_so, is_deed, reads_end}
 use Rattle.be_reader.proofs.deeds.read_deed.Goals as goal

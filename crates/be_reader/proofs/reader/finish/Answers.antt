@@ -1,6 +1,6 @@
-use Rattle.std.proofs.Common.{rules, ◌≡◌, Some, option_map, ap, sym, ◌∙◌}
+use Rattle.std.proofs.Common.{option_map, ap, sym, ◌∙◌}
 use Rattle.be_reader.proofs.OutcomeLemmas.{whole_routable}
-use Rattle.be_reader.specs.Outcomes.{said_by}
+use Rattle.be_said.specs.Whole.{said_by}
 use Rattle.be_reader.proofs.reader.finish.Goals as goal
 
 pub work-requires : goal.work-requires

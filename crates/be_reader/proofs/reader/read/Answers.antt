@@ -1,6 +1,6 @@
-use Rattle.std.proofs.Common.{◌≡◌, refl, ◌∙◌}
+use Rattle.std.proofs.Common.{refl, ◌∙◌}
 use Rattle.be_reader.proofs.LineLemmas.{short_enough}
-use Rattle.be_reader.specs.Outcomes.{said_by}
+use Rattle.be_said.specs.Whole.{said_by}
 use Rattle.be_reader.proofs.reader.read.Goals as goal
 
 pub returns-clause-limits : goal.returns-clause-limits

@@ -1,9 +1,9 @@
-use Rattle.std.proofs.Common.{rules, ◌≡◌, ◌≤◌, ℕ, List, ◌∷◌, Ok, Err, length, ◌+◌, ◌<◌, arith, ap, ap₂, refl, sym, subst, ◌∙◌}
+use Rattle.std.proofs.Common.{ℕ, List, ◌∷◌, Err, length, arith, ap, ap₂, sym, subst, ◌∙◌}
 use Rattle.be_lex.specs.Lines.{lines_of}
 use Rattle.be_reader.proofs.KeepsLemmas.{opening, routable, step}
 use Rattle.be_reader.proofs.LineLemmas.{fault_is, goes_on}
-use Rattle.be_reader.specs.Grammar.{read_line, read_lines}
-use Rattle.be_reader.specs.Keeps.{Keeps}
+use Rattle.be_reader.specs.Grammar.{read_lines}
+use Rattle.be_said.specs.Keeps.{Keeps}
 use Rattle.be_reader.specs.Outcomes.{IsRead}
 use Rattle.be_reader.proofs.reader.read_lines.Goals as goal
 
@@ -16,9 +16,9 @@ loop-line-init c = (
 
 pub returns-in-Err : goal.returns-in-Err
 returns-in-Err c =
-    subst (λ r. IsRead r (Err c.at.result))
+    subst (λ r. IsRead r (Err c.fault_at.result))
     (ap (read_lines c.loop-line.number c.loop-line.said) (sym c.in-Some.ensures.lines) ∙ c.loop-line.invariant.0)
-    (subst (λ f. IsRead (read_lines c.loop-line.number c.loop-line.said (c.in-Some.line ∷ lines_of c.next.new.self)) (Err f)) (sym c.at.ensures)
+    (subst (λ f. IsRead (read_lines c.loop-line.number c.loop-line.said (c.in-Some.line ∷ lines_of c.next.new.self)) (Err f)) (sym c.fault_at.ensures)
     (fault_is c.loop-line.number c.loop-line.said c.in-Some.line (lines_of c.next.new.self) c.in-Err.fault c.in-Err.ensures))
 
 pub overflow_add-number : goal.overflow_add-number

@@ -1,8 +1,8 @@
 use Rattle.std.proofs.Common.{◌≡◌, ◌≤◌, length, ◌+◌}
 use Rattle.be_lex.specs.Lines.{lines_of}
 use Rattle.be_reader.specs.Grammar.{read_lines}
-use Rattle.be_reader.specs.Keeps.{Keeps}
-use Rattle.be_reader.specs.SoFar.{nothing_said}
+use Rattle.be_said.specs.Keeps.{Keeps}
+use Rattle.be_said.specs.SoFar.{nothing_said}
 use Rattle.be_reader.proofs.reader.read_lines.Given as goal
 
 -- what is left says what all of it says, what was said keeps its limits, and no number is above the bytes

@@ -1,6 +1,6 @@
-use Rattle.std.proofs.Common.{rules, ◌≡◌, None}
+use Rattle.std.proofs.Common.{rules}
 use Rattle.be_reader.proofs.FitsLemmas.{deed_fits, due_is}
-use Rattle.be_reader.specs.Deeds.{seen_deed}
+use Rattle.be_said.specs.SeenDeeds.{seen_deed}
 use Rattle.be_reader.proofs.reader.read_words.Goals as goal
 
 pub done-requires : goal.done-requires

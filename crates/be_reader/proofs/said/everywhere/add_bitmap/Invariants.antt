@@ -1,6 +1,0 @@
-use Rattle.std.proofs.Common.{◌≡◌, ◌++◌, map, take, drop}
-use Rattle.be_reader.specs.Everywhere.{with_bitmap}
-use Rattle.be_reader.proofs.said.everywhere.add_bitmap.Given as goal
-
-abbrev pub invariant-loop-inside : goal.invariant-loop-inside
-invariant-loop-inside l = l.insides ≡ map (with_bitmap l.name) (take l.inside-index l.initial.insides) ++ drop l.inside-index l.initial.insides

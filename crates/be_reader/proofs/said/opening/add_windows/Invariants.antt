@@ -1,5 +1,0 @@
-use Rattle.std.proofs.Common.{◌≡◌, map, take}
-use Rattle.be_reader.proofs.said.opening.add_windows.Given as goal
-
-abbrev pub invariant-loop-line : goal.invariant-loop-line
-invariant-loop-line l = l.names ≡ record l.initial.names { windows = take l.line-index (map (λ line. line.name) l.windows) }

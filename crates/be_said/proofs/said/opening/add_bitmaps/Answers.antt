@@ -1,0 +1,23 @@
+use Rattle.std.proofs.Common.{◌++◌, ◌∷◌, [], ap, sym, ◌∙◌}
+use Rattle.be_command.specs.Names.{Known}
+use Rattle.be_script.specs.declared.BitmapLine.{BitmapLine}
+use Rattle.be_said.proofs.OpeningLemmas.{all_named, next_fits, next_named}
+use Rattle.be_said.proofs.said.opening.add_bitmaps.Goals as goal
+
+pub add_bitmap-requires : goal.add_bitmap-requires
+add_bitmap-requires c =
+    next_fits 64 (λ (line : BitmapLine). line.name) c.args.bitmaps.now c.loop-line.line-index c.line-item.result _ c.requires.few c.requires.new c.loop-line-test.true c.line-item.is
+    (ap (λ (known : Known). known.bitmaps) c.loop-line.invariant)
+
+pub loop-line-preserved : goal.loop-line-preserved
+loop-line-preserved c =
+    c.in_ok-add_bitmap.ensures ∙ ap (λ (known : Known). record known { bitmaps = known.bitmaps ++ c.line-item.result.name ∷ [] }) c.loop-line.invariant
+    ∙ ap (λ names. record c.args.names.now { bitmaps = names })
+    (sym (next_named (λ (line : BitmapLine). line.name) c.args.bitmaps.now c.loop-line.line-index c.line-item.result c.loop-line-test.true c.line-item.is))
+
+pub returns : goal.returns
+returns c =
+    c.loop-line.invariant ∙ ap (λ names. record c.args.names.now { bitmaps = names }) (all_named (λ (line : BitmapLine). line.name) c.args.bitmaps.now c.loop-line.line-index c.loop-line-test.false)
+
+pub loop-line-init : goal.loop-line-init
+loop-line-init c = ap (λ names. record c.args.names.now { bitmaps = names }) c.requires.none

@@ -1,0 +1,5 @@
+use Rattle.std.proofs.Common.{◌≡◌, map, take}
+use Rattle.be_said.proofs.said.opening.add_windows.Given as goal
+
+abbrev pub invariant-loop-line : goal.invariant-loop-line
+invariant-loop-line l = l.names ≡ record l.initial.names { windows = take l.line-index (map (λ line. line.name) l.windows) }

@@ -1,0 +1,13 @@
+pub mod Begun
+pub mod Deeds
+pub mod Due
+pub mod Everywhere
+pub mod Fits
+pub mod Inside
+pub mod Judging
+pub mod Keeps
+pub mod Names
+pub mod Said
+pub mod SeenDeeds
+pub mod SoFar
+pub mod Whole
