@@ -1,0 +1,86 @@
+-- What a drawing makes of the cells along a row.
+use Rattle.std.specs.Prelude.{if◌then◌else◌}
+use Rattle.std.proofs.Common.{◌≡◌, ℕ, ℤ, pos, ◌+ℤ◌, ◌-ℤ◌, ◌≤ℤ◌, true, false, ◌&&◌, List, Option, Some, None, refl, sym, ap, ◌∙◌, arith}
+use Rattle.std.proofs.Math.Bool.{and-false}
+use Rattle.std.proofs.lemmas.Int.{ints}
+use Rattle.be_geom.specs.Places.{at_pixel}
+use Rattle.be_geom.specs.declared.rect.Rect.{Rect}
+use Rattle.be_region.specs.Regions.{region_has}
+use Rattle.be_region.specs.Runs.{IsRun}
+use Rattle.be_span.specs.declared.Cell.{Cell}
+use Rattle.be_span.specs.declared.brush.Source.{Source}
+use Rattle.be_state.specs.declared.State.{State}
+use Rattle.be_paint.specs.Inks.{source_at, laid_on_cell}
+use Rattle.be_paint.specs.Seen.{is_free}
+use Rattle.be_paint.specs.Stretches.{IsStretch}
+use Rattle.be_paint.specs.Laying.{ink_of, color_in, source_in, drawn_cell, run_cell, IsInkRun, IsDrawnBy, IsRunOf}
+use Rattle.be_paint.specs.declared.drawing.Drawing.{Drawing}
+use Rattle.be_paint.specs.declared.pixel.Pixel.{Pixel}
+
+-- a run of the ink, seen on the screen
+pub drawn_by : (d : Drawing) (x y : ℤ) (local p : Pixel) (source : Option Source) (last : ℤ) (k : ℕ) → local.x ≡ x -ℤ d.reach.now.window.x → local.y ≡ y -ℤ d.reach.now.window.y → p.x ≡ local.x -ℤ d.view.x -ℤ d.base.x → p.y ≡ local.y -ℤ d.view.y -ℤ d.base.y → IsInkRun (ink_of d.ink.now) d.reach.now.states.now.top.state local p source last → (p.x +ℤ pos k) ≤ℤ last → IsDrawnBy d (x +ℤ pos k) y source k
+drawn_by d x y local p source last k lx ly px py run to =
+    let s = d.reach.now.states.now.top.state in
+    let ink = ink_of d.ink.now in
+    let w = d.reach.now.window in
+    let u : ℤ = x +ℤ pos k -ℤ w.x in
+    let v : ℤ = y -ℤ w.y in
+    let e1 : u ≡ local.x +ℤ pos k = omega (arith, ints) in
+    let e2 : v ≡ local.y = sym ly in
+    let e3 : u -ℤ d.view.x -ℤ d.base.x ≡ p.x +ℤ pos k = omega (arith, ints) in
+    let e4 : v -ℤ d.view.y -ℤ d.base.y ≡ p.y = omega (arith, ints) in
+    ap (λ (a : ℤ). source_at ink s (at_pixel a v) (at_pixel (u -ℤ d.view.x -ℤ d.base.x) (v -ℤ d.view.y -ℤ d.base.y))) e1
+    ∙ ap (λ (a : ℤ). source_at ink s (at_pixel (local.x +ℤ pos k) a) (at_pixel (u -ℤ d.view.x -ℤ d.base.x) (v -ℤ d.view.y -ℤ d.base.y))) e2
+    ∙ ap (λ (a : ℤ). source_at ink s (at_pixel (local.x +ℤ pos k) local.y) (at_pixel a (v -ℤ d.view.y -ℤ d.base.y))) e3
+    ∙ ap (λ (a : ℤ). source_at ink s (at_pixel (local.x +ℤ pos k) local.y) (at_pixel (p.x +ℤ pos k) a)) e4
+    ∙ run.each k to
+
+-- ---- cells
+
+pub not_owned : (rects : List Rect) (d : Drawing) (x y : ℤ) (c : Cell) → region_has rects x y ≡ false → drawn_cell rects d x y c ≡ c
+not_owned rects d x y c e = ap (λ b. if b && is_free d.reach.now d.view x y then laid_on_cell d.reach.now.states.now.top.state c (source_in d x y) else c) e
+
+not_free : (rects : List Rect) (d : Drawing) (x y : ℤ) (c : Cell) → is_free d.reach.now d.view x y ≡ false → drawn_cell rects d x y c ≡ c
+not_free rects d x y c e =
+    ap (λ b. if region_has rects x y && b then laid_on_cell d.reach.now.states.now.top.state c (source_in d x y) else c) e
+    ∙ ap (λ b. if b then laid_on_cell d.reach.now.states.now.top.state c (source_in d x y) else c) (and-false (region_has rects x y))
+
+free : (rects : List Rect) (d : Drawing) (x y : ℤ) (c : Cell) → region_has rects x y ≡ true → is_free d.reach.now d.view x y ≡ true → drawn_cell rects d x y c ≡ laid_on_cell d.reach.now.states.now.top.state c (source_in d x y)
+free rects d x y c owned e =
+    ap (λ b. if b && is_free d.reach.now d.view x y then laid_on_cell d.reach.now.states.now.top.state c (source_in d x y) else c) owned
+    ∙ ap (λ b. if b then laid_on_cell d.reach.now.states.now.top.state c (source_in d x y) else c) e
+
+laid_by : (s : State) (source : Option Source) (k : ℕ) (c : Cell) → laid_on_cell s c (color_in s source k) ≡ run_cell s source k c
+laid_by s (Some source) k c = refl
+laid_by s None k c = refl
+
+-- ---- runs
+
+pub run_outside : (rects : List Rect) (d : Drawing) (x y end last r : ℤ) → IsRun (λ z. region_has rects z y) x last → region_has rects x y ≡ false → x ≤ℤ r → r ≤ℤ last → r ≤ℤ end → IsRunOf rects d x y None end r
+run_outside rects d x y end last r run out ahead short within = record {
+  forward = ahead;
+  within = within;
+  each = λ k to c. not_owned rects d (x +ℤ pos k) y c (run.same (x +ℤ pos k) (omega (arith, ints)) (omega (arith, ints)) ∙ out);
+}
+
+pub run_kept : (rects : List Rect) (d : Drawing) (x y end mid r : ℤ) → IsStretch (λ z. is_free d.reach.now d.view z y) x mid r → is_free d.reach.now d.view x y ≡ false → mid ≤ℤ end → IsRunOf rects d x y None end r
+run_kept rects d x y end mid r run out short =
+    let within = run.within in
+    record {
+      forward = run.forward;
+      within = omega (arith, ints);
+      each = λ k to c. not_free rects d (x +ℤ pos k) y c (run.same (x +ℤ pos k) (omega (arith, ints)) to ∙ out);
+    }
+
+pub run_drawn : (rects : List Rect) (d : Drawing) (x y end mid last r : ℤ) (source : Option Source) → ((z : ℤ) → x ≤ℤ z → z ≤ℤ last → region_has rects z y ≡ true) → IsStretch (λ z. is_free d.reach.now d.view z y) x last mid → is_free d.reach.now d.view x y ≡ true → last ≤ℤ end → x ≤ℤ r → r ≤ℤ mid → ((k : ℕ) → (x +ℤ pos k) ≤ℤ r → IsDrawnBy d (x +ℤ pos k) y source k) → IsRunOf rects d x y source end r
+run_drawn rects d x y end mid last r source owned run yes_free short ahead to_mid drawn =
+    let within = run.within in
+    record {
+      forward = ahead;
+      within = omega (arith, ints);
+      each = λ k to c.
+          let s = d.reach.now.states.now.top.state in
+          free rects d (x +ℤ pos k) y c (owned (x +ℤ pos k) (omega (arith, ints)) (omega (arith, ints))) (run.same (x +ℤ pos k) (omega (arith, ints)) (omega (arith, ints)) ∙ yes_free)
+          ∙ ap (laid_on_cell s c) (drawn k to)
+          ∙ laid_by s source k c;
+    }

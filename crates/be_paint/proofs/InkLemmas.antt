@@ -1,0 +1,114 @@
+-- What an ink lays along a row.
+use Rattle.std.specs.Prelude.{slice_index, slice_get, nat_lt, ◌+◌, ◌*◌, ◌&&◌, if◌then◌else◌}
+use Rattle.std.proofs.Common.{◌≡◌, ℕ, ℤ, pos, negsuc, List, ◌-ℤ◌, ◌+ℤ◌, ◌≤ℤ◌, ◌<ℤ◌, true, false, Option, Some, None, refl, sym, ap, ◌∙◌, arith}
+use Rattle.std.proofs.lemmas.Int.{ints}
+use Rattle.std.proofs.lemmas.Bool.{le-ltb}
+use Rattle.be_geom.specs.declared.point.Point.{Point}
+use Rattle.be_geom.specs.Places.{at_pixel}
+use Rattle.be_bitmap.specs.Pictures.{Picture, bitmap_pixel}
+use Rattle.be_color.specs.declared.patterns.Pattern.{Pattern}
+use Rattle.be_color.specs.Pattern.{place_in_pattern, pattern_bit}
+use Rattle.be_color.specs.Pixel.{picked}
+use Rattle.be_shape.specs.declared.Raster.{Raster}
+use Rattle.be_shape.specs.Rasters.{raster_has}
+use Rattle.be_shape.specs.Runs.{HasNoneFrom, IsNextRun}
+use Rattle.be_span.specs.declared.brush.Source.{Source}
+use Rattle.be_span.specs.declared.brush.Source.TheVariants.{Bits, One}
+use Rattle.be_span.specs.Slices as slices
+use Rattle.be_state.specs.declared.State.{State}
+use Rattle.be_paint.specs.Inks.{shape, text, image, text_has, source_at}
+use Rattle.be_paint.specs.Laying.{IsInkRun, brush_of, color_in}
+use Rattle.be_paint.specs.Stretches.{IsAhead}
+use Rattle.be_paint.specs.declared.pixel.Pixel.{Pixel}
+
+-- ---- shapes
+
+shape_off : (raster : Raster) (pattern : Pattern) (s : State) (u v x y : ℤ) → raster_has raster x y ≡ false → source_at (shape raster pattern) s (at_pixel u v) (at_pixel x y) ≡ None
+unfolding source_at
+shape_off raster pattern s u v x y e = ap (λ b. if b then Some (picked s.mode (pattern_bit pattern.rows u v) s.high s.low) else None) e
+
+shape_on : (raster : Raster) (pattern : Pattern) (s : State) (u v x y : ℤ) (k byte : ℕ) → byte ≡ slice_index pattern.rows (place_in_pattern v) → raster_has raster x y ≡ true → source_at (shape raster pattern) s (at_pixel (u +ℤ pos k) v) (at_pixel x y) ≡ Some (slices.source_at (brush_of s) (Bits byte u) k)
+unfolding source_at pattern_bit
+shape_on raster pattern s u v x y k byte row e =
+    ap (λ b. if b then Some (picked s.mode (pattern_bit pattern.rows (u +ℤ pos k) v) s.high s.low) else None) e
+    ∙ ap (λ (r : ℕ). Some (picked s.mode (slices.row_bit r (u +ℤ pos k)) s.high s.low)) (sym row)
+
+-- no more of it in the row
+pub shape_none : (raster : Raster) (pattern : Pattern) (s : State) (local p : Pixel) (last : ℤ) → p.x ≤ℤ last → HasNoneFrom raster p.y p.x → IsInkRun (shape raster pattern) s local p None last
+shape_none raster pattern s local p last ahead none = record {
+  forward = ahead;
+  each = λ k to. shape_off raster pattern s (local.x +ℤ pos k) local.y (p.x +ℤ pos k) p.y (none (p.x +ℤ pos k) (omega (arith, ints)));
+}
+
+-- up to the column before its next run
+pub shape_gap : (raster : Raster) (pattern : Pattern) (s : State) (local p : Pixel) (first last end : ℤ) → IsNextRun raster p.y p.x first last → p.x ≤ℤ end → end <ℤ first → IsInkRun (shape raster pattern) s local p None end
+shape_gap raster pattern s local p first last end run ahead before = record {
+  forward = ahead;
+  each = λ k to. shape_off raster pattern s (local.x +ℤ pos k) local.y (p.x +ℤ pos k) p.y (run.passed (p.x +ℤ pos k) (omega (arith, ints)) (omega (arith, ints)));
+}
+
+-- in a run
+pub shape_within : (raster : Raster) (pattern : Pattern) (s : State) (local p : Pixel) (first last : ℤ) (byte : ℕ) → IsNextRun raster p.y p.x first last → first ≤ℤ p.x → byte ≡ slice_index pattern.rows (place_in_pattern local.y) → IsInkRun (shape raster pattern) s local p (Some (Bits byte local.x)) last
+shape_within raster pattern s local p first last byte run begun row =
+    let ahead = run.ahead in
+    let forward = run.forward in
+    record {
+      forward = omega (arith, ints);
+      each = λ k to. shape_on raster pattern s local.x local.y (p.x +ℤ pos k) p.y k byte row (run.within (p.x +ℤ pos k) (omega (arith, ints)) (omega (arith, ints)));
+    }
+
+-- ---- texts
+
+pub text_on : (codes : List ℕ) (s : State) (local p : Pixel) (last : ℤ) → IsAhead (λ z. text_has codes s.pen.x s.pen.y z p.y) p.x last → text_has codes s.pen.x s.pen.y p.x p.y ≡ true → IsInkRun (text codes) s local p (Some (One s.high)) last
+unfolding source_at
+text_on codes s local p last run e = record {
+  forward = run.forward;
+  each = λ k to. ap (λ b. if b then Some s.high else None) (run.same (p.x +ℤ pos k) (omega (arith, ints)) to ∙ e);
+}
+
+pub text_off : (codes : List ℕ) (s : State) (local p : Pixel) (last : ℤ) → IsAhead (λ z. text_has codes s.pen.x s.pen.y z p.y) p.x last → text_has codes s.pen.x s.pen.y p.x p.y ≡ false → IsInkRun (text codes) s local p None last
+unfolding source_at
+text_off codes s local p last run e = record {
+  forward = run.forward;
+  each = λ k to. ap (λ b. if b then Some s.high else None) (run.same (p.x +ℤ pos k) (omega (arith, ints)) to ∙ e);
+}
+
+-- ---- pictures
+
+left_of : (b : Picture) (z y : ℤ) → z <ℤ pos 0 → bitmap_pixel b z y ≡ None
+unfolding bitmap_pixel
+left_of b (pos n) y h = absurd (omega (arith, ints))
+left_of b (negsuc n) y h = refl
+
+right_of : (b : Picture) (z y : ℤ) → pos b.width ≤ℤ z → bitmap_pixel b z y ≡ None
+unfolding bitmap_pixel
+right_of b (negsuc n) y h = absurd (omega (arith, ints))
+right_of b (pos n) (negsuc m) h = refl
+right_of b (pos n) (pos m) h =
+    let e : nat_lt n b.width ≡ false = le-ltb n b.width (omega (arith, ints)) in
+    ap (λ t. if t && nat_lt m b.height then slice_get b.colors (m * b.width + n) else None) e
+
+pub image_left : (b : Picture) (corner : Point) (s : State) (local p : Pixel) (last : ℤ) → p.x ≤ℤ last → last <ℤ corner.x → IsInkRun (image b corner) s local p None last
+unfolding source_at
+image_left b corner s local p last ahead before = record {
+  forward = ahead;
+  each = λ k to. left_of b (p.x +ℤ pos k -ℤ corner.x) (p.y -ℤ corner.y) (omega (arith, ints));
+}
+
+pub image_right : (b : Picture) (corner : Point) (s : State) (local p : Pixel) (last : ℤ) → p.x ≤ℤ last → pos b.width ≤ℤ (p.x -ℤ corner.x) → IsInkRun (image b corner) s local p None last
+unfolding source_at
+image_right b corner s local p last ahead past = record {
+  forward = ahead;
+  each = λ k to. right_of b (p.x +ℤ pos k -ℤ corner.x) (p.y -ℤ corner.y) (omega (arith, ints));
+}
+
+-- one pixel
+pub image_one : (b : Picture) (corner : Point) (s : State) (local p : Pixel) (source : Option Source) → bitmap_pixel b (p.x -ℤ corner.x) (p.y -ℤ corner.y) ≡ color_in s source 0 → IsInkRun (image b corner) s local p source p.x
+unfolding source_at
+image_one b corner s local p source e = record {
+  forward = omega (arith, ints);
+  each = λ k to.
+      let none : 0 ≡ k = omega (arith, ints) in
+      let same : p.x +ℤ pos k ≡ p.x = omega (arith, ints) in
+      ap (λ z. bitmap_pixel b (z -ℤ corner.x) (p.y -ℤ corner.y)) same ∙ e ∙ ap (color_in s source) none;
+}

@@ -1,0 +1,61 @@
+-- Answers that hold along a row: moved from one kind of coordinates to another, and joined.
+use Rattle.std.proofs.Common.{◌≡◌, ℤ, ◌+ℤ◌, ◌-ℤ◌, ◌≤ℤ◌, ◌⊎◌, Bool, true, false, ◌&&◌, SFits, w16, w32, arith, rules, sym, ap, ◌∙◌, refl}
+use Rattle.std.proofs.lemmas.Int.{ints}
+use Rattle.be_region.specs.Runs.{IsRun}
+use Rattle.be_views.specs.Places.{IsNear}
+use Rattle.be_paint.specs.Stretches.{IsStretch, IsCoordinate}
+
+-- ---- numbers
+
+pub less_fits : (x w : ℤ) → IsCoordinate x → SFits w16 w → SFits w32 (x -ℤ w)
+less_fits x w (low, high) f = search rules
+
+pub within_fits : (x w p : ℤ) → IsCoordinate x → SFits w16 w → IsNear 32 p → SFits w32 (x -ℤ w -ℤ p)
+within_fits x w p (low, high) f (least, most) = search rules
+
+pub offset_fits : (w p : ℤ) → SFits w16 w → IsNear 32 p → SFits w32 (w +ℤ p)
+offset_fits w p f (least, most) = search rules
+
+-- ---- stretches
+
+-- a run in coordinates that begin at an offset
+pub moved_run : {A : Type 0} (f : ℤ → A) (s : ℤ → ℤ) (x off end last r : ℤ) → ((z : ℤ) → s z ≡ z -ℤ off) → IsRun f (s x) last → x ≤ℤ end → r ≤ℤ end → r ≤ℤ (last +ℤ off) → (r ≡ end) ⊎ (r ≡ last +ℤ off) → IsStretch (λ z. f (s z)) x end r
+moved_run f s x off end last r shift run ahead within lasts one =
+    let sx = shift x in
+    let forward : s x ≤ℤ last = run.forward in
+    record {
+      forward = omega (arith, ints);
+      within = within;
+      same = λ z from to. let sz = shift z in run.same (s z) (omega (arith, ints)) (omega (arith, ints));
+    }
+
+pub both_false : (a b : Bool) → a ≡ false → (a && b) ≡ false
+both_false true b e = cc
+both_false false b e = refl
+
+pub both_true : (a b : Bool) → a ≡ true → (a && b) ≡ b
+both_true true b e = refl
+both_true false b e = cc
+
+-- where the first says no, both do
+pub no_stretch : (f g : ℤ → Bool) (x end last : ℤ) → IsStretch f x end last → f x ≡ false → IsStretch (λ z. f z && g z) x end last
+no_stretch f g x end last h first = record {
+  forward = h.forward;
+  within = h.within;
+  same = λ z from to. both_false (f z) (g z) (h.same z from to ∙ first) ∙ sym (both_false (f x) (g x) first);
+}
+
+-- where the first says yes, the second decides
+pub yes_stretch : (f g : ℤ → Bool) (x end mid last : ℤ) → IsStretch f x end mid → f x ≡ true → IsStretch g x mid last → IsStretch (λ z. f z && g z) x end last
+yes_stretch f g x end mid last h first k =
+    let a = h.within in
+    let b = k.within in
+    record {
+      forward = k.forward;
+      within = omega (arith, ints);
+      same = λ z from to. both_true (f z) (g z) (h.same z from (omega (arith, ints)) ∙ first) ∙ k.same z from to ∙ sym (both_true (f x) (g x) first);
+    }
+
+-- what follows from an answer stays as long
+pub mapped : {A B : Type 0} (g : A → B) (f : ℤ → A) (x end last : ℤ) → IsStretch f x end last → IsStretch (λ z. g (f z)) x end last
+mapped g f x end last h = record { forward = h.forward; within = h.within; same = λ z from to. ap g (h.same z from to) }

@@ -1,0 +1,63 @@
+-- What the code's reach stands for, and what it says of a pixel of the screen (this project's own).
+use Rattle.std.specs.Prelude.{◌≡◌, ℤ, Bool, true, ◌&&◌, ◌-ℤ◌, List, Option, Some, None, option_map}
+use Rattle.std.specs.List.{list_any}
+use Rattle.be_geom.specs.declared.point.Point.{Point}
+use Rattle.be_geom.specs.declared.rect.Rect.{Rect}
+use Rattle.be_geom.specs.Numbers.{is_number}
+use Rattle.be_geom.specs.Places.{at_pixel, same_point}
+use Rattle.be_region.specs.Regions.{region_has}
+use Rattle.be_state.specs.Stacks.{allows}
+use Rattle.be_views.specs.Trees.{place_of}
+use Rattle.be_views.specs.Pixels.{view_at}
+use Rattle.be_views.specs.Places.{IsNear}
+use Rattle.be_paint.specs.Reach as reach
+use Rattle.be_paint.specs.declared.reach.Reach.{Reach}
+use Rattle.be_paint.specs.declared.pixel.Pixel.{Pixel}
+
+-- ---- what it stands for
+
+-- a region has the pixels of a list, and no others; where there is no region there is no list
+abbrev pub IsSession : Option (List Rect) → Option (List Point) → Type 0
+IsSession (Some rects) (Some pixels) = (x y : ℤ) → region_has rects x y ≡ list_any (same_point (at_pixel x y)) pixels
+IsSession (Some rects) None = ⊥
+IsSession None (Some pixels) = ⊥
+IsSession None None = Unit {0}
+
+-- the same window, view, place, tree and states, and a session of the same pixels
+pub record IsSeenAs (given : Reach) (seen : reach.Reach) : Type 0 where
+  pub window : seen.window ≡ given.window
+  pub place : place_of given.tree.now given.view ≡ Some seen.place
+  pub tree : seen.tree ≡ given.tree.now
+  pub view : seen.view ≡ given.view
+  pub stack : seen.stack ≡ given.states.now
+  pub session : IsSession (option_map (λ r. r.now) given.session) seen.session
+
+-- ---- what it says of a pixel
+
+-- this view is at it
+abbrev pub is_at : Reach → ℤ → ℤ → Bool
+is_at given x y = is_number given.view (view_at given.tree.now (x -ℤ given.window.x) (y -ℤ given.window.y))
+
+-- every clip holds it, where the view's left top is at a place in the window
+abbrev pub is_allowed : Reach → Pixel → ℤ → ℤ → Bool
+is_allowed given place x y = allows given.states.now (x -ℤ given.window.x -ℤ place.x) (y -ℤ given.window.y -ℤ place.y)
+
+-- a session's region has it, if there is one
+abbrev pub has_session : Option (List Rect) → ℤ → ℤ → Bool
+has_session (Some rects) x y = region_has rects x y
+has_session None x y = true
+
+abbrev pub is_open : Reach → ℤ → ℤ → Bool
+is_open given x y = has_session (option_map (λ r. r.now) given.session) (x -ℤ given.window.x) (y -ℤ given.window.y)
+
+-- all of these
+abbrev pub is_free : Reach → Pixel → ℤ → ℤ → Bool
+is_free given place x y = is_at given x y && is_allowed given place x y && is_open given x y
+
+-- as far from the window's left top as 32 frames can be
+abbrev pub IsPlace : Pixel → Type 0
+IsPlace place = IsNear 32 place.x × IsNear 32 place.y
+
+-- as far from the view's left top as 17 origins can be
+abbrev pub IsBase : Pixel → Type 0
+IsBase base = IsNear 17 base.x × IsNear 17 base.y
