@@ -1,0 +1,60 @@
+-- A pane whose update has begun, and the window for which it stands.
+use Rattle.std.proofs.Common.{◌≡◌, ℕ, ℤ, ◌+ℤ◌, Bool, true, ◌&&◌, cond, List, Option, Some, inl, inr, sym, ap, subst, ◌∙◌}
+use Rattle.std.specs.Option.{option_map}
+use Rattle.be_geom.specs.declared.point.Point.{Point}
+use Rattle.be_geom.specs.declared.rect.Rect.{Rect}
+use Rattle.be_geom.specs.Places.{less}
+use Rattle.std.specs.Prelude.{map}
+use Rattle.be_region.specs.Regions.{region_has}
+use Rattle.be_span.specs.declared.Cell.{Cell}
+use Rattle.be_span.specs.Cells.{unmarked}
+use Rattle.be_span.specs.Spans.{cell_in, is_dirty}
+use Rattle.be_span.proofs.CellLemmas.{cell_none}
+use Rattle.be_span.proofs.GridLemmas.{either}
+use Rattle.be_views.specs.Trees.{Tree}
+use Rattle.be_pane.specs.Panes as machine
+use Rattle.be_pane.specs.declared.pane.Pane.{Pane}
+use Rattle.be_pane.specs.StandsFor.{PaneStandsFor, SameSession}
+use Rattle.be_update.specs.Sessions.{session_of, with_session}
+use Rattle.be_update.specs.Listing.{listed_views}
+use Rattle.be_update.specs.Surveys.{Surveyed, IsSurveyOf, HasBegun}
+use Rattle.be_update.specs.Laws.{AreDirty, BegunAsTheMachine, cleaned}
+use Rattle.be_update.proofs.PixelLemmas.{has_pixel, moved_has}
+
+dirty_there : (pane : Pane) (w : ℕ) (corner : Point) (kept : machine.Pane) (tree : Tree) (owned : ℤ → ℤ → Bool) (cells : ℤ → ℤ → Cell) → PaneStandsFor pane w corner kept tree owned cells → (x y : ℤ) → is_dirty (cell_in pane.spans x y) ≡ (owned x y && (cells x y).dirty)
+dirty_there pane w corner kept tree owned cells stands x y =
+    elim (either (owned x y)) [
+      | inl h ↦ ap is_dirty (stands.shown x y h) ∙ sym (ap (λ v. v && (cells x y).dirty) h)
+      | inr h ↦ ap is_dirty (cell_none pane.spans x y (stands.pixels x y ∙ h)) ∙ sym (ap (λ v. v && (cells x y).dirty) h)
+    ]
+
+session_same : (s : Surveyed) (pane : Pane) (w : ℕ) (corner : Point) (kept : machine.Pane) (tree : Tree) (owned : ℤ → ℤ → Bool) (cells : ℤ → ℤ → Cell) (dirty : List Point) → IsSurveyOf s pane → PaneStandsFor pane w corner kept tree owned cells → AreDirty owned cells dirty → (x y : ℤ) → region_has s.session x y ≡ has_pixel (session_of corner dirty) x y
+session_same s pane w corner kept tree owned cells dirty survey stands are x y =
+    survey.session x y
+    ∙ dirty_there pane w corner kept tree owned cells stands (x +ℤ pane.place.x) (y +ℤ pane.place.y)
+    ∙ sym (are (x +ℤ pane.place.x) (y +ℤ pane.place.y))
+    ∙ sym (moved_has dirty pane.place x y)
+    ∙ ap (λ (c : Point). has_pixel (map (λ p. less p c) dirty) x y) stands.place
+
+cleaned_there : (owned : ℤ → ℤ → Bool) (cells : ℤ → ℤ → Cell) (x y : ℤ) → owned x y ≡ true → cleaned owned cells x y ≡ unmarked (cells x y)
+cleaned_there owned cells x y h = ap (λ v. cond v (unmarked (cells x y)) (cells x y)) h
+
+begun_stands : (s : Surveyed) (old new : Pane) (w : ℕ) (corner : Point) (kept : machine.Pane) (tree : Tree) (owned : ℤ → ℤ → Bool) (cells : ℤ → ℤ → Cell) (dirty : List Point) → IsSurveyOf s old → HasBegun s old new → PaneStandsFor old w corner kept tree owned cells → AreDirty owned cells dirty → PaneStandsFor new w corner (with_session (session_of corner dirty) kept) tree owned (cleaned owned cells)
+begun_stands s old new w corner kept tree owned cells dirty survey begun stands are = record {
+  number = begun.window ∙ stands.number;
+  place = begun.place ∙ stands.place;
+  pixels = λ x y. ap (λ rs. region_has rs x y) begun.region ∙ stands.pixels x y;
+  shown = λ x y h. begun.cells x y ∙ ap (option_map unmarked) (stands.shown x y h) ∙ ap (λ (c : Cell). Some c) (sym (cleaned_there owned cells x y h));
+  views = begun.tree ∙ stands.views;
+  colors = begun.colors ∙ stands.colors;
+  stacks = begun.states ∙ stands.stacks;
+  session = subst (λ (r : Option (List Rect)). SameSession r (Some (session_of corner dirty))) (sym begun.session) (session_same s old w corner kept tree owned cells dirty survey stands are);
+  notice = begun.notice;
+}
+
+pub begun_as_the_machine : BegunAsTheMachine
+begun_as_the_machine s old new w corner kept tree owned cells dirty survey begun stands are = (
+  begun_stands s old new w corner kept tree owned cells dirty survey begun stands are,
+  survey.views (session_of corner dirty) (session_same s old w corner kept tree owned cells dirty survey stands are)
+      ∙ ap (λ t. listed_views t (session_of corner dirty)) stands.views,
+)
