@@ -1,6 +1,6 @@
 -- What a drawing makes of the cells along a row.
 use Rattle.std.specs.Prelude.{if◌then◌else◌}
-use Rattle.std.proofs.Common.{◌≡◌, ℕ, ℤ, pos, ◌+ℤ◌, ◌-ℤ◌, ◌≤ℤ◌, true, false, ◌&&◌, List, Option, Some, None, refl, sym, ap, ◌∙◌, arith}
+use Rattle.std.proofs.Common.{◌≡◌, ◌⊎◌, inl, inr, ◌<ℤ◌, ℕ, ℤ, pos, ◌+ℤ◌, ◌-ℤ◌, ◌≤ℤ◌, true, false, ◌&&◌, List, Option, Some, None, refl, sym, ap, ◌∙◌, arith}
 use Rattle.std.proofs.Math.Bool.{and-false}
 use Rattle.std.proofs.lemmas.Int.{ints}
 use Rattle.be_geom.specs.Places.{at_pixel}
@@ -13,7 +13,7 @@ use Rattle.be_state.specs.declared.State.{State}
 use Rattle.be_paint.specs.Inks.{source_at, laid_on_cell}
 use Rattle.be_paint.specs.Seen.{is_free}
 use Rattle.be_paint.specs.Stretches.{IsStretch}
-use Rattle.be_paint.specs.Laying.{ink_of, color_in, source_in, drawn_cell, run_cell, IsInkRun, IsDrawnBy, IsRunOf}
+use Rattle.be_paint.specs.Laying.{HasNoneOutside, ink_of, color_in, source_in, drawn_cell, run_cell, IsInkRun, IsDrawnBy, IsRunOf}
 use Rattle.be_paint.specs.declared.drawing.Drawing.{Drawing}
 use Rattle.be_paint.specs.declared.pixel.Pixel.{Pixel}
 
@@ -84,3 +84,15 @@ run_drawn rects d x y end mid last r source owned run yes_free short ahead to_mi
           ∙ ap (laid_on_cell s c) (drawn k to)
           ∙ laid_by s source k c;
     }
+
+moved_rows : (first last top at y place : ℤ) → top ≡ place → at ≡ y -ℤ place → (y <ℤ (first +ℤ top)) ⊎ ((last +ℤ top) <ℤ y) → (at <ℤ first) ⊎ (last <ℤ at)
+moved_rows first last top at y place e f (inl above) = inl (omega (arith, ints))
+moved_rows first last top at y place e f (inr below) = inr (omega (arith, ints))
+
+-- outside the rows of the ink, moved to the screen, it lays nothing
+pub nothing_outside : (d : Drawing) (x y first last top : ℤ) → HasNoneOutside (ink_of d.ink.now) d.reach.now.states.now.top.state first last → top ≡ d.reach.now.window.y +ℤ d.view.y +ℤ d.base.y → (y <ℤ (first +ℤ top)) ⊎ ((last +ℤ top) <ℤ y) → source_in d x y ≡ None
+nothing_outside d x y first last top h e out =
+    let left : ℤ = x -ℤ d.reach.now.window.x in
+    let down : ℤ = y -ℤ d.reach.now.window.y in
+    let at : ℤ = down -ℤ d.view.y -ℤ d.base.y in
+    h left down (left -ℤ d.view.x -ℤ d.base.x) at (moved_rows first last top at y (d.reach.now.window.y +ℤ d.view.y +ℤ d.base.y) e (omega (arith, ints)) out)

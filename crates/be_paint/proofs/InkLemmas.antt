@@ -1,6 +1,6 @@
 -- What an ink lays along a row.
-use Rattle.std.specs.Prelude.{slice_index, slice_get, nat_lt, ◌+◌, ◌*◌, ◌&&◌, if◌then◌else◌}
-use Rattle.std.proofs.Common.{◌≡◌, ℕ, ℤ, pos, negsuc, List, ◌-ℤ◌, ◌+ℤ◌, ◌≤ℤ◌, ◌<ℤ◌, true, false, Option, Some, None, refl, sym, ap, ◌∙◌, arith}
+use Rattle.std.specs.Prelude.{IsNone, IfSome, MatchOption, ◌↔◌, slice_index, slice_get, nat_lt, ◌+◌, ◌*◌, ◌&&◌, if◌then◌else◌}
+use Rattle.std.proofs.Common.{◌≡◌, ℕ, ℤ, pos, negsuc, List, ◌-ℤ◌, ◌+ℤ◌, ◌≤ℤ◌, ◌<ℤ◌, true, false, Bool, Option, Some, None, ◌⊎◌, inl, inr, refl, sym, ap, ◌∙◌, arith}
 use Rattle.std.proofs.lemmas.Int.{ints}
 use Rattle.std.proofs.lemmas.Bool.{le-ltb}
 use Rattle.be_geom.specs.declared.point.Point.{Point}
@@ -11,15 +11,16 @@ use Rattle.be_color.specs.Pattern.{place_in_pattern, pattern_bit}
 use Rattle.be_color.specs.Pixel.{picked}
 use Rattle.be_shape.specs.declared.Raster.{Raster}
 use Rattle.be_shape.specs.Rasters.{raster_has}
-use Rattle.be_shape.specs.Runs.{HasNoneFrom, IsNextRun}
+use Rattle.be_shape.specs.Runs.{HasNoneFrom, IsNextRun, HasNoPixel, AreRows}
 use Rattle.be_span.specs.declared.brush.Source.{Source}
 use Rattle.be_span.specs.declared.brush.Source.TheVariants.{Bits, One}
 use Rattle.be_span.specs.Slices as slices
 use Rattle.be_state.specs.declared.State.{State}
 use Rattle.be_paint.specs.Inks.{shape, text, image, text_has, source_at}
-use Rattle.be_paint.specs.Laying.{IsInkRun, brush_of, color_in}
+use Rattle.be_paint.specs.Laying.{IsInkRun, HasNoSource, HasNoneOutside, brush_of, color_in}
 use Rattle.be_paint.specs.Stretches.{IsAhead}
 use Rattle.be_paint.specs.declared.pixel.Pixel.{Pixel}
+use Rattle.be_paint.proofs.GlyphLemmas.{row_above, row_below, text_none}
 
 -- ---- shapes
 
@@ -112,3 +113,54 @@ image_one b corner s local p source e = record {
       let same : p.x +ℤ pos k ≡ p.x = omega (arith, ints) in
       ap (λ z. bitmap_pixel b (z -ℤ corner.x) (p.y -ℤ corner.y)) same ∙ e ∙ ap (color_in s source) none;
 }
+
+-- ---- rows
+
+not_true : (b : Bool) → (b ≡ true → ⊥) → b ≡ false
+not_true true h = absurd (h refl)
+not_true false h = refl
+
+out_of_rows : (raster : Raster) (first last x y : ℤ) → AreRows raster first last → (y <ℤ first) ⊎ (last <ℤ y) → raster_has raster x y ≡ false
+out_of_rows raster first last x y rows (inl above) = not_true (raster_has raster x y) (λ e. let low = (rows.within x y e).0 in omega (arith, ints))
+out_of_rows raster first last x y rows (inr below) = not_true (raster_has raster x y) (λ e. let high = (rows.within x y e).1 in omega (arith, ints))
+
+pub shape_nowhere : (raster : Raster) (pattern : Pattern) (s : State) → HasNoPixel raster → HasNoSource (shape raster pattern) s
+shape_nowhere raster pattern s none u v x y = shape_off raster pattern s u v x y (none x y)
+
+pub shape_outside : (raster : Raster) (pattern : Pattern) (s : State) (first last : ℤ) → AreRows raster first last → HasNoneOutside (shape raster pattern) s first last
+shape_outside raster pattern s first last rows u v x y out = shape_off raster pattern s u v x y (out_of_rows raster first last x y rows out)
+
+text_out : (codes : List ℕ) (pen_x pen_y first last x y : ℤ) → first ≡ pen_y -ℤ pos 6 → last ≡ pen_y → (y <ℤ first) ⊎ (last <ℤ y) → text_has codes pen_x pen_y x y ≡ false
+text_out codes pen_x pen_y first last x y f l (inl above) = text_none codes pen_x pen_y x y (row_above (y -ℤ pen_y +ℤ pos 6) (omega (arith, ints)))
+text_out codes pen_x pen_y first last x y f l (inr below) = text_none codes pen_x pen_y x y (row_below (y -ℤ pen_y +ℤ pos 6) (omega (arith, ints)))
+
+pub text_outside : (codes : List ℕ) (s : State) (first last : ℤ) → first ≡ s.pen.y -ℤ pos 6 → last ≡ s.pen.y → HasNoneOutside (text codes) s first last
+unfolding source_at
+text_outside codes s first last f l u v x y out = ap (λ b. if b then Some s.high else None) (text_out codes s.pen.x s.pen.y first last x y f l out)
+
+above_of : (b : Picture) (z y : ℤ) → y <ℤ pos 0 → bitmap_pixel b z y ≡ None
+unfolding bitmap_pixel
+above_of b z (pos n) h = absurd (omega (arith, ints))
+above_of b (pos m) (negsuc n) h = refl
+above_of b (negsuc m) (negsuc n) h = refl
+
+never_both : (a b : Bool) → b ≡ false → (a && b) ≡ false
+never_both true b e = e
+never_both false b e = refl
+
+below_of : (b : Picture) (z y : ℤ) → pos b.height ≤ℤ y → bitmap_pixel b z y ≡ None
+unfolding bitmap_pixel
+below_of b z (negsuc n) h = absurd (omega (arith, ints))
+below_of b (negsuc n) (pos m) h = refl
+below_of b (pos n) (pos m) h =
+    let e : nat_lt m b.height ≡ false = le-ltb m b.height (omega (arith, ints)) in
+    ap (λ t. if t then slice_get b.colors (m * b.width + n) else None) (never_both (nat_lt n b.width) (nat_lt m b.height) e)
+
+pub image_outside : (b : Picture) (corner : Point) (s : State) (first last : ℤ) → first ≡ corner.y → last ≡ corner.y +ℤ pos b.height -ℤ pos 1 → HasNoneOutside (image b corner) s first last
+unfolding source_at
+image_outside b corner s first last f l u v x y (inl above) = above_of b (x -ℤ corner.x) (y -ℤ corner.y) (omega (arith, ints))
+image_outside b corner s first last f l u v x y (inr below) = below_of b (x -ℤ corner.x) (y -ℤ corner.y) (omega (arith, ints))
+
+pub shape_rows_of : (raster : Raster) (pattern : Pattern) (s : State) (o : Option (ℤ × ℤ)) → (IsNone o ↔ HasNoPixel raster) → IfSome o (λ rows. AreRows raster rows.0 rows.1) → MatchOption o (HasNoSource (shape raster pattern) s) (λ rows. HasNoneOutside (shape raster pattern) s rows.0 rows.1)
+shape_rows_of raster pattern s None none some = shape_nowhere raster pattern s (none.0 refl)
+shape_rows_of raster pattern s (Some rows) none some = shape_outside raster pattern s rows.0 rows.1 some

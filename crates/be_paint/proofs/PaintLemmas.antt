@@ -1,5 +1,5 @@
 -- Cells painted run by run and row by row.
-use Rattle.std.specs.Prelude.{unsigned_abs, option_map}
+use Rattle.std.specs.Prelude.{unsigned_abs, option_map, if◌then◌else◌}
 use Rattle.std.proofs.Common.{◌≡◌, ◌⊎◌, ℕ, ℤ, pos, negsuc, ◌+ℤ◌, ◌-ℤ◌, ◌≤ℤ◌, ◌<ℤ◌, Bool, true, false, ◌&&◌, List, Option, Some, None, inl, inr, refl, sym, ap, subst, ◌∙◌, arith}
 use Rattle.std.proofs.lemmas.Int.{ints, by_lt_z}
 use Rattle.be_geom.specs.declared.rect.Rect.{Rect}
@@ -12,7 +12,9 @@ use Rattle.be_span.specs.declared.brush.Source.{Source}
 use Rattle.be_span.specs.Runs.{IsBeside}
 use Rattle.be_span.specs.Spans.{Spans, cell_in}
 use Rattle.be_state.specs.declared.State.{State}
-use Rattle.be_paint.specs.Laying.{drawn_cell, run_cell, IsRunOf}
+use Rattle.be_paint.specs.Laying.{drawn_cell, run_cell, source_in, IsRunOf}
+use Rattle.be_paint.specs.Inks.{laid_on_cell}
+use Rattle.be_paint.specs.Seen.{is_free}
 use Rattle.be_paint.specs.declared.drawing.Drawing.{Drawing}
 use Rattle.be_paint.proofs.DrawingLemmas.{not_owned}
 
@@ -70,6 +72,16 @@ rest_next left y last z w (inr (inr behind)) = inr (inr (omega (arith, ints)))
 -- a pixel that no window of the region has stays
 pub stays_outside : (rects : List Rect) (d : Drawing) (x y : ℤ) (o : Option Cell) → region_has rects x y ≡ false → o ≡ option_map (drawn_cell rects d x y) o
 stays_outside rects d x y o e = kept_map (drawn_cell rects d x y) (λ c. not_owned rects d x y c e) o
+
+same_both : (b : Bool) (c : Cell) → (if b then c else c) ≡ c
+same_both true c = refl
+same_both false c = refl
+
+-- a pixel on which the ink lays nothing stays
+pub stays_bare : (rects : List Rect) (d : Drawing) (x y : ℤ) (o : Option Cell) → source_in d x y ≡ None → o ≡ option_map (drawn_cell rects d x y) o
+stays_bare rects d x y o e =
+    let b = region_has rects x y && is_free d.reach.now d.view x y in
+    kept_map (drawn_cell rects d x y) (λ c. ap (λ s. if b then laid_on_cell d.reach.now.states.now.top.state c s else c) e ∙ same_both b c) o
 
 outside_edges : (b : Bool) → (b ≡ true → ⊥) → b ≡ false
 outside_edges true h = absurd (h refl)

@@ -1,5 +1,5 @@
 -- What a run of an ink is, and what it makes of the cells of a row (this project's own).
-use Rattle.std.specs.Prelude.{◌≡◌, ℕ, ℤ, pos, ◌+ℤ◌, ◌-ℤ◌, ◌≤ℤ◌, false, ◌&&◌, List, Option, Some, None, option_map, if◌then◌else◌}
+use Rattle.std.specs.Prelude.{◌≡◌, ℕ, ℤ, pos, ◌+ℤ◌, ◌-ℤ◌, ◌≤ℤ◌, ◌<ℤ◌, ◌⊎◌, false, ◌&&◌, List, Option, Some, None, option_map, if◌then◌else◌}
 use Rattle.be_geom.specs.Places.{at_pixel}
 use Rattle.be_geom.specs.declared.rect.Rect.{Rect}
 use Rattle.be_color.specs.declared.colors.Color.{Color}
@@ -42,6 +42,18 @@ color_in s source k = option_map (λ some. slices.source_at (brush_of s) some k)
 pub record IsInkRun (ink : inks.Ink) (s : State) (local p : Pixel) (source : Option Source) (last : ℤ) : Type 0 where
   pub forward : p.x ≤ℤ last
   pub each : (k : ℕ) → (p.x +ℤ pos k) ≤ℤ last → source_at ink s (at_pixel (local.x +ℤ pos k) local.y) (at_pixel (p.x +ℤ pos k) p.y) ≡ color_in s source k
+
+-- ---- rows of an ink
+
+-- it lays nothing on any pixel
+abbrev pub HasNoSource : inks.Ink → State → Type 0
+HasNoSource ink s = (u v x y : ℤ) → source_at ink s (at_pixel u v) (at_pixel x y) ≡ None
+
+-- it lays nothing outside these rows of drawing
+abbrev pub HasNoneOutside : inks.Ink → State → ℤ → ℤ → Type 0
+HasNoneOutside ink s first last = (u v x y : ℤ) → (y <ℤ first) ⊎ (last <ℤ y) → source_at ink s (at_pixel u v) (at_pixel x y) ≡ None
+
+-- ---- a drawing on the screen
 
 -- what the ink of a drawing lays on a pixel of the screen
 abbrev pub source_in : Drawing → ℤ → ℤ → Option Color

@@ -1,7 +1,7 @@
-ghost use Rattle.std.specs.Prelude.{◌≡◌, ℕ, ℤ, pos, negsuc, ◌+ℤ◌, ◌-ℤ◌, ◌≤ℤ◌, true, IsSome};
+ghost use Rattle.std.specs.Prelude.{◌≡◌, ℕ, ℤ, pos, negsuc, ◌+ℤ◌, ◌-ℤ◌, ◌≤ℤ◌, ◌<ℤ◌, ◌⊎◌, true, None, IsSome, MatchOption};
 ghost use Rattle.be_region.specs.Regions.{region_has};
 ghost use Rattle.be_views.specs.Places.{IsNear};
-ghost use Rattle.be_paint.specs.Laying.{IsRunOf, IsDrawnBy};
+ghost use Rattle.be_paint.specs.Laying.{IsRunOf, IsDrawnBy, source_in};
 ghost use Rattle.be_paint.specs.Seen.{IsPlace, IsBase};
 ghost use Rattle.be_paint.specs.Stretches.{IsCoordinate};
 
@@ -104,5 +104,27 @@ impl Drawing<'_> {
         ensures near { IsNear 60 result }
     {
         i32::from(self.reach.window.x) + self.view.x + self.base.x
+    }
+
+    /// The first and the last row of the screen outside of which the ink is nowhere. None where it is nowhere at all.
+    pub(crate) fn rows(&self) -> Option<(i32, i32)>
+        requires view { IsPlace self.now.view }
+        requires base { IsBase self.now.base }
+        ensures { (x y : ℤ) → MatchOption result (source_in self.now x y ≡ None)
+            (λ rows. (y <ℤ rows.0) ⊎ (rows.1 <ℤ y) → source_in self.now x y ≡ None) }
+    {
+        let (first, last) = self.ink.rows(self.reach.states.top())?;
+        let top = self.first_row();
+        Some((first + top, last + top))
+    }
+
+    /// The row of the screen from which drawing counts.
+    fn first_row(&self) -> i32
+        requires view { IsPlace self.now.view }
+        requires base { IsBase self.now.base }
+        ensures row { result ≡ self.now.reach.now.window.y +ℤ self.now.view.y +ℤ self.now.base.y }
+        ensures near { IsNear 60 result }
+    {
+        i32::from(self.reach.window.y) + self.view.y + self.base.y
     }
 }

@@ -1,9 +1,10 @@
-ghost use Rattle.std.specs.Prelude.{◌≡◌, slice_index};
+ghost use Rattle.std.specs.Prelude.{◌≡◌, pos, ◌+ℤ◌, ◌-ℤ◌, slice_index, MatchOption, IfSome};
 ghost use Rattle.be_color.specs.Pattern.{place_in_pattern};
 ghost use Rattle.be_views.specs.Places.{IsNear};
 ghost use Rattle.be_paint.specs.Inks.{shape, text, image};
 ghost use Rattle.be_state.specs.declared.State as states;
-ghost use Rattle.be_paint.specs.Laying.{IsInkRun, ink_of};
+ghost use Rattle.be_color.specs.declared.patterns.Pattern as patterns;
+ghost use Rattle.be_paint.specs.Laying.{IsInkRun, HasNoSource, HasNoneOutside, ink_of};
 
 use crate::glyphs::covered;
 use crate::pixel::Pixel;
@@ -16,6 +17,9 @@ use be_state::State;
 
 /// Where no column follows.
 const LAST_COLUMN: i32 = 2147483647;
+
+/// The rows of a glyph above the pen's.
+const ASCENT: i32 = 6;
 
 /// What a drawing command lays on the pixels. Each pixel is painted once.
 #[derive(Clone, Copy)]
@@ -40,6 +44,19 @@ impl Ink<'_> {
             Ink::Shape(raster, pattern) => shape_run(raster, *pattern, local, at),
             Ink::Text(codes) => text_run(codes, state, local, at),
             Ink::Image(bitmap, corner) => image_run(bitmap, *corner, local, at),
+        }
+    }
+
+    /// The first and the last row of drawing outside of which the ink is nowhere. None where it is nowhere at all.
+    pub(crate) fn rows(&self, state: &State) -> Option<(i32, i32)>
+        ensures rows { MatchOption result (HasNoSource (ink_of self.now) state.now)
+            (λ rows. HasNoneOutside (ink_of self.now) state.now rows.0 rows.1) }
+        ensures near { IfSome result (λ rows. IsNear 60 rows.0 × IsNear 60 rows.1) }
+    {
+        match self {
+            Ink::Shape(raster, _) => shape_rows(raster),
+            Ink::Text(_) => Some(text_rows(state.pen)),
+            Ink::Image(bitmap, corner) => Some(image_rows(bitmap, *corner)),
         }
     }
 }
@@ -105,4 +122,33 @@ fn image_run(bitmap: &Bitmap, corner: Point, local: Pixel, at: Pixel) -> (Option
         Some(color) => (Some(Source::One(color)), at.x),
         None => (None, at.x),
     }
+}
+
+/// The rows of a shape. None where it has no pixel.
+fn shape_rows(raster: &Raster) -> Option<(i32, i32)>
+    ensures rows { (pattern : patterns.Pattern) (s : states.State) → MatchOption result
+        (HasNoSource (shape raster.now pattern) s) (λ rows. HasNoneOutside (shape raster.now pattern) s rows.0 rows.1) }
+    ensures near { IfSome result (λ rows. IsNear 60 rows.0 × IsNear 60 rows.1) }
+{
+    raster.rows()
+}
+
+/// The rows of glyphs.
+fn text_rows(pen: Point) -> (i32, i32)
+    ensures first { result.0 ≡ pen.y -ℤ pos 6 }
+    ensures last { result.1 ≡ pen.y }
+    ensures near { IsNear 60 result.0 × IsNear 60 result.1 }
+{
+    let row = i32::from(pen.y);
+    (row - ASCENT, row)
+}
+
+/// The rows of a picture.
+fn image_rows(bitmap: &Bitmap, corner: Point) -> (i32, i32)
+    ensures first { result.0 ≡ corner.y }
+    ensures last { result.1 ≡ corner.y +ℤ pos bitmap.now.height -ℤ pos 1 }
+    ensures near { IsNear 60 result.0 × IsNear 60 result.1 }
+{
+    let first = i32::from(corner.y);
+    (first, first + i32::from(bitmap.height()) - 1)
 }

@@ -56,11 +56,16 @@ fn draw(spans: &mut SpanBuf, drawing: &Drawing<'_>)
     let Some(frame) = spans.region().frame() else {
         return;
     };
+    let Some((first, last)) = drawing.rows() else {
+        return;
+    };
     let left = i32::from(frame.left);
     let right = i32::from(frame.right);
     let bottom = i32::from(frame.bottom);
-    let mut y = i32::from(frame.top);
-    'rows: while y <= bottom {
+    let top = i32::from(frame.top);
+    let end = bottom.min(last);
+    let mut y = top.max(first);
+    'rows: while y <= end {
         draw_row(spans, drawing, y, left, right);
         y += 1;
     }

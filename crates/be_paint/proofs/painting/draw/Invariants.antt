@@ -8,7 +8,6 @@ use Rattle.be_paint.proofs.painting.draw.Given as goal
 abbrev pub invariant-rows : goal.invariant-rows
 invariant-rows l = record {
   from : l.initial.y ≤ℤ l.y;
-  to : l.y ≤ℤ pos 32768;
   region : l.spans.rects ≡ l.fn.spans.rects;
   done : (x z : ℤ) → z <ℤ l.y → cell_in l.spans x z ≡ option_map (drawn_cell l.fn.spans.rects l.fn.drawing x z) (cell_in l.fn.spans x z);
   rest : (x z : ℤ) → l.y ≤ℤ z → cell_in l.spans x z ≡ cell_in l.fn.spans x z;
