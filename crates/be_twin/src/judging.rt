@@ -1,0 +1,116 @@
+ghost use Rattle.std.specs.Prelude.{◌≡◌, ◌<◌, ◌≤◌, ℕ, ℤ, Bool, List, length, slice_get, nat_lt, option_map, if◌then◌else◌};
+ghost use Rattle.be_geom.specs.declared.point.Point as places;
+ghost use Rattle.be_span.specs.declared.Cell.{Cell};
+ghost use Rattle.be_command.specs.Effects.{effect_of};
+ghost use Rattle.be_pane.specs.Panes as machine;
+ghost use Rattle.be_pane.specs.StandsFor.{PaneStandsFor, IsWhole};
+ghost use Rattle.be_state.specs.Stacks.{can_push, popped};
+ghost use Rattle.be_views.specs.Trees.{Tree};
+ghost use Rattle.be_twin.specs.Deeds.{popped_outcome};
+ghost use Rattle.be_twin.specs.Judged.{AreThere, ComesOf, IsNoChange, by_states};
+
+use crate::Outcome;
+use be_bitmap::Bitmap;
+use be_command::Command;
+use be_pane::Pane;
+use be_state::StateStack;
+
+/// What comes of a command that is no change of its window. It takes a constant number of steps, and
+/// no memory.
+pub fn judge(pane: &Pane, command: &Command, bitmaps: &[Bitmap]) -> Outcome
+    requires whole { IsWhole pane.now }
+    requires no_change { IsNoChange (effect_of command.now) }
+    ensures { (w : ℕ) (corner : places.Point) (kept : machine.Pane) (tree : Tree)
+        (owned : ℤ → ℤ → Bool) (cells : ℤ → ℤ → Cell) →
+        PaneStandsFor pane.now w corner kept tree owned cells →
+        ComesOf bitmaps.now corner tree kept (effect_of command.now) result }
+{
+    match command {
+        Command::Fill(view, _, _) => plain(pane, *view),
+        Command::Frame(view, _, _) => plain(pane, *view),
+        Command::Line(view, _, _, _) => plain(pane, *view),
+        Command::Text(view, _) => plain(pane, *view),
+        Command::Bitmap(view, bitmap, _) => pictured(pane, *view, *bitmap, bitmaps),
+        Command::High(view, _) => plain(pane, *view),
+        Command::Low(view, _) => plain(pane, *view),
+        Command::ViewColor(view, _) => plain(pane, *view),
+        Command::Mode(view, _) => plain(pane, *view),
+        Command::PenSize(view, _) => plain(pane, *view),
+        Command::Pen(view, _) => plain(pane, *view),
+        Command::Origin(view, _) => plain(pane, *view),
+        Command::Clip(view, _) => plain(pane, *view),
+        Command::Push(view) => saving(pane, *view),
+        Command::Pop(view) => restoring(pane, *view),
+        Command::CopyBits(view, _, _) => plain(pane, *view),
+        Command::Invalidate(view, _) => plain(pane, *view),
+        Command::Change(_) => unreachable!(),
+        Command::EndUpdate => Outcome::Done,
+    }
+}
+
+/// How a view draws. None where there is no such view.
+fn states_of(pane: &Pane, view: u16) -> Option<&StateStack>
+    requires { IsWhole pane.now }
+    ensures states { option_map (λ states. states.now) result ≡ slice_get pane.now.states.items view }
+    ensures there { AreThere pane.now }
+{
+    if usize::from(view) < pane.tree.len() {
+        pane.states.get(usize::from(view))
+    } else {
+        None
+    }
+}
+
+/// What comes of what can't be refused at a view.
+fn plain(pane: &Pane, view: u16) -> Outcome
+    requires { IsWhole pane.now }
+    ensures outcome { result ≡ by_states (slice_get pane.now.states.items view) (λ _. Outcome.Done) }
+    ensures there { AreThere pane.now }
+{
+    match states_of(pane, view) {
+        Some(_) => Outcome::Done,
+        None => Outcome::NoView,
+    }
+}
+
+/// The same of the drawing of a bitmap.
+fn pictured(pane: &Pane, view: u16, bitmap: u16, bitmaps: &[Bitmap]) -> Outcome
+    requires { IsWhole pane.now }
+    ensures outcome { result ≡ by_states (slice_get pane.now.states.items view)
+        (λ _. if nat_lt bitmap (length bitmaps.now) then Outcome.Done else Outcome.NoBitmap) }
+    ensures there { AreThere pane.now }
+{
+    match states_of(pane, view) {
+        Some(_) if usize::from(bitmap) < bitmaps.len() => Outcome::Done,
+        Some(_) => Outcome::NoBitmap,
+        None => Outcome::NoView,
+    }
+}
+
+/// The same of the saving of its drawing state.
+fn saving(pane: &Pane, view: u16) -> Outcome
+    requires { IsWhole pane.now }
+    ensures outcome { result ≡ by_states (slice_get pane.now.states.items view)
+        (λ stack. if can_push stack then Outcome.Done else Outcome.StackFull) }
+    ensures there { AreThere pane.now }
+{
+    match states_of(pane, view) {
+        Some(states) if states.saved() < 16 => Outcome::Done,
+        Some(_) => Outcome::StackFull,
+        None => Outcome::NoView,
+    }
+}
+
+/// The same of the taking back of the state that was saved last.
+fn restoring(pane: &Pane, view: u16) -> Outcome
+    requires { IsWhole pane.now }
+    ensures outcome { result ≡ by_states (slice_get pane.now.states.items view)
+        (λ stack. popped_outcome (popped stack)) }
+    ensures there { AreThere pane.now }
+{
+    match states_of(pane, view) {
+        Some(states) if states.saved() > 0 => Outcome::Done,
+        Some(_) => Outcome::StackEmpty,
+        None => Outcome::NoView,
+    }
+}
