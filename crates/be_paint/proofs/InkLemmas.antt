@@ -1,11 +1,12 @@
 -- What an ink lays along a row.
 use Rattle.std.specs.Prelude.{IsNone, IfSome, MatchOption, ◌↔◌, slice_index, slice_get, nat_lt, ◌+◌, ◌*◌, ◌&&◌, if◌then◌else◌}
-use Rattle.std.proofs.Common.{◌≡◌, ℕ, ℤ, pos, negsuc, List, ◌-ℤ◌, ◌+ℤ◌, ◌≤ℤ◌, ◌<ℤ◌, true, false, Bool, Option, Some, None, ◌⊎◌, inl, inr, refl, sym, ap, ◌∙◌, arith}
+use Rattle.std.proofs.Common.{◌≡◌, ℕ, ℤ, pos, negsuc, List, ◌-ℤ◌, ◌+ℤ◌, ◌≤ℤ◌, ◌<ℤ◌, true, false, Bool, Option, Some, None, ◌⊎◌, inl, inr, refl, sym, ap, ap₂, ◌∙◌, arith}
 use Rattle.std.proofs.lemmas.Int.{ints}
 use Rattle.std.proofs.lemmas.Bool.{le-ltb}
 use Rattle.be_geom.specs.declared.point.Point.{Point}
 use Rattle.be_geom.specs.Places.{at_pixel}
 use Rattle.be_bitmap.specs.Pictures.{Picture, bitmap_pixel}
+use Rattle.be_color.specs.declared.colors.Color.{Color}
 use Rattle.be_color.specs.declared.patterns.Pattern.{Pattern}
 use Rattle.be_color.specs.Pattern.{place_in_pattern, pattern_bit}
 use Rattle.be_color.specs.Pixel.{picked}
@@ -17,7 +18,7 @@ use Rattle.be_span.specs.declared.brush.Source.TheVariants.{Bits, One}
 use Rattle.be_span.specs.Slices as slices
 use Rattle.be_state.specs.declared.State.{State}
 use Rattle.be_paint.specs.Inks.{shape, text, image, text_has, source_at}
-use Rattle.be_paint.specs.Laying.{IsInkRun, HasNoSource, HasNoneOutside, brush_of, color_in}
+use Rattle.be_paint.specs.Laying.{IsInkRun, IsRowRun, HasNoSource, HasNoneOutside, brush_of, color_in}
 use Rattle.be_paint.specs.Stretches.{IsAhead}
 use Rattle.be_paint.specs.declared.pixel.Pixel.{Pixel}
 use Rattle.be_paint.proofs.GlyphLemmas.{row_above, row_below, text_none}
@@ -81,14 +82,6 @@ unfolding bitmap_pixel
 left_of b (pos n) y h = absurd (omega (arith, ints))
 left_of b (negsuc n) y h = refl
 
-right_of : (b : Picture) (z y : ℤ) → pos b.width ≤ℤ z → bitmap_pixel b z y ≡ None
-unfolding bitmap_pixel
-right_of b (negsuc n) y h = absurd (omega (arith, ints))
-right_of b (pos n) (negsuc m) h = refl
-right_of b (pos n) (pos m) h =
-    let e : nat_lt n b.width ≡ false = le-ltb n b.width (omega (arith, ints)) in
-    ap (λ t. if t && nat_lt m b.height then slice_get b.colors (m * b.width + n) else None) e
-
 pub image_left : (b : Picture) (corner : Point) (s : State) (local p : Pixel) (last : ℤ) → p.x ≤ℤ last → last <ℤ corner.x → IsInkRun (image b corner) s local p None last
 unfolding source_at
 image_left b corner s local p last ahead before = record {
@@ -96,22 +89,47 @@ image_left b corner s local p last ahead before = record {
   each = λ k to. left_of b (p.x +ℤ pos k -ℤ corner.x) (p.y -ℤ corner.y) (omega (arith, ints));
 }
 
-pub image_right : (b : Picture) (corner : Point) (s : State) (local p : Pixel) (last : ℤ) → p.x ≤ℤ last → pos b.width ≤ℤ (p.x -ℤ corner.x) → IsInkRun (image b corner) s local p None last
+above_of : (b : Picture) (z y : ℤ) → y <ℤ pos 0 → bitmap_pixel b z y ≡ None
+unfolding bitmap_pixel
+above_of b z (pos n) h = absurd (omega (arith, ints))
+above_of b (pos m) (negsuc n) h = refl
+above_of b (negsuc m) (negsuc n) h = refl
+
+never_both : (a b : Bool) → b ≡ false → (a && b) ≡ false
+never_both true b e = e
+never_both false b e = refl
+
+below_of : (b : Picture) (z y : ℤ) → pos b.height ≤ℤ y → bitmap_pixel b z y ≡ None
+unfolding bitmap_pixel
+below_of b z (negsuc n) h = absurd (omega (arith, ints))
+below_of b (negsuc n) (pos m) h = refl
+below_of b (pos n) (pos m) h =
+    let e : nat_lt m b.height ≡ false = le-ltb m b.height (omega (arith, ints)) in
+    ap (λ t. if t then slice_get b.colors (m * b.width + n) else None) (never_both (nat_lt n b.width) (nat_lt m b.height) e)
+
+pub image_above : (b : Picture) (corner : Point) (s : State) (local p : Pixel) (last : ℤ) → p.x ≤ℤ last → (p.y -ℤ corner.y) <ℤ pos 0 → IsInkRun (image b corner) s local p None last
 unfolding source_at
-image_right b corner s local p last ahead past = record {
+image_above b corner s local p last ahead above = record {
   forward = ahead;
-  each = λ k to. right_of b (p.x +ℤ pos k -ℤ corner.x) (p.y -ℤ corner.y) (omega (arith, ints));
+  each = λ k to. above_of b (p.x +ℤ pos k -ℤ corner.x) (p.y -ℤ corner.y) above;
 }
 
--- one pixel
-pub image_one : (b : Picture) (corner : Point) (s : State) (local p : Pixel) (source : Option Source) → bitmap_pixel b (p.x -ℤ corner.x) (p.y -ℤ corner.y) ≡ color_in s source 0 → IsInkRun (image b corner) s local p source p.x
+pub image_below : (b : Picture) (corner : Point) (s : State) (local p : Pixel) (last : ℤ) → p.x ≤ℤ last → pos b.height ≤ℤ (p.y -ℤ corner.y) → IsInkRun (image b corner) s local p None last
 unfolding source_at
-image_one b corner s local p source e = record {
-  forward = omega (arith, ints);
-  each = λ k to.
-      let none : 0 ≡ k = omega (arith, ints) in
-      let same : p.x +ℤ pos k ≡ p.x = omega (arith, ints) in
-      ap (λ z. bitmap_pixel b (z -ℤ corner.x) (p.y -ℤ corner.y)) same ∙ e ∙ ap (color_in s source) none;
+image_below b corner s local p last ahead below = record {
+  forward = ahead;
+  each = λ k to. below_of b (p.x +ℤ pos k -ℤ corner.x) (p.y -ℤ corner.y) below;
+}
+
+shifted : (x corner : ℤ) (column k : ℕ) → pos column ≡ x -ℤ corner → x +ℤ pos k -ℤ corner ≡ pos (column + k)
+shifted x corner column k e = omega (arith, ints)
+
+-- a row of the picture, from one of its columns on
+pub image_row : (b : Picture) (corner : Point) (s : State) (local p : Pixel) (pixels : List Color) (column row : ℕ) (source : Option Source) (last : ℤ) → ((k : ℕ) → slice_get pixels k ≡ bitmap_pixel b (pos (column + k)) (pos row)) → pos column ≡ p.x -ℤ corner.x → pos row ≡ p.y -ℤ corner.y → IsRowRun pixels p.x source last → IsInkRun (image b corner) s local p source last
+unfolding source_at
+image_row b corner s local p pixels column row source last are e f run = record {
+  forward = run.forward;
+  each = λ k to. ap₂ (bitmap_pixel b) (shifted p.x corner.x column k e) (sym f) ∙ sym (are k) ∙ run.each k s to;
 }
 
 -- ---- rows
@@ -137,24 +155,6 @@ text_out codes pen_x pen_y first last x y f l (inr below) = text_none codes pen_
 pub text_outside : (codes : List ℕ) (s : State) (first last : ℤ) → first ≡ s.pen.y -ℤ pos 6 → last ≡ s.pen.y → HasNoneOutside (text codes) s first last
 unfolding source_at
 text_outside codes s first last f l u v x y out = ap (λ b. if b then Some s.high else None) (text_out codes s.pen.x s.pen.y first last x y f l out)
-
-above_of : (b : Picture) (z y : ℤ) → y <ℤ pos 0 → bitmap_pixel b z y ≡ None
-unfolding bitmap_pixel
-above_of b z (pos n) h = absurd (omega (arith, ints))
-above_of b (pos m) (negsuc n) h = refl
-above_of b (negsuc m) (negsuc n) h = refl
-
-never_both : (a b : Bool) → b ≡ false → (a && b) ≡ false
-never_both true b e = e
-never_both false b e = refl
-
-below_of : (b : Picture) (z y : ℤ) → pos b.height ≤ℤ y → bitmap_pixel b z y ≡ None
-unfolding bitmap_pixel
-below_of b z (negsuc n) h = absurd (omega (arith, ints))
-below_of b (negsuc n) (pos m) h = refl
-below_of b (pos n) (pos m) h =
-    let e : nat_lt m b.height ≡ false = le-ltb m b.height (omega (arith, ints)) in
-    ap (λ t. if t then slice_get b.colors (m * b.width + n) else None) (never_both (nat_lt n b.width) (nat_lt m b.height) e)
 
 pub image_outside : (b : Picture) (corner : Point) (s : State) (first last : ℤ) → first ≡ corner.y → last ≡ corner.y +ℤ pos b.height -ℤ pos 1 → HasNoneOutside (image b corner) s first last
 unfolding source_at

@@ -1,5 +1,5 @@
 -- What a run of an ink is, and what it makes of the cells of a row (this project's own).
-use Rattle.std.specs.Prelude.{◌≡◌, ℕ, ℤ, pos, ◌+ℤ◌, ◌-ℤ◌, ◌≤ℤ◌, ◌<ℤ◌, ◌⊎◌, false, ◌&&◌, List, Option, Some, None, option_map, if◌then◌else◌}
+use Rattle.std.specs.Prelude.{◌≡◌, ℕ, ℤ, pos, ◌+ℤ◌, ◌-ℤ◌, ◌≤ℤ◌, ◌<ℤ◌, ◌⊎◌, false, ◌&&◌, List, Option, Some, None, option_map, slice_get, if◌then◌else◌}
 use Rattle.be_geom.specs.Places.{at_pixel}
 use Rattle.be_geom.specs.declared.rect.Rect.{Rect}
 use Rattle.be_color.specs.declared.colors.Color.{Color}
@@ -85,3 +85,8 @@ pub record IsRunOf (rects : List Rect) (d : Drawing) (x y : ℤ) (source : Optio
   pub forward : x ≤ℤ last
   pub within : last ≤ℤ end
   pub each : (k : ℕ) → (x +ℤ pos k) ≤ℤ last → (c : Cell) → drawn_cell rects d (x +ℤ pos k) y c ≡ run_cell d.reach.now.states.now.top.state source k c
+
+-- from column x on, at which the first of these pixels lies, up to the last column the pixels have these colours
+pub record IsRowRun (pixels : List Color) (x : ℤ) (source : Option Source) (last : ℤ) : Type 0 where
+  pub forward : x ≤ℤ last
+  pub each : (k : ℕ) → (s : State) → (x +ℤ pos k) ≤ℤ last → slice_get pixels k ≡ color_in s source k

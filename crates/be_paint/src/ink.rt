@@ -1,15 +1,15 @@
-ghost use Rattle.std.specs.Prelude.{◌≡◌, pos, ◌+ℤ◌, ◌-ℤ◌, slice_index, MatchOption, IfSome};
+ghost use Rattle.std.specs.Prelude.{◌≡◌, ◌<◌, ◌≤◌, ℕ, Some, pos, ◌+ℤ◌, ◌-ℤ◌, length, slice_get, slice_index, MatchOption, IfSome};
 ghost use Rattle.be_color.specs.Pattern.{place_in_pattern};
 ghost use Rattle.be_views.specs.Places.{IsNear};
 ghost use Rattle.be_paint.specs.Inks.{shape, text, image};
 ghost use Rattle.be_state.specs.declared.State as states;
 ghost use Rattle.be_color.specs.declared.patterns.Pattern as patterns;
-ghost use Rattle.be_paint.specs.Laying.{IsInkRun, HasNoSource, HasNoneOutside, ink_of};
+ghost use Rattle.be_paint.specs.Laying.{IsInkRun, IsRowRun, HasNoSource, HasNoneOutside, ink_of};
 
 use crate::glyphs::covered;
 use crate::pixel::Pixel;
 use be_bitmap::Bitmap;
-use be_color::Pattern;
+use be_color::{Color, Pattern};
 use be_geom::Point;
 use be_shape::Raster;
 use be_span::Source;
@@ -115,13 +115,52 @@ fn image_run(bitmap: &Bitmap, corner: Point, local: Pixel, at: Pixel) -> (Option
     if column < 0 {
         return (None, i32::from(corner.x) - 1);
     }
-    if i32::from(bitmap.width()) <= column {
+    if row < 0 {
         return (None, LAST_COLUMN);
     }
-    match bitmap.pixel(column, row) {
-        Some(color) => (Some(Source::One(color)), at.x),
-        None => (None, at.x),
+    if i32::from(bitmap.height()) <= row {
+        return (None, LAST_COLUMN);
     }
+    row_run(bitmap.row_from(row as usize, column as usize), at.x)
+}
+
+/// With what the pixels of a row of a picture are painted from its first one on, which lies at a column, and up to
+/// which column.
+fn row_run(pixels: &[Color], x: i32) -> (Option<Source>, i32)
+    requires across { IsNear 60 x }
+    requires few { length pixels.now ≤ 65535 }
+    ensures { IsRowRun pixels.now x result.0 result.1 }
+{
+    match pixels.first() {
+        Some(color) => {
+            let count = count_of(pixels, *color);
+            (Some(Source::One(*color)), last_of(x, count))
+        }
+        None => (None, LAST_COLUMN),
+    }
+}
+
+/// The last of so many columns.
+fn last_of(first: i32, count: usize) -> i32
+    requires near { IsNear 60 first }
+    requires some { 0 < count }
+    requires few { count ≤ 65535 }
+    ensures { result ≡ first +ℤ pos count -ℤ pos 1 }
+{
+    first + (count as i32 - 1)
+}
+
+/// How many pixels at the front have a colour.
+fn count_of(pixels: &[Color], color: Color) -> usize
+    ensures within { result ≤ length pixels.now }
+    ensures same { (k : ℕ) → k < result → slice_get pixels.now k ≡ Some color }
+    ensures some { slice_get pixels.now 0 ≡ Some color → 0 < result }
+{
+    let mut count = 0;
+    while count < pixels.len() && pixels[count] == color {
+        count += 1;
+    }
+    count
 }
 
 /// The rows of a shape. None where it has no pixel.
