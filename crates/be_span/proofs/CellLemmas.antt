@@ -12,9 +12,6 @@ use borrow.Rule.Slice.PartMut.{put_mid}
 use Rattle.be_geom.specs.declared.rect.Rect.{Rect}
 use Rattle.be_region.specs.Regions.{region_has}
 use Rattle.be_span.specs.declared.Cell.{Cell}
-use Rattle.be_span.specs.declared.brush.Brush.{Brush}
-use Rattle.be_span.specs.declared.brush.Source.{Source}
-use Rattle.be_span.specs.Slices.{painted, source_at}
 use Rattle.be_span.specs.Spans.{Spans, pixels_of, place_of, cell_in, black_cell}
 use Rattle.be_span.specs.Runs.{IsRunFrom, HasRun, IsBeside}
 use Rattle.be_span.proofs.GridLemmas.{either}
@@ -174,11 +171,11 @@ put_cells rs new row start len x y k run has e less =
     let few = run_long rs start len (length row) x y run has in
     cell_read rs new start len x y k run (omega arith) ∙ e
 
--- a row painted
-pub paint_cells_in : (rs : List Rect) (old new : List Cell) (brush : Brush) (source : Source) (start len n : ℕ) (x y : ℤ) (k : ℕ) → IsRunFrom rs start len x y → HasRun rs x y n → slice_get new (start + k) ≡ option_map (painted brush (source_at brush source k)) (slice_get old (start + k)) → k < n → cell_in (spans rs new) (x +ℤ pos k) y ≡ option_map (painted brush (source_at brush source k)) (cell_in (spans rs old) (x +ℤ pos k) y)
-paint_cells_in rs old new brush source start len n x y k run has e less =
+-- a row of which each cell is changed
+pub mapped_cells_in : (rs : List Rect) (old new : List Cell) (f : Cell → Cell) (start len n : ℕ) (x y : ℤ) (k : ℕ) → IsRunFrom rs start len x y → HasRun rs x y n → slice_get new (start + k) ≡ option_map f (slice_get old (start + k)) → k < n → cell_in (spans rs new) (x +ℤ pos k) y ≡ option_map f (cell_in (spans rs old) (x +ℤ pos k) y)
+mapped_cells_in rs old new f start len n x y k run has e less =
     let few = run_long rs start len n x y run has in
-    cell_read rs new start len x y k run (omega arith) ∙ e ∙ ap (option_map (painted brush (source_at brush source k))) (sym (cell_read rs old start len x y k run (omega arith)))
+    cell_read rs new start len x y k run (omega arith) ∙ e ∙ ap (option_map f) (sym (cell_read rs old start len x y k run (omega arith)))
 
 -- ---- cells that are all the same
 

@@ -5,3 +5,4 @@ pub mod CellLemmas
 pub mod LaidLemmas
 pub mod MarkLemmas
 pub mod GatherLemmas
+pub mod ExposeLemmas

@@ -2,16 +2,17 @@ ghost use Rattle.std.specs.Prelude.{◌≡◌, ◌<◌, ◌↔◌, ℕ, ℤ, pos
 ghost use Rattle.std.specs.Option.{option_map};
 ghost use Rattle.be_region.specs.Regions.{region_has};
 ghost use Rattle.be_region.specs.Bands.{AreBands};
-ghost use Rattle.be_span.specs.Cells.{unmarked};
+ghost use Rattle.be_span.specs.Cells.{unmarked, exposed_cell};
 ghost use Rattle.be_span.specs.Spans.{cell_in, is_dirty, black_cell, pixels_of};
 ghost use Rattle.be_span.specs.Runs.{AreRows, HasRun, IsBeside};
 ghost use Rattle.be_span.specs.Slices.{source_at, painted};
 
 use crate::Cell;
 use crate::brush::{Brush, Source};
+use crate::expose::expose_part;
 use crate::places::{run_from, starts_of};
 use crate::rows::{dirty_among, dirty_of, overwrite, paint_part, unmark_all};
-use be_color::Rgb;
+use be_color::{Color, Rgb};
 use be_geom::NoMemory;
 use be_region::Region;
 use std::alloc::Global;
@@ -212,6 +213,22 @@ impl SpanBuf {
             return;
         };
         paint_part(&mut self.cells, run.start, count, brush, source);
+    }
+
+    /// Exposes the `count` pixels from (x, y) on to the right: each gets the colour, or keeps its own
+    /// where that is transparent, and waits to be drawn.
+    pub fn expose_row(&mut self, x: i32, y: i32, count: usize, color: Color)
+        requires { HasRun self.old.rects x y count }
+        ensures region { self.new.rects ≡ self.old.rects }
+        ensures exposed { (k : ℕ) → k < count → cell_in self.new (x +ℤ pos k) y
+            ≡ option_map (exposed_cell color) (cell_in self.old (x +ℤ pos k) y) }
+        ensures others { (z w : ℤ) → IsBeside x y count z w
+            → cell_in self.new z w ≡ cell_in self.old z w }
+    {
+        let Some(run) = run_from(&self.region, &self.starts, x, y) else {
+            return;
+        };
+        self.dirty = expose_part(&mut self.cells, run.start, count, color, self.dirty);
     }
 }
 

@@ -6,7 +6,7 @@ use Rattle.std.proofs.lemmas.List.{with_items_is}
 use Rattle.be_span.specs.Runs.{HasRun}
 use Rattle.be_span.specs.Slices.{painted, source_at}
 use Rattle.be_span.specs.Spans.{Spans, cell_in}
-use Rattle.be_span.proofs.CellLemmas.{paint_cells_in, cell_stays, run_long}
+use Rattle.be_span.proofs.CellLemmas.{mapped_cells_in, cell_stays, run_long}
 use Rattle.be_span.proofs.buffer.SpanBuf.paint_row.Goals as goal
 
 pub returns-clause-painted : goal.returns-clause-painted
@@ -17,7 +17,7 @@ returns-clause-painted c k less =
     let has = subst (λ (s : Spans). HasRun s.rects c.args.x c.args.y c.args.count) (sym c.self.view_is) c.requires in
     let whole = with_items_is c.self.inside.cells c.paint_part.new.cells (c.paint_part.ensures.len ∙ c.deref_mut.ensures.len) in
     ap (λ l. cell_in record { rects = c.self.inside.region; cells = l } (c.args.x +ℤ pos k) c.args.y) whole
-    ∙ paint_cells_in c.self.inside.region c.self.inside.cells.items c.paint_part.new.cells c.args.brush c.args.source c.in-Some.run'.start c.in-Some.run'.len c.args.count c.args.x c.args.y k run has (c.paint_part.ensures.inside k less ∙ ap (λ l. option_map (painted c.args.brush (source_at c.args.brush c.args.source k)) (slice_get l (c.in-Some.run'.start + k))) c.deref_mut.ensures.value) less
+    ∙ mapped_cells_in c.self.inside.region c.self.inside.cells.items c.paint_part.new.cells (painted c.args.brush (source_at c.args.brush c.args.source k)) c.in-Some.run'.start c.in-Some.run'.len c.args.count c.args.x c.args.y k run has (c.paint_part.ensures.inside k less ∙ ap (λ l. option_map (painted c.args.brush (source_at c.args.brush c.args.source k)) (slice_get l (c.in-Some.run'.start + k))) c.deref_mut.ensures.value) less
     ∙ ap (λ s. option_map (painted c.args.brush (source_at c.args.brush c.args.source k)) (cell_in s (c.args.x +ℤ pos k) c.args.y)) c.self.view_is
 
 pub returns-clause-others : goal.returns-clause-others

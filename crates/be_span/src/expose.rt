@@ -1,0 +1,50 @@
+ghost use Rattle.std.specs.Prelude.{◌≡◌, ◌<◌, ◌≤◌, ◌+◌, ◌⊎◌, ℕ, length, map, slice_get, count_by};
+ghost use Rattle.std.specs.Option.{option_map};
+ghost use Rattle.be_color.specs.declared.colors.Color.TheVariants.{Clear};
+ghost use Rattle.be_span.specs.Cells.{exposed_cell};
+
+use crate::Cell;
+use crate::rows::dirty_of;
+use be_color::Color;
+
+/// Exposes `count` cells from `start` on. How many of all are dirty is told and given back.
+pub(crate) fn expose_part(
+    cells: &mut [Cell],
+    start: usize,
+    count: usize,
+    color: Color,
+    dirty: usize,
+) -> usize
+    requires fits { start + count ≤ length cells.old }
+    requires counted { dirty ≡ count_by (λ c. c.dirty) cells.old }
+    ensures len { length cells.new ≡ length cells.old }
+    ensures inside { (k : ℕ) → k < count → slice_get cells.new (start + k)
+        ≡ option_map (exposed_cell color) (slice_get cells.old (start + k)) }
+    ensures others { (q : ℕ) → (q < start) ⊎ (start + count ≤ q)
+        → slice_get cells.new q ≡ slice_get cells.old q }
+    ensures counted { result ≡ count_by (λ c. c.dirty) cells.new }
+{
+    let end = start + count;
+    let lost = dirty_of(&cells[start..end], dirty);
+    expose_all(&mut cells[start..end], color);
+    dirty - lost + count
+}
+
+/// Gives each cell the colour, or leaves it its own where that is transparent, and a mark.
+fn expose_all(cells: &mut [Cell], color: Color)
+    ensures { cells.new ≡ map (exposed_cell color) cells.old }
+{
+    match color {
+        Color::Solid(rgb) => cells.fill(Cell { rgb, dirty: true }),
+        Color::Clear => mark_all(cells),
+    }
+}
+
+/// Gives each cell a mark.
+fn mark_all(cells: &mut [Cell])
+    ensures { cells.new ≡ map (exposed_cell Clear) cells.old }
+{
+    for cell in cells.iter_mut() {
+        cell.dirty = true;
+    }
+}
