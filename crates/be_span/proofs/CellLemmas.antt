@@ -10,9 +10,10 @@ use Rattle.std.proofs.lemmas.List.Elements.{All-head, All-tail}
 use Rattle.std.proofs.lemmas.Option.{slice_get-get_or}
 use borrow.Rule.Slice.PartMut.{put_mid}
 use Rattle.be_geom.specs.declared.rect.Rect.{Rect}
+use Rattle.be_color.specs.declared.colors.Rgb.{Rgb}
 use Rattle.be_region.specs.Regions.{region_has}
 use Rattle.be_span.specs.declared.Cell.{Cell}
-use Rattle.be_span.specs.Spans.{Spans, pixels_of, place_of, cell_in, black_cell}
+use Rattle.be_span.specs.Spans.{Spans, pixels_of, place_of, cell_in, black_cell, clean_cell}
 use Rattle.be_span.specs.Runs.{IsRunFrom, HasRun, IsBeside}
 use Rattle.be_span.proofs.GridLemmas.{either}
 use Rattle.be_span.proofs.PlaceLemmas.{place_none, place_found, place_has, place_below, place_same}
@@ -197,14 +198,14 @@ cell_all rs cells c x y whole same =
 abbrev mark_of : Cell → ℕ
 mark_of d = cond d.dirty 1 0
 
-black_mark : (d : Cell) → d ≡ black_cell → mark_of d ≡ 0
-black_mark d e = ap mark_of e
+no_mark : (rgb : Rgb) (d : Cell) → d ≡ clean_cell rgb → mark_of d ≡ 0
+no_mark rgb d e = ap mark_of e
 
-pub none_dirty : (cells : List Cell) → All (λ c. c ≡ black_cell) cells → 0 ≡ count_by (λ c. c.dirty) cells
-none_dirty [] h = refl
-none_dirty (c ∷ cells) h =
-    let mark = black_mark c (All-head (λ (d : Cell). d ≡ black_cell) c cells h) in
-    let rest = none_dirty cells (All-tail (λ (d : Cell). d ≡ black_cell) c cells h) in
+pub none_dirty : (rgb : Rgb) (cells : List Cell) → All (λ c. c ≡ clean_cell rgb) cells → 0 ≡ count_by (λ c. c.dirty) cells
+none_dirty rgb [] h = refl
+none_dirty rgb (c ∷ cells) h =
+    let mark = no_mark rgb c (All-head (λ (d : Cell). d ≡ clean_cell rgb) c cells h) in
+    let rest = none_dirty rgb cells (All-tail (λ (d : Cell). d ≡ clean_cell rgb) c cells h) in
     let sum = sum_by-cons mark_of c cells in
     omega arith
 

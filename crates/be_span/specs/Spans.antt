@@ -3,6 +3,7 @@ use Rattle.std.specs.Prelude.{ℕ, ℤ, pos, ◌+◌, ◌*◌, ◌+ℤ◌, ◌-�
 use Rattle.std.specs.Option.{option_map}
 use Rattle.be_geom.specs.declared.rect.Rect.{Rect}
 use Rattle.be_geom.specs.Rects.{rect_has}
+use Rattle.be_color.specs.declared.colors.Rgb.{Rgb}
 use Rattle.be_span.specs.declared.Cell.{Cell}
 
 -- The rectangles of a region, and the cells of its pixels: those of the first rectangle, then of the second and so on,
@@ -39,6 +40,10 @@ place_of (r ∷ rs) x y = if rect_has r x y then Some (place_in r x y) else opti
 -- the cell of a pixel; none outside the region
 unfoldable pub cell_in : Spans → ℤ → ℤ → Option Cell
 cell_in s x y = option_and_then (slice_get s.cells) (place_of s.rects x y)
+
+-- this colour, and nothing waits
+abbrev pub clean_cell : Rgb → Cell
+clean_cell rgb = record { rgb = rgb; dirty = false }
 
 -- black, and nothing waits
 abbrev pub black_cell : Cell

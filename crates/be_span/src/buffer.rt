@@ -3,7 +3,7 @@ ghost use Rattle.std.specs.Option.{option_map};
 ghost use Rattle.be_region.specs.Regions.{region_has};
 ghost use Rattle.be_region.specs.Bands.{AreBands};
 ghost use Rattle.be_span.specs.Cells.{unmarked, exposed_cell};
-ghost use Rattle.be_span.specs.Spans.{cell_in, is_dirty, black_cell, pixels_of};
+ghost use Rattle.be_span.specs.Spans.{cell_in, is_dirty, black_cell, clean_cell, pixels_of};
 ghost use Rattle.be_span.specs.Runs.{AreRows, HasRun, IsBeside};
 ghost use Rattle.be_span.specs.Slices.{source_at, painted};
 
@@ -48,8 +48,18 @@ impl SpanBuf {
             ≡ (if region_has region x y then Some black_cell else None)) }
         ensures clean { IfOk result (λ spans. All (λ c. c ≡ black_cell) spans.cells) }
     {
+        SpanBuf::filled(alloc, region, Rgb::BLACK)
+    }
+
+    /// The pixels of the region, all of this colour and clean.
+    pub fn filled(alloc: Global, region: Region, rgb: Rgb) -> Result<SpanBuf, NoMemory>
+        ensures region { IfOk result (λ spans. spans.rects ≡ region) }
+        ensures filled { IfOk result (λ spans. (x y : ℤ) → cell_in spans x y
+            ≡ (if region_has region x y then Some (clean_cell rgb) else None)) }
+        ensures clean { IfOk result (λ spans. All (λ c. c ≡ clean_cell rgb) spans.cells) }
+    {
         let (starts, count) = starts_of(alloc, &region)?;
-        let cells = black_cells(alloc, count)?;
+        let cells = clean_cells(alloc, count, rgb)?;
         Ok(SpanBuf {
             region,
             starts,
@@ -232,13 +242,10 @@ impl SpanBuf {
     }
 }
 
-fn black_cells(alloc: Global, count: usize) -> Result<Vec<Cell>, NoMemory>
-    ensures black { IfOk result (λ cells. All (λ c. c ≡ black_cell) cells.items) }
+fn clean_cells(alloc: Global, count: usize, rgb: Rgb) -> Result<Vec<Cell>, NoMemory>
+    ensures same { IfOk result (λ cells. All (λ c. c ≡ clean_cell rgb) cells.items) }
     ensures len { IfOk result (λ cells. length cells.items ≡ count) }
 {
-    let black = Cell {
-        rgb: Rgb::BLACK,
-        dirty: false,
-    };
-    Ok(vec![in alloc; black; count]?)
+    let cell = Cell { rgb, dirty: false };
+    Ok(vec![in alloc; cell; count]?)
 }

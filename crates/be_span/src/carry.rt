@@ -25,26 +25,28 @@ impl SpanBuf {
         ensures cells { (x y : ℤ) → cell_in to.new x y
             ≡ laid (cell_in from.old (x -ℤ dx) (y -ℤ dy)) (cell_in to.old x y) }
     {
-        carry_by(from, Pixel { x: dx, y: dy }, to);
+        to.lay(from, dx, dy);
     }
-}
 
-/// The same, and `from` stays.
-fn carry_by(from: &SpanBuf, way: Pixel, to: &mut SpanBuf)
-    ensures region { to.new.rects ≡ to.old.rects }
-    ensures cells { (x y : ℤ) → cell_in to.new x y
-        ≡ laid (cell_in from.now (x -ℤ way.x) (y -ℤ way.y)) (cell_in to.old x y) }
-{
-    let Some(old) = from.region().frame() else {
-        return;
-    };
-    let Some(new) = to.region().frame() else {
-        return;
-    };
-    if is_far(least_way(old, new), way, most_way(old, new)) {
-        return;
+    /// Gives each pixel the cell of the pixel `dx` further left and `dy` further up in `from`,
+    /// where there is one.
+    pub fn lay(&mut self, from: &SpanBuf, dx: i32, dy: i32)
+        ensures region { self.new.rects ≡ self.old.rects }
+        ensures cells { (x y : ℤ) → cell_in self.new x y
+            ≡ laid (cell_in from.now (x -ℤ dx) (y -ℤ dy)) (cell_in self.old x y) }
+    {
+        let Some(old) = from.region().frame() else {
+            return;
+        };
+        let Some(new) = self.region().frame() else {
+            return;
+        };
+        let way = Pixel { x: dx, y: dy };
+        if is_far(least_way(old, new), way, most_way(old, new)) {
+            return;
+        }
+        lay_near(from, way, self);
     }
-    lay(from, way, to);
 }
 
 /// How far left and up a rectangle may go and still meet the other.
@@ -87,8 +89,9 @@ fn is_far(least: Pixel, way: Pixel, most: Pixel) -> bool
     way.y < least.y || most.y < way.y
 }
 
-/// The same, where a pixel of the one region may come to be one of the other.
-fn lay(from: &SpanBuf, way: Pixel, to: &mut SpanBuf)
+/// Gives each pixel of `to` the cell of the pixel so much further left and up in `from`, where
+/// there is one, and a pixel of the one region may come to be one of the other.
+fn lay_near(from: &SpanBuf, way: Pixel, to: &mut SpanBuf)
     requires across { IsNear way.x }
     requires down { IsNear way.y }
     ensures region { to.new.rects ≡ to.old.rects }

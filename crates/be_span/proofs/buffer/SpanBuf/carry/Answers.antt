@@ -6,4 +6,4 @@ pub returns-clause-cells : goal.returns-clause-cells
 returns-clause-cells c =
     let dx = c.ranges.dx in
     let dy = c.ranges.dy in
-    simp to_z-of_z at c.carry_by.ensures.cells
+    simp to_z-of_z at c.lay.ensures.cells

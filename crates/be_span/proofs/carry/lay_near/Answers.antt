@@ -3,7 +3,7 @@ use Rattle.std.proofs.Common.{ap, sym, ◌∙◌, arith, length, ◌-ℤ◌}
 use Rattle.be_region.specs.Regions.{region_has}
 use Rattle.be_span.specs.Spans.{cell_in}
 use Rattle.be_span.proofs.LaidLemmas.{rect_inside, all_more, all_laid}
-use Rattle.be_span.proofs.carry.lay.Goals as goal
+use Rattle.be_span.proofs.carry.lay_near.Goals as goal
 
 pub lay_rect-requires-clause-inside : goal.lay_rect-requires-clause-inside
 lay_rect-requires-clause-inside c x y h =

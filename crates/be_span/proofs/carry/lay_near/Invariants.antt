@@ -1,7 +1,7 @@
 use Rattle.std.proofs.Common.{◌≡◌, ℤ, ◌-ℤ◌, cond, take}
 use Rattle.be_region.specs.Regions.{region_has}
 use Rattle.be_span.specs.Spans.{cell_in, laid}
-use Rattle.be_span.proofs.carry.lay.Given as goal
+use Rattle.be_span.proofs.carry.lay_near.Given as goal
 
 abbrev pub invariant-loop-place : goal.invariant-loop-place
 invariant-loop-place l = record {
