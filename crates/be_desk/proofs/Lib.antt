@@ -1,0 +1,3 @@
+pub mod StretchLemmas
+pub mod RuleLemmas
+pub mod RenewLemmas

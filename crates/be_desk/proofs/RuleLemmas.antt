@@ -1,0 +1,193 @@
+-- Cells changed by a rule, run by run, row by row and rectangle by rectangle.
+use Rattle.std.proofs.Common.{◌≡◌, ℕ, zero, suc, ◌+◌, ◌-◌, ◌<◌, ◌≤◌, ℤ, pos, ◌+ℤ◌, ◌-ℤ◌, ◌≤ℤ◌, ◌<ℤ◌, Bool, true, false, ◌||◌, ◌⊎◌, inl, inr, List, [], ◌∷◌, length, take, Option, Some, None, slice_get, cond, refl, sym, ap, ◌∙◌, subst, arith, add-one}
+use borrow.Author.Differences.{up, down}
+use Rattle.std.specs.Option.{option_map}
+use Rattle.std.specs.Prelude.{unsigned_abs}
+use Rattle.std.proofs.lemmas.Int.{ints, by_lt_z}
+use Rattle.std.proofs.lemmas.Bool.{cond-true, cond-false, true≢false}
+use Rattle.std.proofs.lemmas.List.{take_all}
+use Rattle.std.proofs.lemmas.Option.{none-some, same_Some}
+use Rattle.be_geom.specs.declared.rect.Rect.{Rect}
+use Rattle.be_geom.specs.Rects.{rect_has}
+use Rattle.be_region.specs.Regions.{region_has}
+use Rattle.be_span.specs.declared.Cell.{Cell}
+use Rattle.be_span.specs.Runs.{IsBeside}
+use Rattle.be_span.specs.Spans.{Spans, cell_in}
+use Rattle.be_span.proofs.GridLemmas.{either, IsIn, in_from, has_from, pos_abs}
+use Rattle.be_span.proofs.CellLemmas.{cell_none}
+use Rattle.be_desk.specs.Exposing.{Rule, IsRuledRow, IsRuledAbove}
+
+-- ---- what is left to do
+
+-- how many columns or rows follow
+abbrev pub columns_after : ℤ → ℕ
+columns_after last = (2147483647 + down last) - up last
+
+pub fewer_left : (last new : ℤ) → last <ℤ new → new ≤ℤ pos 2147483647 → columns_after new < columns_after last
+fewer_left last new ahead range = omega (arith, ints)
+
+-- ---- a run
+
+pub same_map : (f g : Cell → Cell) → ((c : Cell) → f c ≡ g c) → (o : Option Cell) → option_map f o ≡ option_map g o
+same_map f g h None = refl
+same_map f g h (Some c) = ap Some (h c)
+
+pub kept_map : (f : Cell → Cell) → ((c : Cell) → f c ≡ c) → (o : Option Cell) → o ≡ option_map f o
+kept_map f h None = refl
+kept_map f h (Some c) = ap Some (sym (h c))
+
+pub count_is : (x last : ℤ) → x ≤ℤ last → pos (unsigned_abs (last -ℤ x +ℤ pos 1)) ≡ last -ℤ x +ℤ pos 1
+count_is x last h = pos_abs (last -ℤ x +ℤ pos 1) (omega (arith, ints))
+
+-- the same rule for each cell of a run, told column by column
+pub ruled_run : (f : Cell → Cell) (old new : Spans) (x y last : ℤ) (n : ℕ) → pos n ≡ last -ℤ x +ℤ pos 1 → ((k : ℕ) → k < n → cell_in new (x +ℤ pos k) y ≡ option_map f (cell_in old (x +ℤ pos k) y)) → ((z w : ℤ) → IsBeside x y n z w → cell_in new z w ≡ cell_in old z w) → IsRuledRow (λ z w. f) old new x y (last +ℤ pos 1)
+ruled_run f old new x y last n long inside beside = record {
+  inside = λ z from to. at (unsigned_abs (z -ℤ x)) z (column z from) (omega (arith, ints));
+  beside = λ z w h. beside z w (outside z w h);
+}
+  where
+    column : (z : ℤ) → x ≤ℤ z → x +ℤ pos (unsigned_abs (z -ℤ x)) ≡ z
+    column z from = let e = pos_abs (z -ℤ x) (omega (arith, ints)) in omega (arith, ints)
+
+    at : (k : ℕ) (z : ℤ) → x +ℤ pos k ≡ z → z ≤ℤ last → cell_in new z y ≡ option_map f (cell_in old z y)
+    at k z e to = let P : ℤ → Type 0 = λ a. cell_in new a y ≡ option_map f (cell_in old a y) in subst P e (inside k (omega (arith, ints)))
+
+    outside : (z w : ℤ) → (w ≡ y → ⊥) ⊎ (z <ℤ x) ⊎ ((last +ℤ pos 1) ≤ℤ z) → IsBeside x y n z w
+    outside z w (inl h) = inl h
+    outside z w (inr (inl h)) = inr (inl h)
+    outside z w (inr (inr h)) = inr (inr (omega (arith, ints)))
+
+-- a rule that leaves each cell
+pub ruled_same : (f : Cell → Cell) (old : Spans) (x y end : ℤ) → ((c : Cell) → f c ≡ c) → IsRuledRow (λ z w. f) old old x y end
+ruled_same f old x y end h = record { inside = λ z from to. kept_map f h (cell_in old z y); beside = λ z w h. refl }
+
+-- ---- a row
+
+pub row_none : (rule : Rule) (old : Spans) (x y : ℤ) → IsRuledRow rule old old x y x
+row_none rule old x y = record { inside = λ z from to. absurd (omega (arith, ints)); beside = λ z w h. refl }
+
+-- some pixels more
+pub row_more : (rule other : Rule) (old now new : Spans) (left x y end : ℤ) → left ≤ℤ x → x ≤ℤ end → IsRuledRow rule old now left y x → IsRuledRow other now new x y end → ((z : ℤ) (c : Cell) → x ≤ℤ z → z <ℤ end → other z y c ≡ rule z y c) → IsRuledRow rule old new left y end
+row_more rule other old now new left x y end low ahead so_far more same = record {
+  inside = λ z from to. by_lt_z z x
+      (λ before. more.beside z y (inr (inl before)) ∙ so_far.inside z from before)
+      (λ behind.
+      more.inside z behind to
+      ∙ ap (option_map (other z y)) (so_far.beside z y (inr (inr behind)))
+      ∙ same_map (other z y) (rule z y) (λ c. same z c behind to) (cell_in old z y));
+  beside = λ z w h. more.beside z w (second z w h) ∙ so_far.beside z w (first z w h);
+}
+  where
+    second : (z w : ℤ) → (w ≡ y → ⊥) ⊎ (z <ℤ left) ⊎ (end ≤ℤ z) → (w ≡ y → ⊥) ⊎ (z <ℤ x) ⊎ (end ≤ℤ z)
+    second z w (inl h) = inl h
+    second z w (inr (inl h)) = inr (inl (omega (arith, ints)))
+    second z w (inr (inr h)) = inr (inr h)
+
+    first : (z w : ℤ) → (w ≡ y → ⊥) ⊎ (z <ℤ left) ⊎ (end ≤ℤ z) → (w ≡ y → ⊥) ⊎ (z <ℤ left) ⊎ (x ≤ℤ z)
+    first z w (inl h) = inl h
+    first z w (inr (inl h)) = inr (inl h)
+    first z w (inr (inr h)) = inr (inr (omega (arith, ints)))
+
+-- ---- a rectangle
+
+pub above_none : (rule : Rule) (old : Spans) (r : Rect) → IsRuledAbove rule old old r r.top
+above_none rule old r = record {
+  inside = λ x y left right from to. absurd (omega (arith, ints));
+  beside = λ x y h. refl;
+}
+
+-- one row more
+pub above_more : (rule : Rule) (old now new : Spans) (r : Rect) (y : ℤ) → r.top ≤ℤ y → IsRuledAbove rule old now r y → IsRuledRow rule now new r.left y (r.right +ℤ pos 1) → IsRuledAbove rule old new r (y +ℤ pos 1)
+above_more rule old now new r y low so_far row = record {
+  inside = λ x w left right top bottom. by_lt_z w y
+      (λ above. row.beside x w (inl (λ e. apart w above e)) ∙ so_far.inside x w left right top above)
+      (λ here. in_row x w left right (same w here bottom));
+  beside = λ x w h. row.beside x w (row_side x w h) ∙ so_far.beside x w (above_side x w h);
+}
+  where
+    apart : (w : ℤ) → w <ℤ y → w ≡ y → ⊥
+    apart w h e = omega (arith, ints)
+
+    same : (w : ℤ) → y ≤ℤ w → w <ℤ (y +ℤ pos 1) → y ≡ w
+    same w h k = omega (arith, ints)
+
+    at_row : (x : ℤ) → r.left ≤ℤ x → x ≤ℤ r.right → cell_in new x y ≡ option_map (rule x y) (cell_in old x y)
+    at_row x left right = row.inside x left (omega (arith, ints)) ∙ ap (option_map (rule x y)) (so_far.beside x y (inr (inr (inr (omega (arith, ints))))))
+
+    in_row : (x w : ℤ) → r.left ≤ℤ x → x ≤ℤ r.right → y ≡ w → cell_in new x w ≡ option_map (rule x w) (cell_in old x w)
+    in_row x w left right e = let P : ℤ → Type 0 = λ v. cell_in new x v ≡ option_map (rule x v) (cell_in old x v) in subst P e (at_row x left right)
+
+    row_side : (x w : ℤ) → (x <ℤ r.left) ⊎ (r.right <ℤ x) ⊎ (w <ℤ r.top) ⊎ ((y +ℤ pos 1) ≤ℤ w) → (w ≡ y → ⊥) ⊎ (x <ℤ r.left) ⊎ ((r.right +ℤ pos 1) ≤ℤ x)
+    row_side x w (inl h) = inr (inl h)
+    row_side x w (inr (inl h)) = inr (inr (omega (arith, ints)))
+    row_side x w (inr (inr (inl h))) = inl (λ e. omega (arith, ints))
+    row_side x w (inr (inr (inr h))) = inl (λ e. omega (arith, ints))
+
+    above_side : (x w : ℤ) → (x <ℤ r.left) ⊎ (r.right <ℤ x) ⊎ (w <ℤ r.top) ⊎ ((y +ℤ pos 1) ≤ℤ w) → (x <ℤ r.left) ⊎ (r.right <ℤ x) ⊎ (w <ℤ r.top) ⊎ (y ≤ℤ w)
+    above_side x w (inl h) = inl h
+    above_side x w (inr (inl h)) = inr (inl h)
+    above_side x w (inr (inr (inl h))) = inr (inr (inl h))
+    above_side x w (inr (inr (inr h))) = inr (inr (inr (omega (arith, ints))))
+
+-- a pixel outside a rectangle lies on one of its sides
+out_of : (r : Rect) (x y : ℤ) → rect_has r x y ≡ false → (x <ℤ r.left) ⊎ (r.right <ℤ x) ⊎ (y <ℤ r.top) ⊎ ((r.bottom +ℤ pos 1) ≤ℤ y)
+out_of r x y e =
+    by_lt_z x r.left inl (λ left. by_lt_z r.right x (λ h. inr (inl h)) (λ right. by_lt_z y r.top (λ h. inr (inr (inl h))) (λ top. by_lt_z r.bottom y (λ h. inr (inr (inr (omega (arith, ints))))) (λ bottom. absurd (true≢false (sym (has_from r x y record { left = left; right = right; top = top; bottom = bottom }) ∙ e))))))
+
+-- all rows
+pub above_all : (rule : Rule) (old new : Spans) (r : Rect) (end x y : ℤ) → end ≡ r.bottom +ℤ pos 1 → IsRuledAbove rule old new r end → cell_in new x y ≡ cond (rect_has r x y) (option_map (rule x y) (cell_in old x y)) (cell_in old x y)
+above_all rule old new r end x y last h =
+    elim (either (rect_has r x y)) [
+      | inl e ↦ inside (in_from r x y e) ∙ sym (cond-true (rect_has r x y) (option_map (rule x y) (cell_in old x y)) (cell_in old x y) e)
+      | inr e ↦ h.beside x y (outside (out_of r x y e)) ∙ sym (cond-false (rect_has r x y) (option_map (rule x y) (cell_in old x y)) (cell_in old x y) e)
+    ]
+  where
+    inside : IsIn r x y → cell_in new x y ≡ option_map (rule x y) (cell_in old x y)
+    inside i = let low = i.bottom in h.inside x y i.left i.right i.top (omega (arith, ints))
+
+    outside : (x <ℤ r.left) ⊎ (r.right <ℤ x) ⊎ (y <ℤ r.top) ⊎ ((r.bottom +ℤ pos 1) ≤ℤ y) → (x <ℤ r.left) ⊎ (r.right <ℤ x) ⊎ (y <ℤ r.top) ⊎ (end ≤ℤ y)
+    outside (inl s) = inl s
+    outside (inr (inl s)) = inr (inl s)
+    outside (inr (inr (inl s))) = inr (inr (inl s))
+    outside (inr (inr (inr s))) = inr (inr (inr (omega (arith, ints))))
+
+-- ---- all rectangles
+
+has_more : (rs : List Rect) (m : ℕ) (r : Rect) (x y : ℤ) → slice_get rs m ≡ Some r → region_has (take (suc m) rs) x y ≡ (region_has (take m rs) x y || rect_has r x y)
+has_more [] m r x y e = absurd (none-some r e)
+has_more (q ∷ rs) zero r x y e = or_false (rect_has q x y) ∙ ap (λ s. rect_has s x y) (same_Some q r e)
+  where
+    or_false : (b : Bool) → (b || false) ≡ b
+    or_false true = refl
+    or_false false = refl
+has_more (q ∷ rs) (suc m) r x y e = ap (λ b. rect_has q x y || b) (has_more rs m r x y e) ∙ or_turned (rect_has q x y) (region_has (take m rs) x y) (rect_has r x y)
+  where
+    or_turned : (a b c : Bool) → (a || (b || c)) ≡ ((a || b) || c)
+    or_turned true b c = refl
+    or_turned false b c = refl
+
+map_twice : (f : Cell → Cell) → ((c : Cell) → f (f c) ≡ f c) → (o : Option Cell) → option_map f (option_map f o) ≡ option_map f o
+map_twice f h None = refl
+map_twice f h (Some c) = ap Some (h c)
+
+step : (f : Cell → Cell) → ((c : Cell) → f (f c) ≡ f c) → (p q : Bool) (d now new : Option Cell) → now ≡ cond p (option_map f d) d → new ≡ cond q (option_map f now) now → new ≡ cond (p || q) (option_map f d) d
+step f h true true d now new e g = g ∙ ap (option_map f) e ∙ map_twice f h d
+step f h true false d now new e g = g ∙ e
+step f h false true d now new e g = g ∙ ap (option_map f) e
+step f h false false d now new e g = g ∙ e
+
+-- one rectangle more, by a rule that makes nothing more of what it made
+pub all_more : (rule : Rule) (old now new : Spans) (rs : List Rect) (m : ℕ) (r : Rect) → ((x y : ℤ) (c : Cell) → rule x y (rule x y c) ≡ rule x y c) → slice_get rs m ≡ Some r → ((x y : ℤ) → cell_in now x y ≡ cond (region_has (take m rs) x y) (option_map (rule x y) (cell_in old x y)) (cell_in old x y)) → ((x y : ℤ) → cell_in new x y ≡ cond (rect_has r x y) (option_map (rule x y) (cell_in now x y)) (cell_in now x y)) → (x y : ℤ) → cell_in new x y ≡ cond (region_has (take (m + 1) rs) x y) (option_map (rule x y) (cell_in old x y)) (cell_in old x y)
+all_more rule old now new rs m r twice e so_far more x y =
+    step (rule x y) (twice x y) (region_has (take m rs) x y) (rect_has r x y) (cell_in old x y) (cell_in now x y) (cell_in new x y) (so_far x y) (more x y)
+    ∙ ap (λ b. cond b (option_map (rule x y) (cell_in old x y)) (cell_in old x y)) (sym (rw add-one (has_more rs m r x y e)))
+
+-- a pixel outside the region has no cell
+pub all_ruled : (rule : Rule) (old new : Spans) (m : ℕ) → length old.rects ≤ m → ((x y : ℤ) → cell_in new x y ≡ cond (region_has (take m old.rects) x y) (option_map (rule x y) (cell_in old x y)) (cell_in old x y)) → (x y : ℤ) → cell_in new x y ≡ option_map (rule x y) (cell_in old x y)
+all_ruled rule old new m all h x y =
+    h x y
+    ∙ ap (λ l. cond (region_has l x y) (option_map (rule x y) (cell_in old x y)) (cell_in old x y)) (take_all m old.rects all)
+    ∙ elim (either (region_has old.rects x y)) [
+      | inl e ↦ cond-true (region_has old.rects x y) (option_map (rule x y) (cell_in old x y)) (cell_in old x y) e
+      | inr e ↦ cond-false (region_has old.rects x y) (option_map (rule x y) (cell_in old x y)) (cell_in old x y) e ∙ cell_none old x y e ∙ sym (ap (option_map (rule x y)) (cell_none old x y e))
+    ]
