@@ -1,4 +1,4 @@
--- The new pixels of a window in a change, as its pane alone tells them (this project's own; the rule is that of changes).
+-- The new pixels of a window in a change, told by its pane and the cells of the screen (the rule is that of Changes).
 use Rattle.std.specs.Prelude.{◌≡◌, ℕ, ℤ, ◌-ℤ◌, Bool, true, false, ◌&&◌, ◌==◌, All, IsSome, List, Option, Some, None, slice_get, option_and_then, if◌then◌else◌}
 use Rattle.std.specs.List.{list_any}
 use Rattle.be_geom.specs.declared.point.Point.{Point}

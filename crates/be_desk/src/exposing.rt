@@ -85,8 +85,8 @@ fn expose_run(spans: &mut SpanBuf, x: i32, y: i32, last: i32, color: Option<Colo
 }
 
 impl Renewal<'_> {
-    /// The colour in which the pixels of a row are newly exposed from a pixel of the screen on, and up
-    /// to which column, `end` at most. None where they are kept.
+    /// The colour in which the pixels of a row are newly exposed from a pixel of the screen on, and
+    /// up to which column, `end` at most. None where they are kept.
     fn exposure_run(&self, x: i32, y: i32, end: i32) -> (Option<Color>, i32)
         requires near { IsNearBy self.now.motion }
         requires row { IsCoordinate y }

@@ -11,8 +11,8 @@ use be_geom::Point;
 use be_views::ViewTree;
 
 impl Renewal<'_> {
-    /// Whether the window keeps what it shows at a pixel of the screen, and the last column, `end` at
-    /// most, up to which that stays so at least.
+    /// Whether the window keeps what it shows at a pixel of the screen, and the last column,
+    /// `end` at most, up to which that stays so at least.
     pub(crate) fn kept_run(&self, x: i32, y: i32, end: i32) -> (bool, i32)
         requires near { IsNearBy self.now.motion }
         requires row { IsCoordinate y }
@@ -109,8 +109,8 @@ fn is_same_place(old: Option<(i32, i32)>, new: Option<(i32, i32)>) -> bool
     }
 }
 
-/// The view at a pixel of the screen, in a window whose left top is there, and the last column, `end`
-/// at most, up to which that stays so at least.
+/// The view at a pixel of the screen, in a window with its left top at the corner, and the last
+/// column, `end` at most, up to which that stays so at least.
 pub(crate) fn view_run(
     tree: &ViewTree,
     corner: Point,

@@ -42,11 +42,12 @@ pub(crate) struct Renewal<'a> {
     pub motion: Motion,
 }
 
-/// The pixels of `region`, which the window owns afterwards, each with its cell. `panes` are those of
-/// all windows whose pixels may come to be this one's.
+/// The pixels of `region`, which the window owns afterwards, each with its cell. `panes` are all
+/// whose pixels may come to be the window's, and its own is among them.
 ///
-/// It goes down the rows of the region once, and along each by runs; a pixel that is kept is looked
-/// at only to be copied. What the other panes show is copied only where a view is transparent.
+/// Memory is taken once, for the cells. What the window keeps is copied by runs, and what is newly
+/// exposed is found by runs: no pixel is looked at by itself. The other panes are looked at only
+/// where a view is transparent.
 pub(crate) fn renewed(
     alloc: Global,
     renewal: &Renewal<'_>,
