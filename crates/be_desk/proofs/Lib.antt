@@ -1,3 +1,14 @@
 pub mod StretchLemmas
 pub mod RuleLemmas
 pub mod RenewLemmas
+pub mod SizeLemmas
+pub mod SameLemmas
+pub mod OthersLemmas
+pub mod MeetLemmas
+pub mod AffectedLemmas
+pub mod ChangedLemmas
+pub mod DeskLemmas
+pub mod PairedLemmas
+pub mod PlanLemmas
+pub mod SpansLemmas
+pub mod CarryLemmas

@@ -41,7 +41,7 @@ missed_first true p w x found e none rest =
 missed_first false p w x found e none rest =
     elim (p x) as (λ c. is_number w (cond c (Some x) found) ≡ false) [ true ↦ e | false ↦ rest ]
 
-missed : (p : ℕ → Bool) (w : ℕ) (xs : List ℕ) → p w ≡ false → is_number w (find p xs) ≡ false
+pub missed : (p : ℕ → Bool) (w : ℕ) (xs : List ℕ) → p w ≡ false → is_number w (find p xs) ≡ false
 missed p w [] none = refl
 missed p w (x ∷ xs) none = missed_first (x == w) p w x (find p xs) refl none (missed p w xs none)
 

@@ -98,6 +98,16 @@ impl Stack {
         Ok(w)
     }
 
+    /// How many windows there are, closed ones among them.
+    pub fn len(&self) -> usize
+        ensures number { result ≡ length self.now.windows }
+
+        // No stack has more, for callers that rest on it.
+        ensures few { result ≤ 32 }
+    {
+        self.windows.len()
+    }
+
     /// A window's frame, in screen coordinates, closed or not: `BWindow::Frame`. None where there is no
     /// such window.
     pub fn frame(&self, w: u16) -> Option<Rect>
