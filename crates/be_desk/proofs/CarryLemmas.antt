@@ -179,7 +179,7 @@ pub carried_after : (plan : Planned) (desk : Desk) (panes : List Pane) (q : Poin
 carried_after plan desk panes q is pointed =
     carried_desk desk plan.window plan.change plan.windows q is.taken is.windows pointed
 
-got_some : {A : Type 0} (xs : List A) (k : ℕ) → k < length xs → (x : A) × (slice_get xs k ≡ Some x)
+pub got_some : {A : Type 0} (xs : List A) (k : ℕ) → k < length xs → (x : A) × (slice_get xs k ≡ Some x)
 got_some [] k h = absurd (omega arith)
 got_some (x ∷ xs) zero h = (x, refl)
 got_some (x ∷ xs) (suc k) h = got_some xs k (omega arith)

@@ -12,3 +12,4 @@ pub mod PairedLemmas
 pub mod PlanLemmas
 pub mod SpansLemmas
 pub mod CarryLemmas
+pub mod StandLemmas

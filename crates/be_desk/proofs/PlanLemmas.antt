@@ -81,7 +81,7 @@ nobody before after panes k pane x y of_panes affected got owner none (Some v) e
     let there = (of_panes found.0 found.1.0 found.1.1.0).pixels x y ∙ ap (λ n. owns before n x y) found.1.1.1 ∙ here in
     absurd (false≢true (sym (none_at (λ (p : Pane). region_has p.spans.rects x y) panes found.0 found.1.0 none found.1.1.0) ∙ there))
 
-owner_is : (u : ℕ) (o : Option ℕ) → is_number u o ≡ true → o ≡ Some u
+pub owner_is : (u : ℕ) (o : Option ℕ) → is_number u o ≡ true → o ≡ Some u
 owner_is u (Some m) e = ap (λ k. Some k) (eqb-true m u e)
 owner_is u None e = cc
 
