@@ -7,10 +7,10 @@ use Rattle.be_command.specs.Effects.{Deed, draws, sets, colors, saves, restores,
 use Rattle.be_geom.specs.declared.point.Point.{Point}
 use Rattle.be_geom.specs.declared.rect.Rect.{Rect}
 use Rattle.be_geom.specs.Rects.{moved_rect}
-use Rattle.be_paint.specs.Copies.{way_of, rect_holds, copied_from, copied_or_exposed, copied_cell, invalidated_in, invalidated_cell}
+use Rattle.be_paint.specs.Copies.{way_of, rect_holds, copied_or_exposed, copied_cell, invalidated_in, invalidated_cell}
 use Rattle.be_paint.specs.Inks.{Ink, source_at, laid_on_cell, painted_cell}
 use Rattle.be_paint.specs.Reach.{Reach, in_window, in_drawing, is_here, is_reached}
-use Rattle.be_span.specs.Cells.{Lookup, exposed_cell}
+use Rattle.be_span.specs.Cells.{Lookup, colored_as, exposed_cell}
 use Rattle.be_span.specs.declared.Cell.{Cell}
 use Rattle.be_twin.specs.Deeds.{ink_of, inked_cell, cell_after}
 use Rattle.be_twin.specs.Executed.{Sight, executed_cell}
@@ -37,9 +37,9 @@ same_inked : (own other : ℤ → ℤ → Bool) (reach : Reach) (o : Option Ink)
 same_inked own other reach (Some ink) old new x y c owner = same_painted own other reach ink old new x y c owner
 same_inked own other reach None old new x y c owner = refl
 
-source_by : (own other is : Bool) (old new : Option Cell) (color : Color) (c : Cell) → other ≡ own → (own ≡ true → new ≡ old) → (if other && is then copied_from new c else exposed_cell color c) ≡ (if own && is then copied_from old c else exposed_cell color c)
-source_by true other is old new color c same cell = ap (λ b. if b && is then copied_from new c else exposed_cell color c) same ∙ ap (λ o. if true && is then copied_from o c else exposed_cell color c) (cell refl)
-source_by false other is old new color c same cell = ap (λ b. if b && is then copied_from new c else exposed_cell color c) same
+source_by : (own other is : Bool) (old new : Option Cell) (color : Color) (c : Cell) → other ≡ own → (own ≡ true → new ≡ old) → (if other && is then colored_as new c else exposed_cell color c) ≡ (if own && is then colored_as old c else exposed_cell color c)
+source_by true other is old new color c same cell = ap (λ b. if b && is then colored_as new c else exposed_cell color c) same ∙ ap (λ o. if true && is then colored_as o c else exposed_cell color c) (cell refl)
+source_by false other is old new color c same cell = ap (λ b. if b && is then colored_as new c else exposed_cell color c) same
 
 same_source : (own other : ℤ → ℤ → Bool) (reach : Reach) (color : Color) (old new : Lookup) (x y : ℤ) (c : Cell) → SameOwned own other → SameOld own old new → copied_or_exposed other reach color new x y c ≡ copied_or_exposed own reach color old x y c
 same_source own other reach color old new x y c owner cells = source_by (own x y) (other x y) (is_here reach (in_window reach x y)) (old x y) (new x y) color c (owner x y) (cells x y)

@@ -13,6 +13,7 @@ use Rattle.be_geom.specs.declared.rect.Rect.{Rect}
 use Rattle.be_color.specs.declared.colors.Rgb.{Rgb}
 use Rattle.be_region.specs.Regions.{region_has}
 use Rattle.be_span.specs.declared.Cell.{Cell}
+use Rattle.be_span.specs.Cells.{colored_as}
 use Rattle.be_span.specs.Spans.{Spans, pixels_of, place_of, cell_in, black_cell, clean_cell}
 use Rattle.be_span.specs.Runs.{IsRunFrom, HasRun, IsBeside}
 use Rattle.be_span.proofs.GridLemmas.{either}
@@ -106,6 +107,13 @@ pub run_long : (rs : List Rect) (start len n : ℕ) (x y : ℤ) → IsRunFrom rs
 run_long rs start len n x y run has =
     elim (cases_lt len n) [ inl h ↦ absurd (true≢false (sym (has len h) ∙ run.ends)) | inr h ↦ h ]
 
+pub at_zero : (x : ℤ) → x +ℤ pos 0 ≡ x
+at_zero x = omega (arith, ints)
+
+-- a run that isn't empty has its first pixel
+pub no_run : (rs : List Rect) (x y : ℤ) (n k : ℕ) → region_has rs x y ≡ false → HasRun rs x y n → k < n → ⊥
+no_run rs x y n k out has less = true≢false (sym (has 0 (omega arith)) ∙ ap (λ z. region_has rs z y) (at_zero x) ∙ out)
+
 not_beside : (x y : ℤ) (n : ℕ) (z w : ℤ) (k : ℕ) → k < n → x +ℤ pos k ≡ z → w ≡ y → IsBeside x y n z w → ⊥
 not_beside x y n z w k less across down (inl h) = h down
 not_beside x y n z w k less across down (inr (inl h)) = omega (arith, ints)
@@ -143,9 +151,6 @@ row_ends rs cells part start len x y run e whole =
     let fits = run.within in
     cell_none (spans rs cells) (x +ℤ pos (length part)) y (ap (λ n. region_has rs (x +ℤ pos n) y) (part_length cells part start len e (omega arith)) ∙ run.ends)
 
-pub at_zero : (x : ℤ) → x +ℤ pos 0 ≡ x
-at_zero x = omega (arith, ints)
-
 pub run_has : (rs : List Rect) (start len : ℕ) (x y : ℤ) → IsRunFrom rs start len x y → region_has rs x y ≡ true
 run_has rs start len x y run =
     place_has rs x y start (ap (λ z. place_of rs z y) (sym (at_zero x)) ∙ run.places 0 run.some ∙ ap Some (omega arith))
@@ -177,6 +182,13 @@ pub mapped_cells_in : (rs : List Rect) (old new : List Cell) (f : Cell → Cell)
 mapped_cells_in rs old new f start len n x y k run has e less =
     let few = run_long rs start len n x y run has in
     cell_read rs new start len x y k run (omega arith) ∙ e ∙ ap (option_map f) (sym (cell_read rs old start len x y k run (omega arith)))
+
+-- a row with the colours of another
+pub copied_cells_in : (rs : List Rect) (old new : List Cell) (start len from from_len n : ℕ) (x y from_x from_y : ℤ) (k : ℕ) → IsRunFrom rs start len x y → IsRunFrom rs from from_len from_x from_y → HasRun rs x y n → HasRun rs from_x from_y n → slice_get new (start + k) ≡ option_map (colored_as (slice_get old (from + k))) (slice_get old (start + k)) → k < n → cell_in (spans rs new) (x +ℤ pos k) y ≡ option_map (colored_as (cell_in (spans rs old) (from_x +ℤ pos k) from_y)) (cell_in (spans rs old) (x +ℤ pos k) y)
+copied_cells_in rs old new start len from from_len n x y from_x from_y k run source has there e less =
+    let few = run_long rs from from_len n from_x from_y source there in
+    mapped_cells_in rs old new (colored_as (slice_get old (from + k))) start len n x y k run has e less
+    ∙ ap (λ o. option_map (colored_as o) (cell_in (spans rs old) (x +ℤ pos k) y)) (sym (cell_read rs old from from_len from_x from_y k source (omega arith)))
 
 -- ---- cells that are all the same
 

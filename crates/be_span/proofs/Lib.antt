@@ -6,3 +6,4 @@ pub mod LaidLemmas
 pub mod MarkLemmas
 pub mod GatherLemmas
 pub mod ExposeLemmas
+pub mod CopyLemmas

@@ -2,13 +2,14 @@ ghost use Rattle.std.specs.Prelude.{◌≡◌, ◌<◌, ◌↔◌, ℕ, ℤ, pos
 ghost use Rattle.std.specs.Option.{option_map};
 ghost use Rattle.be_region.specs.Regions.{region_has};
 ghost use Rattle.be_region.specs.Bands.{AreBands};
-ghost use Rattle.be_span.specs.Cells.{unmarked, exposed_cell};
+ghost use Rattle.be_span.specs.Cells.{unmarked, exposed_cell, colored_as};
 ghost use Rattle.be_span.specs.Spans.{cell_in, is_dirty, black_cell, clean_cell, pixels_of};
 ghost use Rattle.be_span.specs.Runs.{AreRows, HasRun, IsBeside};
 ghost use Rattle.be_span.specs.Slices.{source_at, painted};
 
 use crate::Cell;
 use crate::brush::{Brush, Source};
+use crate::copy::copy_part;
 use crate::expose::expose_part;
 use crate::places::{run_from, starts_of};
 use crate::rows::{dirty_among, dirty_of, overwrite, paint_part, unmark_all};
@@ -239,6 +240,29 @@ impl SpanBuf {
             return;
         };
         self.dirty = expose_part(&mut self.cells, run.start, count, color, self.dirty);
+    }
+
+    /// Gives the `count` pixels from (x, y) on to the right the colours that those from
+    /// (from_x, from_y) on have, which may be some of the same. Their marks stay.
+    pub fn copy_row(&mut self, x: i32, y: i32, count: usize, from_x: i32, from_y: i32)
+        requires to { HasRun self.old.rects x y count }
+        requires from { HasRun self.old.rects from_x from_y count }
+        ensures region { self.new.rects ≡ self.old.rects }
+        ensures copied { (k : ℕ) → k < count → cell_in self.new (x +ℤ pos k) y
+            ≡ option_map (colored_as (cell_in self.old (from_x +ℤ pos k) from_y))
+            (cell_in self.old (x +ℤ pos k) y) }
+        ensures others { (z w : ℤ) → IsBeside x y count z w
+            → cell_in self.new z w ≡ cell_in self.old z w }
+        ensures marks { count_by (λ c. c.dirty) self.new.cells
+            ≡ count_by (λ c. c.dirty) self.old.cells }
+    {
+        let Some(target) = run_from(&self.region, &self.starts, x, y) else {
+            return;
+        };
+        let Some(source) = run_from(&self.region, &self.starts, from_x, from_y) else {
+            return;
+        };
+        copy_part(&mut self.cells, source.start, target.start, count);
     }
 }
 
