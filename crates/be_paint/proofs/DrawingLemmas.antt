@@ -1,21 +1,20 @@
 -- What a drawing makes of the cells along a row.
 use Rattle.std.specs.Prelude.{if◌then◌else◌}
-use Rattle.std.proofs.Common.{◌≡◌, ◌⊎◌, inl, inr, ◌<ℤ◌, ℕ, ℤ, pos, ◌+ℤ◌, ◌-ℤ◌, ◌≤ℤ◌, true, false, ◌&&◌, List, Option, Some, None, refl, sym, ap, ◌∙◌, arith}
-use Rattle.std.proofs.Math.Bool.{and-false}
+use Rattle.std.proofs.Common.{◌≡◌, ◌⊎◌, inl, inr, ◌<ℤ◌, ℕ, ℤ, pos, ◌+ℤ◌, ◌-ℤ◌, ◌≤ℤ◌, true, false, List, Option, Some, None, refl, sym, ap, ◌∙◌, arith}
 use Rattle.std.proofs.lemmas.Int.{ints}
 use Rattle.be_geom.specs.Places.{at_pixel}
 use Rattle.be_geom.specs.declared.rect.Rect.{Rect}
 use Rattle.be_region.specs.Regions.{region_has}
-use Rattle.be_region.specs.Runs.{IsRun}
 use Rattle.be_span.specs.declared.Cell.{Cell}
 use Rattle.be_span.specs.declared.brush.Source.{Source}
 use Rattle.be_state.specs.declared.State.{State}
 use Rattle.be_paint.specs.Inks.{source_at, laid_on_cell}
-use Rattle.be_paint.specs.Seen.{is_free}
+use Rattle.be_paint.specs.Seen.{may_draw}
 use Rattle.be_paint.specs.Stretches.{IsStretch}
 use Rattle.be_paint.specs.Laying.{HasNoneOutside, ink_of, color_in, source_in, drawn_cell, run_cell, IsInkRun, IsDrawnBy, IsRunOf}
 use Rattle.be_paint.specs.declared.drawing.Drawing.{Drawing}
 use Rattle.be_paint.specs.declared.pixel.Pixel.{Pixel}
+use Rattle.be_paint.proofs.ReachLemmas.{not_in}
 
 -- a run of the ink, seen on the screen
 pub drawn_by : (d : Drawing) (x y : ℤ) (local p : Pixel) (source : Option Source) (last : ℤ) (k : ℕ) → local.x ≡ x -ℤ d.reach.now.window.x → local.y ≡ y -ℤ d.reach.now.window.y → p.x ≡ local.x -ℤ d.view.x -ℤ d.base.x → p.y ≡ local.y -ℤ d.view.y -ℤ d.base.y → IsInkRun (ink_of d.ink.now) d.reach.now.states.now.top.state local p source last → (p.x +ℤ pos k) ≤ℤ last → IsDrawnBy d (x +ℤ pos k) y source k
@@ -37,18 +36,15 @@ drawn_by d x y local p source last k lx ly px py run to =
 
 -- ---- cells
 
+not_free : (rects : List Rect) (d : Drawing) (x y : ℤ) (c : Cell) → may_draw rects d.reach.now d.view x y ≡ false → drawn_cell rects d x y c ≡ c
+not_free rects d x y c e = ap (λ b. if b then laid_on_cell d.reach.now.states.now.top.state c (source_in d x y) else c) e
+
+free : (rects : List Rect) (d : Drawing) (x y : ℤ) (c : Cell) → may_draw rects d.reach.now d.view x y ≡ true → drawn_cell rects d x y c ≡ laid_on_cell d.reach.now.states.now.top.state c (source_in d x y)
+free rects d x y c e = ap (λ b. if b then laid_on_cell d.reach.now.states.now.top.state c (source_in d x y) else c) e
+
+-- no view draws on a pixel that the window doesn't own
 pub not_owned : (rects : List Rect) (d : Drawing) (x y : ℤ) (c : Cell) → region_has rects x y ≡ false → drawn_cell rects d x y c ≡ c
-not_owned rects d x y c e = ap (λ b. if b && is_free d.reach.now d.view x y then laid_on_cell d.reach.now.states.now.top.state c (source_in d x y) else c) e
-
-not_free : (rects : List Rect) (d : Drawing) (x y : ℤ) (c : Cell) → is_free d.reach.now d.view x y ≡ false → drawn_cell rects d x y c ≡ c
-not_free rects d x y c e =
-    ap (λ b. if region_has rects x y && b then laid_on_cell d.reach.now.states.now.top.state c (source_in d x y) else c) e
-    ∙ ap (λ b. if b then laid_on_cell d.reach.now.states.now.top.state c (source_in d x y) else c) (and-false (region_has rects x y))
-
-free : (rects : List Rect) (d : Drawing) (x y : ℤ) (c : Cell) → region_has rects x y ≡ true → is_free d.reach.now d.view x y ≡ true → drawn_cell rects d x y c ≡ laid_on_cell d.reach.now.states.now.top.state c (source_in d x y)
-free rects d x y c owned e =
-    ap (λ b. if b && is_free d.reach.now d.view x y then laid_on_cell d.reach.now.states.now.top.state c (source_in d x y) else c) owned
-    ∙ ap (λ b. if b then laid_on_cell d.reach.now.states.now.top.state c (source_in d x y) else c) e
+not_owned rects d x y c e = not_free rects d x y c (not_in rects d.reach.now d.view x y e)
 
 laid_by : (s : State) (source : Option Source) (k : ℕ) (c : Cell) → laid_on_cell s c (color_in s source k) ≡ run_cell s source k c
 laid_by s (Some source) k c = refl
@@ -56,31 +52,22 @@ laid_by s None k c = refl
 
 -- ---- runs
 
-pub run_outside : (rects : List Rect) (d : Drawing) (x y end last r : ℤ) → IsRun (λ z. region_has rects z y) x last → region_has rects x y ≡ false → x ≤ℤ r → r ≤ℤ last → r ≤ℤ end → IsRunOf rects d x y None end r
-run_outside rects d x y end last r run out ahead short within = record {
-  forward = ahead;
-  within = within;
-  each = λ k to c. not_owned rects d (x +ℤ pos k) y c (run.same (x +ℤ pos k) (omega (arith, ints)) (omega (arith, ints)) ∙ out);
+pub run_kept : (rects : List Rect) (d : Drawing) (x y end r : ℤ) → IsStretch (λ z. may_draw rects d.reach.now d.view z y) x end r → may_draw rects d.reach.now d.view x y ≡ false → IsRunOf rects d x y None end r
+run_kept rects d x y end r run out = record {
+  forward = run.forward;
+  within = run.within;
+  each = λ k to c. not_free rects d (x +ℤ pos k) y c (run.same (x +ℤ pos k) (omega (arith, ints)) to ∙ out);
 }
 
-pub run_kept : (rects : List Rect) (d : Drawing) (x y end mid r : ℤ) → IsStretch (λ z. is_free d.reach.now d.view z y) x mid r → is_free d.reach.now d.view x y ≡ false → mid ≤ℤ end → IsRunOf rects d x y None end r
-run_kept rects d x y end mid r run out short =
-    let within = run.within in
-    record {
-      forward = run.forward;
-      within = omega (arith, ints);
-      each = λ k to c. not_free rects d (x +ℤ pos k) y c (run.same (x +ℤ pos k) (omega (arith, ints)) to ∙ out);
-    }
-
-pub run_drawn : (rects : List Rect) (d : Drawing) (x y end mid last r : ℤ) (source : Option Source) → ((z : ℤ) → x ≤ℤ z → z ≤ℤ last → region_has rects z y ≡ true) → IsStretch (λ z. is_free d.reach.now d.view z y) x last mid → is_free d.reach.now d.view x y ≡ true → last ≤ℤ end → x ≤ℤ r → r ≤ℤ mid → ((k : ℕ) → (x +ℤ pos k) ≤ℤ r → IsDrawnBy d (x +ℤ pos k) y source k) → IsRunOf rects d x y source end r
-run_drawn rects d x y end mid last r source owned run yes_free short ahead to_mid drawn =
+pub run_drawn : (rects : List Rect) (d : Drawing) (x y end mid r : ℤ) (source : Option Source) → IsStretch (λ z. may_draw rects d.reach.now d.view z y) x end mid → may_draw rects d.reach.now d.view x y ≡ true → x ≤ℤ r → r ≤ℤ mid → ((k : ℕ) → (x +ℤ pos k) ≤ℤ r → IsDrawnBy d (x +ℤ pos k) y source k) → IsRunOf rects d x y source end r
+run_drawn rects d x y end mid r source run yes_free ahead to_mid drawn =
     let within = run.within in
     record {
       forward = ahead;
       within = omega (arith, ints);
       each = λ k to c.
           let s = d.reach.now.states.now.top.state in
-          free rects d (x +ℤ pos k) y c (owned (x +ℤ pos k) (omega (arith, ints)) (omega (arith, ints))) (run.same (x +ℤ pos k) (omega (arith, ints)) (omega (arith, ints)) ∙ yes_free)
+          free rects d (x +ℤ pos k) y c (run.same (x +ℤ pos k) (omega (arith, ints)) (omega (arith, ints)) ∙ yes_free)
           ∙ ap (laid_on_cell s c) (drawn k to)
           ∙ laid_by s source k c;
     }

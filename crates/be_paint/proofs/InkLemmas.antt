@@ -18,7 +18,7 @@ use Rattle.be_span.specs.declared.brush.Source.TheVariants.{Bits, One}
 use Rattle.be_span.specs.Slices as slices
 use Rattle.be_state.specs.declared.State.{State}
 use Rattle.be_paint.specs.Inks.{shape, text, image, text_has, source_at}
-use Rattle.be_paint.specs.Laying.{IsInkRun, IsRowRun, HasNoSource, HasNoneOutside, brush_of, color_in}
+use Rattle.be_paint.specs.Laying.{IsInkRun, IsRowRun, HasNoSource, HasNoneOutside, brush_of}
 use Rattle.be_paint.specs.Stretches.{IsAhead}
 use Rattle.be_paint.specs.declared.pixel.Pixel.{Pixel}
 use Rattle.be_paint.proofs.GlyphLemmas.{row_above, row_below, text_none}

@@ -1,5 +1,9 @@
 pub mod StretchLemmas
 pub mod PlaceLemmas
+pub mod ReachLemmas
+pub mod AreaLemmas
+pub mod RowLemmas
+pub mod ExposingLemmas
 pub mod InkLemmas
 pub mod GlyphLemmas
 pub mod DrawingLemmas

@@ -1,6 +1,6 @@
 -- Cells painted run by run and row by row.
 use Rattle.std.specs.Prelude.{unsigned_abs, option_map, if◌then◌else◌}
-use Rattle.std.proofs.Common.{◌≡◌, ◌⊎◌, ℕ, ℤ, pos, negsuc, ◌+ℤ◌, ◌-ℤ◌, ◌≤ℤ◌, ◌<ℤ◌, Bool, true, false, ◌&&◌, List, Option, Some, None, inl, inr, refl, sym, ap, subst, ◌∙◌, arith}
+use Rattle.std.proofs.Common.{◌≡◌, ◌⊎◌, ℕ, ℤ, pos, ◌+ℤ◌, ◌-ℤ◌, ◌≤ℤ◌, ◌<ℤ◌, Bool, true, false, ◌&&◌, List, Option, None, inl, inr, refl, sym, ap, subst, ◌∙◌, arith}
 use Rattle.std.proofs.lemmas.Int.{ints, by_lt_z}
 use Rattle.be_geom.specs.declared.rect.Rect.{Rect}
 use Rattle.be_geom.specs.Points.{between}
@@ -9,36 +9,19 @@ use Rattle.be_geom.proofs.Between.{between_tells}
 use Rattle.be_region.specs.Regions.{region_has}
 use Rattle.be_span.specs.declared.Cell.{Cell}
 use Rattle.be_span.specs.declared.brush.Source.{Source}
-use Rattle.be_span.specs.Runs.{IsBeside}
 use Rattle.be_span.specs.Spans.{Spans, cell_in}
 use Rattle.be_state.specs.declared.State.{State}
 use Rattle.be_paint.specs.Laying.{drawn_cell, run_cell, source_in, IsRunOf}
 use Rattle.be_paint.specs.Inks.{laid_on_cell}
-use Rattle.be_paint.specs.Seen.{is_free}
+use Rattle.be_paint.specs.Seen.{may_draw}
 use Rattle.be_paint.specs.declared.drawing.Drawing.{Drawing}
 use Rattle.be_paint.proofs.DrawingLemmas.{not_owned}
+use Rattle.be_paint.proofs.RowLemmas.{abs_is, same_map, kept_map}
 
--- ---- numbers and options
-
-abs_is : (z : ℤ) → pos 0 ≤ℤ z → pos (unsigned_abs z) ≡ z
-abs_is (pos n) h = refl
-abs_is (negsuc n) h = absurd (omega (arith, ints))
+-- ---- numbers
 
 pub count_is : (x last : ℤ) → x ≤ℤ last → pos (unsigned_abs (last -ℤ x +ℤ pos 1)) ≡ last -ℤ x +ℤ pos 1
 count_is x last h = abs_is (last -ℤ x +ℤ pos 1) (omega (arith, ints))
-
-pub same_map : (f g : Cell → Cell) → ((c : Cell) → f c ≡ g c) → (o : Option Cell) → option_map f o ≡ option_map g o
-same_map f g h None = refl
-same_map f g h (Some c) = ap Some (h c)
-
-pub kept_map : (f : Cell → Cell) → ((c : Cell) → f c ≡ c) → (o : Option Cell) → o ≡ option_map f o
-kept_map f h None = refl
-kept_map f h (Some c) = ap Some (sym (h c))
-
-pub beside_run : (x y last z w : ℤ) (n : ℕ) → pos n ≡ last -ℤ x +ℤ pos 1 → (w ≡ y → ⊥) ⊎ (z <ℤ x) ⊎ (last <ℤ z) → IsBeside x y n z w
-beside_run x y last z w n e (inl other) = inl other
-beside_run x y last z w n e (inr (inl left)) = inr (inl left)
-beside_run x y last z w n e (inr (inr right)) = inr (inr (omega (arith, ints)))
 
 -- ---- runs
 
@@ -80,7 +63,7 @@ same_both false c = refl
 -- a pixel on which the ink lays nothing stays
 pub stays_bare : (rects : List Rect) (d : Drawing) (x y : ℤ) (o : Option Cell) → source_in d x y ≡ None → o ≡ option_map (drawn_cell rects d x y) o
 stays_bare rects d x y o e =
-    let b = region_has rects x y && is_free d.reach.now d.view x y in
+    let b = may_draw rects d.reach.now d.view x y in
     kept_map (drawn_cell rects d x y) (λ c. ap (λ s. if b then laid_on_cell d.reach.now.states.now.top.state c s else c) e ∙ same_both b c) o
 
 outside_edges : (b : Bool) → (b ≡ true → ⊥) → b ≡ false

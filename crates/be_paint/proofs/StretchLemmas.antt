@@ -1,6 +1,8 @@
 -- Answers that hold along a row: moved from one kind of coordinates to another, and joined.
 use Rattle.std.proofs.Common.{◌≡◌, ℤ, ◌+ℤ◌, ◌-ℤ◌, ◌≤ℤ◌, ◌⊎◌, Bool, true, false, ◌&&◌, SFits, w16, w32, arith, rules, sym, ap, ◌∙◌, refl}
-use Rattle.std.proofs.lemmas.Int.{ints}
+use Rattle.std.proofs.lemmas.Int.{ints, clamps}
+use Rattle.std.specs.Prelude.{if◌then◌else◌}
+use Rattle.std.specs.Int.{int_min}
 use Rattle.be_region.specs.Runs.{IsRun}
 use Rattle.be_views.specs.Places.{IsNear}
 use Rattle.be_paint.specs.Stretches.{IsStretch, IsCoordinate}
@@ -10,11 +12,17 @@ use Rattle.be_paint.specs.Stretches.{IsStretch, IsCoordinate}
 pub less_fits : (x w : ℤ) → IsCoordinate x → SFits w16 w → SFits w32 (x -ℤ w)
 less_fits x w (low, high) f = search rules
 
+pub near_fits : (x w : ℤ) → IsNear 3 x → SFits w16 w → SFits w32 (x -ℤ w)
+near_fits x w (low, high) f = search rules
+
 pub within_fits : (x w p : ℤ) → IsCoordinate x → SFits w16 w → IsNear 32 p → SFits w32 (x -ℤ w -ℤ p)
 within_fits x w p (low, high) f (least, most) = search rules
 
 pub offset_fits : (w p : ℤ) → SFits w16 w → IsNear 32 p → SFits w32 (w +ℤ p)
 offset_fits w p f (least, most) = search rules
+
+pub origin_fits : (w p b : ℤ) → SFits w16 w → IsNear 32 p → IsNear 17 b → SFits w32 (w +ℤ p +ℤ b)
+origin_fits w p b f (least, most) (low, high) = search rules
 
 -- ---- stretches
 
@@ -27,6 +35,16 @@ moved_run f s x off end last r shift run ahead within lasts one =
       forward = omega (arith, ints);
       within = within;
       same = λ z from to. let sz = shift z in run.same (s z) (omega (arith, ints)) (omega (arith, ints));
+    }
+
+-- a run that is cut at the end
+pub cut_run : {A : Type 0} (f : ℤ → A) (x end last r : ℤ) → IsRun f x last → x ≤ℤ end → r ≡ int_min last end → IsStretch f x end r
+cut_run f x end last r run ahead e =
+    let forward = run.forward in
+    record {
+      forward = omega (arith, ints, clamps);
+      within = omega (arith, ints, clamps);
+      same = λ z from to. run.same z from (omega (arith, ints, clamps));
     }
 
 pub both_false : (a b : Bool) → a ≡ false → (a && b) ≡ false
@@ -54,6 +72,25 @@ yes_stretch f g x end mid last h first k =
       forward = k.forward;
       within = omega (arith, ints);
       same = λ z from to. both_true (f z) (g z) (h.same z from (omega (arith, ints)) ∙ first) ∙ k.same z from to ∙ sym (both_true (f x) (g x) first);
+    }
+
+-- where the first says no, the answer is the one that is left
+pub no_answer : {A : Type 0} (f : ℤ → Bool) (g : ℤ → A) (d : A) (x end last : ℤ) → IsStretch f x end last → f x ≡ false → IsStretch (λ z. if f z then g z else d) x end last
+no_answer f g d x end last h first = record {
+  forward = h.forward;
+  within = h.within;
+  same = λ z from to. ap (λ b. if b then g z else d) (h.same z from to ∙ first) ∙ sym (ap (λ b. if b then g x else d) first);
+}
+
+-- where it says yes, the answer is the second's
+pub yes_answer : {A : Type 0} (f : ℤ → Bool) (g : ℤ → A) (d : A) (x end mid last : ℤ) → IsStretch f x end mid → f x ≡ true → IsStretch g x mid last → IsStretch (λ z. if f z then g z else d) x end last
+yes_answer f g d x end mid last h first k =
+    let a = h.within in
+    let b = k.within in
+    record {
+      forward = k.forward;
+      within = omega (arith, ints);
+      same = λ z from to. ap (λ b. if b then g z else d) (h.same z from (omega (arith, ints)) ∙ first) ∙ k.same z from to ∙ sym (ap (λ b. if b then g x else d) first);
     }
 
 -- what follows from an answer stays as long

@@ -1,9 +1,8 @@
 -- What a run of an ink is, and what it makes of the cells of a row (this project's own).
-use Rattle.std.specs.Prelude.{◌≡◌, ℕ, ℤ, pos, ◌+ℤ◌, ◌-ℤ◌, ◌≤ℤ◌, ◌<ℤ◌, ◌⊎◌, false, ◌&&◌, List, Option, Some, None, option_map, slice_get, if◌then◌else◌}
+use Rattle.std.specs.Prelude.{◌≡◌, ℕ, ℤ, pos, ◌+ℤ◌, ◌-ℤ◌, ◌≤ℤ◌, ◌<ℤ◌, ◌⊎◌, false, List, Option, Some, None, option_map, slice_get, if◌then◌else◌}
 use Rattle.be_geom.specs.Places.{at_pixel}
 use Rattle.be_geom.specs.declared.rect.Rect.{Rect}
 use Rattle.be_color.specs.declared.colors.Color.{Color}
-use Rattle.be_region.specs.Regions.{region_has}
 use Rattle.be_span.specs.declared.Cell.{Cell}
 use Rattle.be_span.specs.declared.brush.Brush.{Brush}
 use Rattle.be_span.specs.declared.brush.Source.{Source}
@@ -11,7 +10,7 @@ use Rattle.be_span.specs.Slices as slices
 use Rattle.be_state.specs.declared.State.{State}
 use Rattle.be_paint.specs.Inks as inks
 use Rattle.be_paint.specs.Inks.{source_at, laid_on_cell}
-use Rattle.be_paint.specs.Seen.{is_free}
+use Rattle.be_paint.specs.Seen.{may_draw}
 use Rattle.be_paint.specs.declared.ink.Ink.{Ink}
 use Rattle.be_paint.specs.declared.ink.Ink.TheVariants.{Shape, Text, Image}
 use Rattle.be_paint.specs.declared.drawing.Drawing.{Drawing}
@@ -73,7 +72,7 @@ IsDrawnBy d x y source k =
 -- a cell of the screen after a drawing, where the window owns the pixels of the region
 abbrev pub drawn_cell : List Rect → Drawing → ℤ → ℤ → Cell → Cell
 drawn_cell rects d x y c =
-    if region_has rects x y && is_free d.reach.now d.view x y then laid_on_cell d.reach.now.states.now.top.state c (source_in d x y) else c
+    if may_draw rects d.reach.now d.view x y then laid_on_cell d.reach.now.states.now.top.state c (source_in d x y) else c
 
 -- the k-th cell of a run
 abbrev pub run_cell : State → Option Source → ℕ → Cell → Cell

@@ -36,12 +36,7 @@ impl Drawing<'_> {
         ensures inside { IsSome result.0 → (z : ℤ) → x ≤ℤ z → z ≤ℤ result.1
             → region_has owned.now z y ≡ true }
     {
-        let (has, last) = owned.run_at(x, y);
-        let last = last.min(end);
-        if !has {
-            return (None, last);
-        }
-        let (free, last) = self.reach.run_at(self.view, x, y, last);
+        let (free, last) = self.reach.run_at(owned, self.view, x, y, end);
         if !free {
             return (None, last);
         }

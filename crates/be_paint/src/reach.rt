@@ -1,11 +1,13 @@
-ghost use Rattle.std.specs.Prelude.{◌≡◌, ℤ, pos, negsuc, ◌-ℤ◌, ◌≤ℤ◌};
+ghost use Rattle.std.specs.Prelude.{◌≡◌, ℤ, pos, negsuc, ◌-ℤ◌, ◌≤ℤ◌, None, IfNone, IfSome};
 ghost use Rattle.be_geom.specs.Numbers.{is_number};
 ghost use Rattle.be_state.specs.Stacks.{allows};
-ghost use Rattle.be_views.specs.Pixels.{view_at};
-ghost use Rattle.be_paint.specs.Seen.{is_at, is_allowed, is_open, is_free, IsPlace};
+ghost use Rattle.be_views.specs.Places.{IsNear};
+ghost use Rattle.be_views.specs.Trees.{place_of};
+ghost use Rattle.be_paint.specs.Seen.{view_on, is_own, is_allowed, is_open, may_draw, IsPlace, IsOrigin, IsSite};
 ghost use Rattle.be_paint.specs.Stretches.{IsStretch, IsCoordinate};
 
 use crate::pixel::{Pixel, last_column};
+use crate::place::place_of;
 use be_geom::Point;
 use be_region::Region;
 use be_state::StateStack;
@@ -23,20 +25,53 @@ pub struct Reach<'a> {
     pub session: Option<&'a Region>,
 }
 
+/// Where a view draws.
+#[derive(Clone, Copy)]
+pub(crate) struct Site {
+    /// The view's left top, in window coordinates.
+    pub view: Pixel,
+    /// The pixel of the screen from which drawing counts.
+    pub origin: Pixel,
+}
+
 impl Reach<'_> {
-    /// Whether the view may draw on a pixel of the screen that the window owns, and the last column, `end` at most, up
-    /// to which that stays so at least. `place` is the view's left top in window coordinates.
-    pub(crate) fn run_at(&self, place: Pixel, x: i32, y: i32, end: i32) -> (bool, i32)
+    /// Where the view draws. None where there is no such view.
+    pub(crate) fn site(&self) -> Option<Site>
+        ensures none { IfNone result (place_of self.now.tree.now self.now.view ≡ None) }
+        ensures some { IfSome result (λ site. IsSite self.now site) }
+        ensures near { IfSome result (λ site. IsPlace site.view × IsOrigin site.origin) }
+    {
+        let (x, y) = place_of(self.tree, self.view)?;
+        let (right, down) = self.states.base();
+        Some(Site {
+            view: Pixel { x, y },
+            origin: Pixel {
+                x: i32::from(self.window.x) + x + right,
+                y: i32::from(self.window.y) + y + down,
+            },
+        })
+    }
+
+    /// Whether the view may draw on a pixel of the screen, and the last column, `end` at most, up to which that stays so
+    /// at least. `owned` is what the window owns, `place` the view's left top in window coordinates.
+    pub(crate) fn run_at(
+        &self,
+        owned: &Region,
+        place: Pixel,
+        x: i32,
+        y: i32,
+        end: i32,
+    ) -> (bool, i32)
         requires place { IsPlace place }
         requires row { IsCoordinate y }
         requires left { negsuc 32767 ≤ℤ x }
         requires forward { x ≤ℤ end }
         requires right { end ≤ℤ pos 32767 }
-        ensures answer { result.0 ≡ is_free self.now place x y }
-        ensures run { IsStretch (λ z. is_free self.now place z y) x end result.1 }
+        ensures answer { result.0 ≡ may_draw owned.now self.now place x y }
+        ensures run { IsStretch (λ z. may_draw owned.now self.now place z y) x end result.1 }
     {
-        let (here, last) = self.view_run(x, y, end);
-        if !here {
+        let (own, last) = self.own_run(owned, x, y, end);
+        if !own {
             return (false, last);
         }
         let (allowed, last) = self.clip_run(place, x, y, last);
@@ -46,19 +81,37 @@ impl Reach<'_> {
         self.session_run(x, y, last)
     }
 
-    /// The same of the view that is at the pixel.
-    fn view_run(&self, x: i32, y: i32, end: i32) -> (bool, i32)
-        requires row { IsCoordinate y }
-        requires left { negsuc 32767 ≤ℤ x }
+    /// Whether the window owns a pixel and the view is at it, and so on.
+    pub(crate) fn own_run(&self, owned: &Region, x: i32, y: i32, end: i32) -> (bool, i32)
+        requires row { IsNear 3 y }
+        requires left { IsNear 3 x }
         requires forward { x ≤ℤ end }
-        requires right { end ≤ℤ pos 32767 }
-        ensures answer { result.0 ≡ is_at self.now x y }
-        ensures run { IsStretch (λ z. is_at self.now z y) x end result.1 }
+        requires right { IsNear 3 end }
+        ensures answer { result.0 ≡ is_own owned.now self.now x y }
+        ensures run { IsStretch (λ z. is_own owned.now self.now z y) x end result.1 }
+    {
+        let (has, last) = owned.run_at(x, y);
+        let last = last.min(end);
+        if !has {
+            return (false, last);
+        }
+        let (view, last) = self.view_run(x, y, last);
+        (is_number(view, self.view), last)
+    }
+
+    /// The same of the number of the view that is at the pixel.
+    pub(crate) fn view_run(&self, x: i32, y: i32, end: i32) -> (Option<u16>, i32)
+        requires row { IsNear 3 y }
+        requires left { IsNear 3 x }
+        requires forward { x ≤ℤ end }
+        requires right { IsNear 3 end }
+        ensures answer { result.0 ≡ view_on self.now x y }
+        ensures run { IsStretch (λ z. view_on self.now z y) x end result.1 }
     {
         let left = i32::from(self.window.x);
         let top = i32::from(self.window.y);
         let (view, last) = self.tree.run_at(x - left, y - top);
-        (is_number(view, self.view), last_column(last, left, end))
+        (view, last_column(last, left, end))
     }
 
     /// The same of all clips.

@@ -1,7 +1,7 @@
 use Rattle.std.proofs.lemmas.Bool.Decides.{nat_tests}
 use Rattle.std.specs.Prelude.{nat_lt, cond, unsigned_abs}
 use Rattle.be_bitmap.specs.Sides.{is_too_large}
-use Rattle.std.proofs.Common.{◌≡◌, ◌≤◌, ◌-◌, ℕ, Bool, true, false, length, pos, ap, ◌∙◌, rules, SFits, w16, w32, sym, ◌-ℤ◌, arith}
+use Rattle.std.proofs.Common.{◌≡◌, ◌≤◌, ◌-◌, ℕ, Bool, true, false, length, pos, ap, ◌∙◌, rules, SFits, w16, w32, ◌-ℤ◌, arith}
 use Rattle.std.proofs.lemmas.Int.{to_z-of_z, ints}
 use Rattle.be_span.proofs.GridLemmas.{pos_abs}
 use Rattle.be_paint.proofs.InkLemmas.{image_left, image_above, image_below, image_row}

@@ -1,6 +1,5 @@
-use Rattle.std.proofs.Common.{◌≡◌, ◌<◌, ◌≤ℤ◌, ℕ, Some, rules, SFits, w32, pos, ◌+ℤ◌, ◌-ℤ◌, sym, ap, ◌∙◌, arith}
+use Rattle.std.proofs.Common.{◌≡◌, pos, ◌+ℤ◌, ◌-ℤ◌, sym, arith}
 use Rattle.std.proofs.lemmas.Int.{ints, to_z-of_z}
-use Rattle.std.specs.Option.{option_copied}
 use Rattle.be_paint.proofs.ink.row_run.Goals as goal
 
 pub last_of-requires-clause-some : goal.last_of-requires-clause-some

@@ -1,5 +1,3 @@
-use Rattle.std.proofs.Common.{refl, Option, Some, None, ℤ, rules, ◌≡◌}
-use Rattle.std.specs.Prelude.{MatchOption}
 use Rattle.be_paint.proofs.InkLemmas.{shape_rows_of}
 use Rattle.be_paint.proofs.ink.shape_rows.Goals as goal
 

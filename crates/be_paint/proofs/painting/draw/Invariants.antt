@@ -1,4 +1,4 @@
-use Rattle.std.proofs.Common.{◌≡◌, ℤ, pos, ◌≤ℤ◌, ◌<ℤ◌, count_by}
+use Rattle.std.proofs.Common.{◌≡◌, ℤ, ◌≤ℤ◌, ◌<ℤ◌, count_by}
 use Rattle.std.specs.Option.{option_map}
 use Rattle.be_span.specs.Spans.{cell_in}
 use Rattle.be_state.proofs.PartLemmas.{columns_after}

@@ -5,7 +5,7 @@ use Rattle.be_region.specs.Regions.{region_has}
 use Rattle.be_paint.specs.Inks.{painted_cell}
 use Rattle.be_paint.specs.Laying.{drawn_cell, ink_of}
 use Rattle.be_paint.specs.declared.drawing.Drawing.{Drawing}
-use Rattle.be_paint.proofs.PaintLemmas.{same_map}
+use Rattle.be_paint.proofs.RowLemmas.{same_map}
 use Rattle.be_paint.proofs.SeenLemmas.{drawn_is, place_seen}
 use Rattle.be_paint.proofs.painting.paint.Goals as goal
 

@@ -1,7 +1,8 @@
 use Rattle.std.specs.Prelude.{unsigned_abs, IsSome}
 use Rattle.std.proofs.Common.{rules, SFits, w32, refl, sym, subst, pos, ◌+ℤ◌, ◌-ℤ◌, arith}
 use Rattle.std.proofs.lemmas.Int.{to_z-of_z, ints}
-use Rattle.be_paint.proofs.PaintLemmas.{count_is, beside_run}
+use Rattle.be_paint.proofs.PaintLemmas.{count_is}
+use Rattle.be_paint.proofs.RowLemmas.{beside_run}
 use Rattle.be_paint.proofs.painting.paint_run.Goals as goal
 
 pub paint_row-requires : goal.paint_row-requires

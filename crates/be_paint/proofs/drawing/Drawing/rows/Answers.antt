@@ -1,5 +1,5 @@
-use Rattle.std.proofs.Common.{rules, SFits, w32, arith, ◌+ℤ◌}
-use Rattle.std.proofs.lemmas.Int.{to_z-of_z, ints}
+use Rattle.std.proofs.Common.{rules, SFits, w32, ◌+ℤ◌}
+use Rattle.std.proofs.lemmas.Int.{to_z-of_z}
 use Rattle.be_paint.proofs.DrawingLemmas.{nothing_outside}
 use Rattle.be_paint.proofs.drawing.Drawing.rows.Goals as goal
 

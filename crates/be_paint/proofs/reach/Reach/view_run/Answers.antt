@@ -1,9 +1,27 @@
-use Rattle.std.proofs.Common.{◌≡◌, ◌-ℤ◌, rules, SFits, w16, w32, ◌∙◌, ap, refl}
-use Rattle.std.proofs.lemmas.Int.{to_z-of_z}
-use Rattle.be_geom.specs.Numbers.{is_number}
+use Rattle.std.proofs.Common.{◌≡◌, ◌-ℤ◌, ◌≤ℤ◌, rules, arith, SFits, w16, w32, refl}
+use Rattle.std.proofs.lemmas.Int.{to_z-of_z, ints}
 use Rattle.be_views.specs.Pixels.{view_at}
-use Rattle.be_paint.proofs.StretchLemmas.{less_fits, moved_run, mapped}
+use Rattle.be_paint.proofs.StretchLemmas.{near_fits, moved_run}
 use Rattle.be_paint.proofs.reach.Reach.view_run.Goals as goal
+
+pub last_column-requires-clause-low : goal.last_column-requires-clause-low
+last_column-requires-clause-low c =
+    let x = c.ranges.x in
+    let y = c.ranges.y in
+    let end = c.ranges.end in
+    let wx : SFits w16 c.args.self.now.window.x = search rules in
+    let wy : SFits w16 c.args.self.now.window.y = search rules in
+    let vx : SFits w32 c.args.self.now.window.x = search rules in
+    let vy : SFits w32 c.args.self.now.window.y = search rules in
+    let fx = near_fits c.args.x c.args.self.now.window.x c.requires.left wx in
+    let fy = near_fits c.args.y c.args.self.now.window.y c.requires.row wy in
+    let left : c.from-left.result ≡ c.args.self.now.window.x = simp to_z-of_z at c.from-left.ensures in
+    let top : c.from-top.result ≡ c.args.self.now.window.y = simp to_z-of_z at c.from-top.ensures in
+    let l : SFits w32 c.run_at-view.result.1 = search rules in
+    let run = simp to_z-of_z at (rw (left, top) at c.run_at-view.ensures.run) in
+    let forward : (c.args.x -ℤ c.args.self.now.window.x) ≤ℤ c.run_at-view.result.1 = run.forward in
+    let least = c.requires.left.0 in
+    rw left (simp to_z-of_z (omega (arith, ints)))
 
 pub returns-clause-answer : goal.returns-clause-answer
 returns-clause-answer c =
@@ -14,11 +32,11 @@ returns-clause-answer c =
     let wy : SFits w16 c.args.self.now.window.y = search rules in
     let vx : SFits w32 c.args.self.now.window.x = search rules in
     let vy : SFits w32 c.args.self.now.window.y = search rules in
-    let fx = less_fits c.args.x c.args.self.now.window.x (c.requires.left, search rules) wx in
-    let fy = less_fits c.args.y c.args.self.now.window.y c.requires.row wy in
+    let fx = near_fits c.args.x c.args.self.now.window.x c.requires.left wx in
+    let fy = near_fits c.args.y c.args.self.now.window.y c.requires.row wy in
     let left : c.from-left.result ≡ c.args.self.now.window.x = simp to_z-of_z at c.from-left.ensures in
     let top : c.from-top.result ≡ c.args.self.now.window.y = simp to_z-of_z at c.from-top.ensures in
-    c.is_number.ensures ∙ ap (is_number c.args.self.now.view) (simp to_z-of_z at (rw (left, top) at c.run_at-view.ensures.answer))
+    simp to_z-of_z at (rw (left, top) at c.run_at-view.ensures.answer)
 
 pub returns-clause-run : goal.returns-clause-run
 returns-clause-run c =
@@ -29,8 +47,8 @@ returns-clause-run c =
     let wy : SFits w16 c.args.self.now.window.y = search rules in
     let vx : SFits w32 c.args.self.now.window.x = search rules in
     let vy : SFits w32 c.args.self.now.window.y = search rules in
-    let fx = less_fits c.args.x c.args.self.now.window.x (c.requires.left, search rules) wx in
-    let fy = less_fits c.args.y c.args.self.now.window.y c.requires.row wy in
+    let fx = near_fits c.args.x c.args.self.now.window.x c.requires.left wx in
+    let fy = near_fits c.args.y c.args.self.now.window.y c.requires.row wy in
     let left : c.from-left.result ≡ c.args.self.now.window.x = simp to_z-of_z at c.from-left.ensures in
     let top : c.from-top.result ≡ c.args.self.now.window.y = simp to_z-of_z at c.from-top.ensures in
     let l : SFits w32 c.run_at-view.result.1 = search rules in
@@ -41,4 +59,4 @@ returns-clause-run c =
     let one = simp to_z-of_z at (rw left at c.last_column.ensures.one) in
     let tree = c.args.self.now.tree.now in
     let w = c.args.self.now.window in
-    simp to_z-of_z (mapped (is_number c.args.self.now.view) (λ z. view_at tree (z -ℤ w.x) (c.args.y -ℤ w.y)) c.args.x c.args.end c.last_column.result (moved_run (λ z. view_at tree z (c.args.y -ℤ w.y)) (λ z. z -ℤ w.x) c.args.x w.x c.args.end c.run_at-view.result.1 c.last_column.result (λ z. refl) run (search rules) within lasts one))
+    simp to_z-of_z (moved_run (λ z. view_at tree z (c.args.y -ℤ w.y)) (λ z. z -ℤ w.x) c.args.x w.x c.args.end c.run_at-view.result.1 c.last_column.result (λ z. refl) run (search rules) within lasts one)

@@ -1,0 +1,20 @@
+-- Where a view may draw.
+use Rattle.std.proofs.Common.{◌≡◌, ℤ, true, false, ◌&&◌, List, ap}
+use Rattle.std.proofs.lemmas.Bool.{and_parts}
+use Rattle.be_geom.specs.Numbers.{is_number}
+use Rattle.be_geom.specs.declared.rect.Rect.{Rect}
+use Rattle.be_region.specs.Regions.{region_has}
+use Rattle.be_paint.specs.Seen.{view_on, is_own, is_allowed, is_open, may_draw}
+use Rattle.be_paint.specs.declared.reach.Reach.{Reach}
+use Rattle.be_paint.specs.declared.pixel.Pixel.{Pixel}
+
+-- nowhere where the window doesn't own the pixel
+pub not_in : (rects : List Rect) (given : Reach) (place : Pixel) (x y : ℤ) → region_has rects x y ≡ false → may_draw rects given place x y ≡ false
+not_in rects given place x y e = ap (λ b. b && is_number given.view (view_on given x y) && is_allowed given place x y && is_open given x y) e
+
+-- what it may draw on is its own
+pub is_drawn : (rects : List Rect) (given : Reach) (place : Pixel) (x y : ℤ) → may_draw rects given place x y ≡ true → region_has rects x y ≡ true
+is_drawn rects given place x y e =
+    let both = and_parts (is_own rects given x y && is_allowed given place x y) (is_open given x y) e in
+    let own = and_parts (is_own rects given x y) (is_allowed given place x y) both.0 in
+    (and_parts (region_has rects x y) (is_number given.view (view_on given x y)) own.0).0
