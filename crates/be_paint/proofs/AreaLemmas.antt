@@ -52,6 +52,9 @@ between_fits z low high f g from to = search rules
 
 -- ---- moved rectangles
 
+abbrev at_edges : ℤ → ℤ → ℤ → ℤ → Rect
+at_edges l t r b = record { left = l; top = t; right = r; bottom = b }
+
 between_moved : (low z high d u : ℤ) → u ≡ z -ℤ d → between low u high ≡ between (low +ℤ d) z (high +ℤ d)
 between_moved low z high d u e = grind (arith, ints, between_tells)
 
@@ -59,6 +62,16 @@ pub moved_has : (r : Rect) (x y dx dy u v : ℤ) → u ≡ x -ℤ dx → v ≡ y
 moved_has r x y dx dy u v e f =
     ap (λ b. b && between r.top v r.bottom) (between_moved r.left x r.right dx u e)
     ∙ ap (λ b. between (r.left +ℤ dx) x (r.right +ℤ dx) && b) (between_moved r.top y r.bottom dy v f)
+
+same_edges : (l m t u r s b d : ℤ) → l ≡ m → t ≡ u → r ≡ s → b ≡ d → at_edges l t r b ≡ at_edges m u s d
+same_edges l m t u r s b d e f g h =
+    ap (λ (z : ℤ). at_edges z t r b) e ∙ ap (λ (z : ℤ). at_edges m z r b) f ∙ ap (λ (z : ℤ). at_edges m u z b) g ∙ ap (at_edges m u s) h
+
+pub moved_twice : (r : Rect) (a b dx dy u v : ℤ) → u ≡ dx +ℤ a → v ≡ dy +ℤ b → moved_rect (moved_rect r a b) dx dy ≡ moved_rect r u v
+moved_twice r a b dx dy u v e f = same_edges _ _ _ _ _ _ _ _ (in_turn r.left a dx u e) (in_turn r.top b dy v f) (in_turn r.right a dx u e) (in_turn r.bottom b dy v f)
+  where
+    in_turn : (z a d u : ℤ) → u ≡ d +ℤ a → z +ℤ a +ℤ d ≡ z +ℤ u
+    in_turn z a d u e = omega (arith, ints)
 
 pub less_three : (z a b c d : ℤ) → d ≡ a +ℤ b +ℤ c → z -ℤ a -ℤ b -ℤ c ≡ z -ℤ d
 less_three z a b c d e = omega (arith, ints)

@@ -4,6 +4,7 @@ pub mod ReachLemmas
 pub mod AreaLemmas
 pub mod RowLemmas
 pub mod ExposingLemmas
+pub mod MovingLemmas
 pub mod InkLemmas
 pub mod GlyphLemmas
 pub mod DrawingLemmas

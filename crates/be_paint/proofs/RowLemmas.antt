@@ -27,6 +27,12 @@ pub abs_is : (z : ℤ) → pos 0 ≤ℤ z → pos (unsigned_abs z) ≡ z
 abs_is (pos n) h = refl
 abs_is (negsuc n) h = absurd (omega (arith, ints))
 
+pub abs_less : (p q : ℤ) → pos 0 ≤ℤ p → p <ℤ q → unsigned_abs p < unsigned_abs q
+abs_less p q low less = let a = abs_is p low in let b = abs_is q (omega (arith, ints)) in omega (arith, ints)
+
+pub ahead_of : (x way sx : ℤ) (k : ℕ) → sx ≡ x -ℤ way → sx +ℤ pos k ≡ x +ℤ pos k -ℤ way
+ahead_of x way sx k e = omega (arith, ints)
+
 pub beside_run : (x y last z w : ℤ) (n : ℕ) → pos n ≡ last -ℤ x +ℤ pos 1 → (w ≡ y → ⊥) ⊎ (z <ℤ x) ⊎ (last <ℤ z) → IsBeside x y n z w
 beside_run x y last z w n e (inl other) = inl other
 beside_run x y last z w n e (inr (inl left)) = inr (inl left)
@@ -68,6 +74,25 @@ row_more rule old now new y first mid x last e low high so_far more = record {
     left z w (inr (inl before)) = inr (inl before)
     left z w (inr (inr behind)) = inr (inr (omega (arith, ints)))
 
+-- of which the right one is
+pub row_before : (rule : ℤ → Cell → Cell) (old now new : Spans) (y x mid next last : ℤ) → next ≡ mid +ℤ pos 1 → x ≤ℤ next → mid ≤ℤ last → IsRowChanged rule old now y next last → IsRowChanged rule now new y x mid → IsRowChanged rule old new y x last
+row_before rule old now new y x mid next last e low high so_far more = record {
+  inside = λ z from to. by_lt_z mid z
+      (λ behind. more.beside z y (inr (inr behind)) ∙ so_far.inside z (omega (arith, ints)) to)
+      (λ before. more.inside z from before ∙ ap (option_map (rule z)) (so_far.beside z y (inr (inl (omega (arith, ints))))));
+  beside = λ z w out. more.beside z w (left z w out) ∙ so_far.beside z w (right z w out);
+}
+  where
+    left : (z w : ℤ) → (w ≡ y → ⊥) ⊎ (z <ℤ x) ⊎ (last <ℤ z) → (w ≡ y → ⊥) ⊎ (z <ℤ x) ⊎ (mid <ℤ z)
+    left z w (inl other) = inl other
+    left z w (inr (inl before)) = inr (inl before)
+    left z w (inr (inr behind)) = inr (inr (omega (arith, ints)))
+
+    right : (z w : ℤ) → (w ≡ y → ⊥) ⊎ (z <ℤ x) ⊎ (last <ℤ z) → (w ≡ y → ⊥) ⊎ (z <ℤ next) ⊎ (last <ℤ z)
+    right z w (inl other) = inl other
+    right z w (inr (inl before)) = inr (inl (omega (arith, ints)))
+    right z w (inr (inr behind)) = inr (inr behind)
+
 -- by a rule that makes the same of these cells
 pub row_by : (rule other : ℤ → Cell → Cell) (old new : Spans) (y first last : ℤ) → ((x : ℤ) → first ≤ℤ x → x ≤ℤ last → option_map (rule x) (cell_in old x y) ≡ option_map (other x) (cell_in old x y)) → IsRowChanged rule old new y first last → IsRowChanged other old new y first last
 row_by rule other old new y first last same h = record {
@@ -103,6 +128,37 @@ area_more rule old now new r above y bottom e f low so_far row = record {
     above_side x z (inr (inl right)) = inr (inl right)
     above_side x z (inr (inr (inl top))) = inr (inr (inl top))
     above_side x z (inr (inr (inr below))) = inr (inr (inr (omega (arith, ints))))
+
+pub area_none_yet : (rule : ℤ → ℤ → Cell → Cell) (old : Spans) (r : Rect) (top : ℤ) → r.bottom <ℤ top → IsAreaChanged rule old old (record r { top = top })
+area_none_yet rule old r top h = record { inside = λ x y left right from to. absurd (omega (arith, ints)); beside = λ x y h. refl }
+
+-- one row more at the top
+pub area_before : (rule : ℤ → ℤ → Cell → Cell) (old now new : Spans) (r : Rect) (below y top : ℤ) → below ≡ y +ℤ pos 1 → top ≡ y → y ≤ℤ r.bottom → IsAreaChanged rule old now (record r { top = below }) → IsRowChanged (λ x. rule x y) now new y r.left r.right → IsAreaChanged rule old new (record r { top = top })
+area_before rule old now new r below y top e f high so_far row = record {
+  inside = λ x z left right from to. by_lt_z y z
+      (λ behind. row.beside x z (inl (λ (g : z ≡ y). absurd (omega (arith, ints)))) ∙ so_far.inside x z left right (omega (arith, ints)) to)
+      (λ before.
+      let at : y ≡ z = omega (arith, ints) in
+      let P : ℤ → Type 0 = λ w. cell_in new x w ≡ option_map (rule x w) (cell_in old x w) in
+      subst P at (row.inside x left right ∙ ap (option_map (rule x y)) (so_far.beside x y (inr (inr (inl (omega (arith, ints))))))));
+  beside = λ x z out. row.beside x z (row_side x z out) ∙ so_far.beside x z (below_side x z out);
+}
+  where
+    row_side : (x z : ℤ) → (x <ℤ r.left) ⊎ (r.right <ℤ x) ⊎ (z <ℤ top) ⊎ (r.bottom <ℤ z) → (z ≡ y → ⊥) ⊎ (x <ℤ r.left) ⊎ (r.right <ℤ x)
+    row_side x z (inl left) = inr (inl left)
+    row_side x z (inr (inl right)) = inr (inr right)
+    row_side x z (inr (inr (inl above))) = inl (λ (g : z ≡ y). omega (arith, ints))
+    row_side x z (inr (inr (inr below))) = inl (λ (g : z ≡ y). omega (arith, ints))
+
+    below_side : (x z : ℤ) → (x <ℤ r.left) ⊎ (r.right <ℤ x) ⊎ (z <ℤ top) ⊎ (r.bottom <ℤ z) → (x <ℤ r.left) ⊎ (r.right <ℤ x) ⊎ (z <ℤ below) ⊎ (r.bottom <ℤ z)
+    below_side x z (inl left) = inl left
+    below_side x z (inr (inl right)) = inr (inl right)
+    below_side x z (inr (inr (inl above))) = inr (inr (inl (omega (arith, ints))))
+    below_side x z (inr (inr (inr below))) = inr (inr (inr below))
+
+-- up to the first row
+pub area_whole : (rule : ℤ → ℤ → Cell → Cell) (old new : Spans) (r : Rect) (top : ℤ) → top ≡ r.top → IsAreaChanged rule old new (record r { top = top }) → IsAreaChanged rule old new r
+area_whole rule old new r top e h = subst (λ (b : ℤ). IsAreaChanged rule old new (record r { top = b })) e h
 
 -- down to the last row
 pub area_all : (rule : ℤ → ℤ → Cell → Cell) (old new : Spans) (r : Rect) (bottom : ℤ) → bottom ≡ r.bottom → IsAreaChanged rule old new (record r { bottom = bottom }) → IsAreaChanged rule old new r

@@ -1,5 +1,5 @@
 -- Answers that hold along a row: moved from one kind of coordinates to another, and joined.
-use Rattle.std.proofs.Common.{◌≡◌, ℤ, ◌+ℤ◌, ◌-ℤ◌, ◌≤ℤ◌, ◌⊎◌, Bool, true, false, ◌&&◌, SFits, w16, w32, arith, rules, sym, ap, ◌∙◌, refl}
+use Rattle.std.proofs.Common.{◌≡◌, ℤ, pos, negsuc, ◌+ℤ◌, ◌-ℤ◌, ◌≤ℤ◌, ◌⊎◌, Bool, true, false, ◌&&◌, SFits, w16, w32, arith, rules, sym, ap, ◌∙◌, refl}
 use Rattle.std.proofs.lemmas.Int.{ints, clamps}
 use Rattle.std.specs.Prelude.{if◌then◌else◌}
 use Rattle.std.specs.Int.{int_min}
@@ -23,6 +23,15 @@ offset_fits w p f (least, most) = search rules
 
 pub origin_fits : (w p b : ℤ) → SFits w16 w → IsNear 32 p → IsNear 17 b → SFits w32 (w +ℤ p +ℤ b)
 origin_fits w p b f (least, most) (low, high) = search rules
+
+pub way_fits : (x way : ℤ) → IsCoordinate x → IsNear 2 way → SFits w32 (x -ℤ way)
+way_fits x way (low, high) (least, most) = search rules
+
+pub back_fits : (x end way last : ℤ) → IsCoordinate x → IsCoordinate end → (x -ℤ way) ≤ℤ last → last ≤ℤ (end -ℤ way) → SFits w32 (last +ℤ way)
+back_fits x end way last (low, high) (least, most) from to = fits_z (last +ℤ way) (omega (arith, ints)) (omega (arith, ints))
+  where
+    fits_z : (z : ℤ) → negsuc 32767 ≤ℤ z → z ≤ℤ pos 32767 → SFits w32 z
+    fits_z z a b = search rules
 
 -- ---- stretches
 
@@ -91,6 +100,17 @@ yes_answer f g d x end mid last h first k =
       forward = k.forward;
       within = omega (arith, ints);
       same = λ z from to. ap (λ b. if b then g z else d) (h.same z from (omega (arith, ints)) ∙ first) ∙ k.same z from to ∙ sym (ap (λ b. if b then g x else d) first);
+    }
+
+-- a stretch in coordinates that begin at an offset
+pub moved_stretch : {A : Type 0} (f : ℤ → A) (x end last off sx send r : ℤ) → sx ≡ x -ℤ off → send ≡ end -ℤ off → r ≡ last +ℤ off → IsStretch f sx send last → IsStretch (λ z. f (z -ℤ off)) x end r
+moved_stretch f x end last off sx send r e g k h =
+    let forward = h.forward in
+    let within = h.within in
+    record {
+      forward = omega (arith, ints);
+      within = omega (arith, ints);
+      same = λ z from to. h.same (z -ℤ off) (omega (arith, ints)) (omega (arith, ints)) ∙ ap f e;
     }
 
 -- what follows from an answer stays as long
