@@ -10,6 +10,7 @@ use Rattle.be_span.specs.declared.Cell.{Cell}
 use Rattle.be_span.specs.Spans.{cell_in}
 use Rattle.be_views.specs.Trees.{Tree, View}
 use Rattle.be_pane.specs.Panes as machine
+use Rattle.be_pane.specs.SameStacks.{SameStacks}
 use Rattle.be_pane.specs.declared.pane.Pane.{Pane}
 
 -- a region has the pixels of a list, and no others; where there is no region there is no list
@@ -29,7 +30,7 @@ pub record PaneStandsFor (pane : Pane) (w : ℕ) (corner : Point) (kept : machin
   pub shown : (x y : ℤ) → owned x y ≡ true → cell_in pane.spans x y ≡ Some (cells x y)
   pub views : pane.tree ≡ tree
   pub colors : pane.colors.items ≡ kept.colors
-  pub stacks : pane.states.items ≡ kept.stacks
+  pub stacks : SameStacks pane.states.items kept.stacks
   pub session : SameSession pane.session kept.session
   pub notice : pane.notified ≡ kept.notified
 

@@ -1,29 +1,31 @@
 -- What comes of a deed, by the drawing states of its view.
-use Rattle.std.proofs.Common.{◌≡◌, ℕ, ◌<◌, ◌≤◌, zero, suc, ℤ, Bool, false, cond, List, [], ◌∷◌, length, Option, Some, None, inl, inr, arith, refl, sym, ap, ◌∙◌}
-use Rattle.std.specs.Prelude.{nat_lt, slice_get, is_some, option_and_then, option_map}
-use Rattle.std.proofs.lemmas.Bool.{true≢false, cases_lt, le-ltb, lt-ltb}
+use Rattle.std.proofs.Common.{◌≡◌, ℕ, ◌<◌, ◌≤◌, zero, suc, ℤ, Bool, false, List, [], ◌∷◌, length, Option, Some, None, inl, inr, arith, refl, sym, ap, ◌∙◌}
+use Rattle.std.specs.Prelude.{slice_get, is_some, option_and_then, option_map}
+use Rattle.std.proofs.lemmas.Bool.{true≢false, cases_lt}
 use Rattle.std.proofs.lemmas.Option.{slice_get_past}
 use Rattle.be_geom.specs.declared.point.Point.{Point}
 use Rattle.be_bitmap.specs.Pictures.{Picture}
-use Rattle.be_command.specs.Effects.{Deed, draws, pictured}
+use Rattle.be_command.specs.Effects.{Deed, Effect, at_view, changes, ends_update}
 use Rattle.be_pane.specs.Panes.{Pane}
 use Rattle.be_pane.specs.declared.pane.Pane as code
-use Rattle.be_pane.specs.StandsFor.{PaneStandsFor}
+use Rattle.be_pane.specs.SameStacks.{SameStack}
+use Rattle.be_pane.specs.StandsFor.{PaneStandsFor, IsWhole}
+use Rattle.be_pane.proofs.SameLemmas.{stacks_at}
 use Rattle.be_span.specs.declared.Cell.{Cell}
 use Rattle.be_color.specs.declared.colors.Color.{Color}
 use Rattle.be_state.specs.Stacks.{Stack}
-use Rattle.be_paint.specs.Inks.{image}
 use Rattle.be_views.specs.Trees.{Tree, place_of}
 use Rattle.be_views.specs.Places.{pair_of}
 use Rattle.be_views.specs.Whole.{IsTree}
 use Rattle.be_views.proofs.TreeLemmas.{no_place}
 use Rattle.be_twin.specs.declared.Outcome.{Outcome}
-use Rattle.be_twin.specs.declared.Outcome.TheVariants.{Done, NoBitmap, NoView}
-use Rattle.be_twin.specs.Deeds.{deed_outcome, drawn_outcome}
+use Rattle.be_twin.specs.declared.Outcome.TheVariants.{NoView}
+use Rattle.be_twin.specs.Deeds.{deed_outcome}
 use Rattle.be_twin.specs.Executed.{Sight, outcome_at, sight_by, sight_of}
-use Rattle.be_twin.specs.Judged.{AreThere, by_states}
+use Rattle.be_twin.specs.Judged.{ComesOf, IsJudged, by_states}
+use Rattle.be_twin.proofs.StackLemmas.{outcome_same}
 
-got : {A : Type 0} (xs : List A) (k : ℕ) → k < length xs → (x : A) × (slice_get xs k ≡ Some x)
+pub got : {A : Type 0} (xs : List A) (k : ℕ) → k < length xs → (x : A) × (slice_get xs k ≡ Some x)
 got [] k h = absurd (omega arith)
 got (x ∷ xs) zero h = (x, refl)
 got (x ∷ xs) (suc k) h = got xs k (omega arith)
@@ -66,52 +68,66 @@ outcome_gone : (pictures : List Picture) (deed : Deed) → outcome_at pictures d
 unfolding outcome_at
 outcome_gone pictures deed = refl
 
-there : (pane : code.Pane) (pictures : List Picture) (v : ℕ) (deed : Deed) (f : Stack → Outcome) → AreThere pane → ((s : Stack) → deed_outcome pictures s deed ≡ f s) → v < length pane.tree →
-    (w : ℕ) (corner : Point) (kept : Pane) (tree : Tree) (owned : ℤ → ℤ → Bool) (cells : ℤ → ℤ → Cell) → PaneStandsFor pane w corner kept tree owned cells →
-    by_states (slice_get pane.states.items v) f ≡ outcome_at pictures deed (sight_of corner tree kept v)
-there pane pictures v deed f are same h w corner kept tree owned cells stands =
+-- what the pane and the machine keep of a view that is there
+pub record Found (pane : code.Pane) (corner : Point) (kept : Pane) (tree : Tree) (v : ℕ) : Type 0 where
+  pub place : Point
+  pub stack : Stack
+  pub said : Stack
+  pub color : Color
+  pub placed : place_of tree v ≡ Some place
+  pub stacked : slice_get pane.states.items v ≡ Some stack
+  pub colored : slice_get pane.colors.items v ≡ Some color
+  pub same : SameStack stack said
+  pub sight : sight_of corner tree kept v ≡ Some (sight_by corner tree kept v place said color)
+
+pub found_at : (pane : code.Pane) (v w : ℕ) (corner : Point) (kept : Pane) (tree : Tree) (owned : ℤ → ℤ → Bool) (cells : ℤ → ℤ → Cell) → IsTree pane.tree → IsWhole pane → v < length pane.tree → PaneStandsFor pane w corner kept tree owned cells → Found pane corner kept tree v
+found_at pane v w corner kept tree owned cells whole are h stands =
     let drawn = are.drawn in
     let colored = are.colored in
-    let place = placed pane.tree v are.tree h in
+    let place = placed pane.tree v whole h in
     let stack = got pane.states.items v (omega arith) in
     let color = got pane.colors.items v (omega arith) in
-    ap (λ o. by_states o f) stack.1
-    ∙ sym (same stack.0)
-    ∙ sym (outcome_there pictures deed corner tree kept v place.0 stack.0 color.0)
-    ∙ sym (ap (outcome_at pictures deed) (sight_there corner tree kept v place.0 stack.0 color.0
-    (ap (λ (t : Tree). place_of t v) (sym stands.views) ∙ place.1)
-    (ap (λ (l : List Stack). slice_get l v) (sym stands.stacks) ∙ stack.1)
-    (ap (λ (l : List Color). slice_get l v) (sym stands.colors) ∙ color.1)))
+    let said = stacks_at pane.states.items kept.stacks v stack.0 stands.stacks stack.1 in
+    let there = ap (λ (t : Tree). place_of t v) (sym stands.views) ∙ place.1 in
+    let shown = ap (λ (l : List Color). slice_get l v) (sym stands.colors) ∙ color.1 in
+    record {
+      place = place.0;
+      stack = stack.0;
+      said = said.0;
+      color = color.0;
+      placed = there;
+      stacked = stack.1;
+      colored = color.1;
+      same = said.1.1;
+      sight = sight_there corner tree kept v place.0 said.0 color.0 there said.1.0 shown;
+    }
 
-gone : (pane : code.Pane) (pictures : List Picture) (v : ℕ) (deed : Deed) (f : Stack → Outcome) → AreThere pane → length pane.tree ≤ v →
-    (w : ℕ) (corner : Point) (kept : Pane) (tree : Tree) (owned : ℤ → ℤ → Bool) (cells : ℤ → ℤ → Cell) → PaneStandsFor pane w corner kept tree owned cells →
-    by_states (slice_get pane.states.items v) f ≡ outcome_at pictures deed (sight_of corner tree kept v)
-gone pane pictures v deed f are h w corner kept tree owned cells stands =
+pub not_found : (pane : code.Pane) (v w : ℕ) (corner : Point) (kept : Pane) (tree : Tree) (owned : ℤ → ℤ → Bool) (cells : ℤ → ℤ → Cell) → IsTree pane.tree → length pane.tree ≤ v → PaneStandsFor pane w corner kept tree owned cells → sight_of corner tree kept v ≡ None
+not_found pane v w corner kept tree owned cells whole h stands =
+    sight_gone corner tree kept v (ap (λ (t : Tree). place_of t v) (sym stands.views) ∙ none_of (place_of pane.tree v) ((no_place pane.tree v whole).1 h))
+
+there : (pane : code.Pane) (pictures : List Picture) (v : ℕ) (deed : Deed) (corner : Point) (kept : Pane) (tree : Tree) → Found pane corner kept tree v → by_states (slice_get pane.states.items v) (λ s. deed_outcome pictures s deed) ≡ outcome_at pictures deed (sight_of corner tree kept v)
+there pane pictures v deed corner kept tree found =
+    ap (λ o. by_states o (λ s. deed_outcome pictures s deed)) found.stacked
+    ∙ outcome_same pictures deed found.stack found.said found.same
+    ∙ sym (outcome_there pictures deed corner tree kept v found.place found.said found.color)
+    ∙ sym (ap (outcome_at pictures deed) found.sight)
+
+gone : (pane : code.Pane) (pictures : List Picture) (v : ℕ) (deed : Deed) (corner : Point) (kept : Pane) (tree : Tree) → IsWhole pane → length pane.tree ≤ v → sight_of corner tree kept v ≡ None → by_states (slice_get pane.states.items v) (λ s. deed_outcome pictures s deed) ≡ outcome_at pictures deed (sight_of corner tree kept v)
+gone pane pictures v deed corner kept tree are h none =
     let drawn = are.drawn in
-    ap (λ o. by_states o f) (slice_get_past pane.states.items v (omega arith))
+    ap (λ o. by_states o (λ s. deed_outcome pictures s deed)) (slice_get_past pane.states.items v (omega arith))
     ∙ sym (outcome_gone pictures deed)
-    ∙ sym (ap (outcome_at pictures deed) (sight_gone corner tree kept v (ap (λ (t : Tree). place_of t v) (sym stands.views) ∙ none_of (place_of pane.tree v) ((no_place pane.tree v are.tree).1 h))))
+    ∙ sym (ap (outcome_at pictures deed) none)
 
--- what comes of a deed by the pane's states is what comes of it in the window
-pub at_deed : (pane : code.Pane) (pictures : List Picture) (v : ℕ) (deed : Deed) (f : Stack → Outcome) (outcome : Outcome) → AreThere pane → ((s : Stack) → deed_outcome pictures s deed ≡ f s) → outcome ≡ by_states (slice_get pane.states.items v) f →
+-- what comes of an effect by what the pane keeps is what comes of it in the window
+pub judged_as : (pictures : List Picture) (effect : Effect) (outcome : Outcome) (pane : code.Pane) → IsWhole pane → IsJudged pictures pane effect outcome →
     (w : ℕ) (corner : Point) (kept : Pane) (tree : Tree) (owned : ℤ → ℤ → Bool) (cells : ℤ → ℤ → Cell) → PaneStandsFor pane w corner kept tree owned cells →
-    outcome ≡ outcome_at pictures deed (sight_of corner tree kept v)
-at_deed pane pictures v deed f outcome are same e w corner kept tree owned cells stands =
-    e ∙ elim (cases_lt v (length pane.tree)) [
-      | inl less ↦ there pane pictures v deed f are same less w corner kept tree owned cells stands
-      | inr more ↦ gone pane pictures v deed f are more w corner kept tree owned cells stands
-    ]
-
-drawn_is : (o : Option Picture) (at : Point) (b : Bool) → is_some o ≡ b → drawn_outcome (option_map (λ picture. image picture at) o) ≡ cond b Done NoBitmap
-drawn_is (Some picture) at b h = ap (λ v. cond v Done NoBitmap) h
-drawn_is None at b h = ap (λ v. cond v Done NoBitmap) h
-
-is_there : (pictures : List Picture) (k : ℕ) → is_some (slice_get pictures k) ≡ nat_lt k (length pictures)
-is_there pictures k =
-    elim (cases_lt k (length pictures)) [
-      | inl less ↦ ap (λ o. is_some o) (got pictures k less).1 ∙ sym (lt-ltb k (length pictures) less)
-      | inr more ↦ ap (λ o. is_some o) (slice_get_past pictures k more) ∙ sym (le-ltb k (length pictures) more)
-    ]
-
-pub picture_there : (pictures : List Picture) (k : ℕ) (at : Point) (s : Stack) → deed_outcome pictures s (draws (pictured k at)) ≡ cond (nat_lt k (length pictures)) Done NoBitmap
-picture_there pictures k at s = drawn_is (slice_get pictures k) at (nat_lt k (length pictures)) (is_there pictures k)
+    ComesOf pictures corner tree kept effect outcome
+judged_as pictures (at_view v deed) outcome pane are judged w corner kept tree owned cells stands =
+    judged.comes ∙ (elim (cases_lt v (length pane.tree)) [
+      | inl less ↦ there pane pictures v deed corner kept tree (found_at pane v w corner kept tree owned cells judged.tree are less stands)
+      | inr more ↦ gone pane pictures v deed corner kept tree are more (not_found pane v w corner kept tree owned cells judged.tree more stands)
+    ])
+judged_as pictures (changes change) outcome pane are judged w corner kept tree owned cells stands = tt
+judged_as pictures ends_update outcome pane are judged w corner kept tree owned cells stands = judged

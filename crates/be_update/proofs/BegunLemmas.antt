@@ -11,8 +11,10 @@ use Rattle.be_span.specs.Cells.{unmarked}
 use Rattle.be_span.specs.Spans.{cell_in, is_dirty}
 use Rattle.be_span.proofs.CellLemmas.{cell_none}
 use Rattle.be_span.proofs.GridLemmas.{either}
+use Rattle.be_state.specs.Stacks.{Stack}
 use Rattle.be_views.specs.Trees.{Tree}
 use Rattle.be_pane.specs.Panes as machine
+use Rattle.be_pane.specs.SameStacks.{SameStacks}
 use Rattle.be_pane.specs.declared.pane.Pane.{Pane}
 use Rattle.be_pane.specs.StandsFor.{PaneStandsFor, SameSession}
 use Rattle.be_update.specs.Sessions.{session_of, with_session}
@@ -47,7 +49,7 @@ begun_stands s old new w corner kept tree owned cells dirty survey begun stands 
   shown = λ x y h. begun.cells x y ∙ ap (option_map unmarked) (stands.shown x y h) ∙ ap (λ (c : Cell). Some c) (sym (cleaned_there owned cells x y h));
   views = begun.tree ∙ stands.views;
   colors = begun.colors ∙ stands.colors;
-  stacks = begun.states ∙ stands.stacks;
+  stacks = subst (λ (l : List Stack). SameStacks l kept.stacks) (sym begun.states) stands.stacks;
   session = subst (λ (r : Option (List Rect)). SameSession r (Some (session_of corner dirty))) (sym begun.session) (session_same s old w corner kept tree owned cells dirty survey stands are);
   notice = begun.notice;
 }
