@@ -1,2 +1,3 @@
 pub mod StackLemmas
 pub mod JudgedLemmas
+pub mod MadeLemmas

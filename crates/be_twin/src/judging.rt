@@ -16,8 +16,8 @@ use be_command::Command;
 use be_pane::Pane;
 use be_state::StateStack;
 
-/// What comes of a command that is no change of its window. It takes a constant number of steps, and
-/// no memory.
+/// What comes of a command that is no change of its window. It takes a constant number of steps,
+/// and no memory.
 pub fn judge(pane: &Pane, command: &Command, bitmaps: &[Bitmap]) -> Outcome
     requires whole { IsWhole pane.now }
     requires no_change { IsNoChange (effect_of command.now) }
@@ -61,7 +61,8 @@ pub(crate) fn judged(pane: &Pane, command: &Command, bitmaps: &[Bitmap]) -> Outc
 /// How a view draws. None where there is no such view.
 fn states_of(pane: &Pane, view: u16) -> Option<&StateStack>
     requires { IsWhole pane.now }
-    ensures states { option_map (λ states. states.now) result ≡ slice_get pane.now.states.items view }
+    ensures states { option_map (λ states. states.now) result
+        ≡ slice_get pane.now.states.items view }
     ensures tree { IsTree pane.now.tree }
 {
     if usize::from(view) < pane.tree.len() {
@@ -86,7 +87,8 @@ fn plain(pane: &Pane, view: u16) -> Outcome
 fn pictured(pane: &Pane, view: u16, bitmap: u16, bitmaps: &[Bitmap]) -> Outcome
     requires { IsWhole pane.now }
     ensures { IsJudgedBy pane.now view
-        (λ _. if nat_lt bitmap (length bitmaps.now) then Outcome.Done else Outcome.NoBitmap) result }
+        (λ _. if nat_lt bitmap (length bitmaps.now) then Outcome.Done else Outcome.NoBitmap)
+        result }
 {
     match states_of(pane, view) {
         Some(_) if usize::from(bitmap) < bitmaps.len() => Outcome::Done,

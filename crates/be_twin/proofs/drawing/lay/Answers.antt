@@ -1,0 +1,7 @@
+use Rattle.be_twin.proofs.MadeLemmas.{repainted}
+use Rattle.be_twin.proofs.drawing.lay.Goals as goal
+
+pub returns : goal.returns
+returns c =
+    let made = c.reach_of-reach.ensures in
+    repainted c.args.view _ c.reach_of-reach.result c.args.pane.now c.deref.result.now c.paint.new.spans c.paint.ensures.region made.window made.tree made.view made.states c.deref.ensures.value made.session c.paint.ensures.painted
