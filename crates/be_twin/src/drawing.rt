@@ -104,3 +104,25 @@ fn reach_of<'a>(
         session: session.as_ref(),
     }
 }
+
+/// `BView::CopyBits`.
+pub(crate) fn copy_bits(pane: &mut Pane, view: u16, source: Rect, target: Point)
+    requires whole { IsWhole pane.old }
+    requires there { view < length pane.old.states.items }
+    ensures { (color : colors.Color) → slice_get pane.old.colors.items view ≡ Some color →
+        IsRepainted view (copying source target color) pane.old pane.new }
+{
+    let color = pane.colors[usize::from(view)];
+    let reach = reach_of(pane.place, &pane.tree, view, &pane.states, &pane.session);
+    be_paint::copy_bits(&mut pane.spans, &reach, source, target, color);
+}
+
+/// `BView::Invalidate`.
+pub(crate) fn invalidate(pane: &mut Pane, view: u16, rect: Rect)
+    requires whole { IsWhole pane.old }
+    requires there { view < length pane.old.states.items }
+    ensures { IsRepainted view (invalidating rect pane.old.colors.items) pane.old pane.new }
+{
+    let reach = reach_of(pane.place, &pane.tree, view, &pane.states, &pane.session);
+    be_paint::invalidate(&mut pane.spans, &reach, rect, &pane.colors);
+}
