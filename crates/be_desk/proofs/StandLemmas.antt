@@ -11,6 +11,7 @@ use Rattle.be_color.specs.declared.colors.Color.{Color}
 use Rattle.be_geom.specs.Numbers.{is_number}
 use Rattle.be_geom.specs.Rects.{rect_has, moved_rect}
 use Rattle.be_geom.specs.declared.change.Change.{Change}
+use Rattle.be_pane.specs.SameStacks.{SameStacks}
 use Rattle.be_pane.specs.StandsFor.{SameSession}
 use Rattle.be_region.specs.Regions.{region_has}
 use Rattle.be_span.specs.Cells.{Lookup, desktop_cell}
@@ -50,7 +51,7 @@ carried_as_machine plan desk after panes then_panes cells colors old is taken ar
           ∙ changed.cells cells colors old screen (colored ∙ ap (λ (l : List Color). Some l) (sym stands.colors)) looks x y owned;
       views = same_Some then_pane.tree then_tree (sym carried.views ∙ then_views);
       colors = carried.colors ∙ stands.colors;
-      stacks = carried.states ∙ stands.stacks;
+      stacks = subst (λ (l : _). SameStacks l kept.stacks) (sym carried.states) stands.stacks;
       session = subst (λ (s : Option (List Rect)). SameSession s kept.session) (sym carried.session) stands.session;
       notice = carried.notice ∙ stands.notice;
     }
