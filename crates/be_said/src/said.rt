@@ -65,6 +65,7 @@ impl Model for SoFar {
 }
 
 impl SoFar {
+    /// Nothing was said yet.
     pub fn new(alloc: Global) -> SoFar
         ensures { result ≡ nothing_said }
     {
@@ -135,12 +136,15 @@ impl SoFar {
 
 /// Names that were said.
 impl SoFar {
+    /// The number of the window with this name. None where none was declared. Like the calls below, it looks at each
+    /// name of its kind at most once.
     pub fn window_named(&self, word: &[u8]) -> Option<u16>
         ensures { result ≡ number_in (window_names self.now) word.now }
     {
         number_of_window(&self.windows, word)
     }
 
+    /// The number of the application with this name. None where none was declared.
     pub fn app_named(&self, word: &[u8]) -> Option<u16>
         ensures { result ≡ number_in (app_names self.now) word.now }
     {
@@ -166,12 +170,14 @@ impl SoFar {
         number_of_name(&inside.plain, word)
     }
 
+    /// Whether a bitmap with this name was declared.
     pub fn has_bitmap(&self, word: &[u8]) -> bool
         ensures { result ≡ list_any (λ other. bytes_eq other word.now) (bitmap_names self.now) }
     {
         has_bitmap(&self.bitmaps, word)
     }
 
+    /// Whether a window with this name was declared.
     pub fn has_window(&self, word: &[u8]) -> bool
         ensures { result ≡ list_any (λ other. bytes_eq other word.now) (window_names self.now) }
     {
@@ -186,6 +192,7 @@ impl SoFar {
         self.view_named(window, word).is_some() || self.plain_named(window, word).is_some()
     }
 
+    /// Whether an application with this name was declared.
     pub fn has_app(&self, word: &[u8]) -> bool
         ensures { result ≡ list_any (λ other. bytes_eq other word.now) (app_names self.now) }
     {
