@@ -25,3 +25,12 @@ pub record IsAskable (windows : Windows) (w : ℕ) (change : Change) : Type 0 wh
   pub there : w < length windows.windows
   pub named_there : is_named_there windows change ≡ true
   pub within_limits : is_within_limits change ≡ true
+
+-- the same pane but for the cells of its pixels
+pub record IsRecolored (old new : Pane) : Type 0 where
+  pub window : new.window ≡ old.window
+  pub place : new.place ≡ old.place
+  pub pixels : new.spans.rects ≡ old.spans.rects
+  pub views : new.tree ≡ old.tree
+  pub colors : new.colors.items ≡ old.colors.items
+  pub states : new.states.items ≡ old.states.items

@@ -9,6 +9,7 @@ mod asking;
 mod declared;
 mod fault;
 mod making;
+mod marking;
 mod screen;
 
 pub use declared::{Child, Declared};

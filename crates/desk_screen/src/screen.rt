@@ -11,6 +11,7 @@ use crate::asking::is_askable;
 use crate::declared::Declared;
 use crate::fault::{Refusal, ScreenFault};
 use crate::making::Making;
+use crate::marking::{clear_all, set_in};
 use be_desk::{Desk, affected, carry_out, plan};
 use be_geom::Change;
 use be_input::Pointing;
@@ -79,6 +80,20 @@ impl Screen {
         ensures refused { OnErr result (self.new ≡ self.old) }
     {
         change_parts(alloc, &mut self.desk, &mut self.panes, w, change)
+    }
+
+    /// Gives a pixel of a window another cell. False, and no change, where it isn't the window's.
+    pub fn set(&mut self, w: u16, x: i32, y: i32, cell: Cell) -> bool
+        ensures { self.new.desk ≡ self.old.desk }
+    {
+        set_in(&mut self.panes, w, x, y, cell)
+    }
+
+    /// Takes the marks of all pixels away.
+    pub fn clear_marks(&mut self)
+        ensures { self.new.desk ≡ self.old.desk }
+    {
+        clear_all(&mut self.panes);
     }
 
     /// What the pane shows that has the pixel of the screen. None on the desktop.
