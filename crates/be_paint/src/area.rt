@@ -12,7 +12,8 @@ pub(crate) fn part_within(rect: Rect, way: Pixel, outer: Rect) -> Option<Rect>
     requires across { IsNear 64 way.x }
     requires down { IsNear 64 way.y }
     ensures none { IfNone result (AreDisjoint (moved_rect rect way.x way.y) outer) }
-    ensures both { IfSome result (λ part. HasPixelsOfBoth part (moved_rect rect way.x way.y) outer) }
+    ensures both { IfSome result
+        (λ part. HasPixelsOfBoth part (moved_rect rect way.x way.y) outer) }
     ensures across { IfSome result (λ part. part.left ≤ℤ part.right) }
     ensures down { IfSome result (λ part. part.top ≤ℤ part.bottom) }
 {

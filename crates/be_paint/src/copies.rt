@@ -148,7 +148,8 @@ fn copy_part(spans: &mut SpanBuf, copying: &Copying<'_>, y: i32, x: i32, end: i3
     requires forward { x ≤ℤ end }
     requires right { IsCoordinate end }
     ensures region { spans.new.rects ≡ spans.old.rects }
-    ensures cells { IsRowChanged (λ z. moved_cell spans.old.rects copying.now (cell_in spans.old) z y)
+    ensures cells { IsRowChanged
+        (λ z. moved_cell spans.old.rects copying.now (cell_in spans.old) z y)
         spans.old spans.new y x end }
 {
     let (change, last) = copying.run_at(spans.region(), x, y, end);
