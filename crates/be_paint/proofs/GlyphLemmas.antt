@@ -1,10 +1,10 @@
 -- Glyphs and texts along a row.
-use Rattle.std.proofs.Common.{rules, ◌≡◌, ℕ, suc, ℤ, pos, negsuc, ◌+ℤ◌, ◌-ℤ◌, ◌≤ℤ◌, ◌<ℤ◌, ◌≤◌, ◌<◌, true, false, ◌||◌, List, [], ◌∷◌, length, get_or, SFits, w32, refl, ap, ◌∙◌, arith}
-use Rattle.std.proofs.Math.ListN.{drop}
+use Rattle.std.proofs.Common.{rules, ◌≡◌, ℕ, zero, suc, ℤ, pos, negsuc, ◌*◌, ◌/◌, ◌+ℤ◌, ◌-ℤ◌, ◌*ℤ◌, ◌≤ℤ◌, ◌<ℤ◌, ◌≤◌, ◌<◌, true, false, ◌||◌, List, [], ◌∷◌, length, get_or, SFits, w32, refl, ap, sym, ◌∙◌, ◌-◌, arith}
+use Rattle.std.proofs.Math.ListN.{drop, take}
 use Rattle.std.proofs.Math.Seq.{drop-cons}
 use Rattle.std.specs.Int.{saturate_signed}
-use Rattle.std.proofs.lemmas.List.{drop_all}
-use Rattle.std.proofs.lemmas.Int.{ints}
+use Rattle.std.proofs.lemmas.List.{drop_all, take_all, length-drop}
+use Rattle.std.proofs.lemmas.Int.{ints, clamps}
 use Rattle.be_font.specs.Glyphs.{glyph_bit}
 use Rattle.be_font.specs.Runs.{HasNoBit, IsFirstRun}
 use Rattle.be_font.proofs.RowLemmas.{glyph_bit-column_past, glyph_bit-row_past}
@@ -91,3 +91,52 @@ text_end codes i left pen_y z y h = ap (λ l. text_has l left pen_y z y) (drop_a
 
 pub away_fits : (x left : ℤ) → IsNear 60 x → negsuc 32767 ≤ℤ left → left ≤ℤ pos 32767 → SFits w32 (x -ℤ left)
 away_fits x left (low, high) least most = search rules
+
+-- ---- glyphs that are far from a column
+
+pub covers_not_past : (code : ℕ) (row z : ℤ) → pos 5 ≤ℤ z → glyph_covers code z row ≡ false
+covers_not_past code (pos row) z h = covers_past code row z h
+covers_not_past code (negsuc row) (pos n) h = refl
+covers_not_past code (negsuc row) (negsuc n) h = refl
+
+pub covers_not_left : (code : ℕ) (row z : ℤ) → z <ℤ pos 0 → glyph_covers code z row ≡ false
+covers_not_left code (pos row) z h = covers_left code row z h
+covers_not_left code (negsuc row) (pos n) h = refl
+covers_not_left code (negsuc row) (negsuc n) h = refl
+
+-- all glyphs begin behind the column
+pub text_behind : (codes : List ℕ) (left pen_y z y : ℤ) → z <ℤ left → left ≤ℤ pos 32767 → text_has codes left pen_y z y ≡ false
+text_behind [] left pen_y z y h most = refl
+text_behind (code ∷ codes) left pen_y z y h most =
+    ap (λ b. b || text_has codes (pen_behind left) pen_y z y) (covers_not_left code (y -ℤ pen_y +ℤ pos 6) (z -ℤ left) (omega (arith, ints)))
+    ∙ text_behind codes (pen_behind left) pen_y z y (omega (arith, ints, clamps)) (omega (arith, ints, clamps))
+
+-- the first glyphs end before the column
+pub text_before : (n : ℕ) (codes : List ℕ) (left pen_y z y : ℤ) → (left +ℤ pos 6 *ℤ pos n) ≤ℤ pos 32767 → (0 < n → (left +ℤ pos 6 *ℤ pos n) ≤ℤ z) → text_has codes left pen_y z y ≡ text_has (drop n codes) (left +ℤ pos 6 *ℤ pos n) pen_y z y
+text_before zero codes left pen_y z y most h = ap (λ l. text_has codes l pen_y z y) (omega (arith, ints))
+text_before (suc n) [] left pen_y z y most h = refl
+text_before (suc n) (code ∷ codes) left pen_y z y most h =
+    let here = h (omega arith) in
+    let next : pen_behind left ≡ left +ℤ pos 6 = omega (arith, ints, clamps) in
+    let sum : left +ℤ pos 6 +ℤ pos 6 *ℤ pos n ≡ left +ℤ pos 6 *ℤ pos (suc n) = omega (arith, ints) in
+    ap (λ b. b || text_has codes (pen_behind left) pen_y z y) (covers_not_past code (y -ℤ pen_y +ℤ pos 6) (z -ℤ left) (omega (arith, ints)))
+    ∙ ap (λ l. text_has codes l pen_y z y) next
+    ∙ text_before n codes (left +ℤ pos 6) pen_y z y (omega (arith, ints)) (λ _. omega (arith, ints))
+    ∙ ap (λ l. text_has (drop n codes) l pen_y z y) sum
+
+-- whole steps of a way
+pub steps_within : (w : ℕ) → 6 * (w / 6) ≤ w
+steps_within w = omega arith
+
+-- the same with what the code has
+pub text_skip : (codes : List ℕ) (m : ℕ) (left x pen_y z y : ℤ) → x ≡ left +ℤ pos 6 *ℤ pos m → x ≤ℤ pos 32767 → (0 < m → x ≤ℤ z) → m ≤ length codes → text_has codes left pen_y z y ≡ text_has (take (length codes - m) (drop m codes)) x pen_y z y
+text_skip codes m left x pen_y z y at most before fits =
+    text_before m codes left pen_y z y (omega (arith, ints)) (λ some. let b = before some in omega (arith, ints))
+    ∙ ap (λ l. text_has (drop m codes) l pen_y z y) (sym at)
+    ∙ ap (λ l. text_has l x pen_y z y) (sym (take_all (length codes - m) (drop m codes) (let e = length-drop m codes in omega arith)))
+
+-- all glyphs end before the column
+pub text_past : (codes : List ℕ) (m : ℕ) (left x pen_y z y : ℤ) → x ≡ left +ℤ pos 6 *ℤ pos m → x ≤ℤ pos 32767 → (0 < m → x ≤ℤ z) → length codes < m → text_has codes left pen_y z y ≡ false
+text_past codes m left x pen_y z y at most before few =
+    text_before m codes left pen_y z y (omega (arith, ints)) (λ some. let b = before some in omega (arith, ints))
+    ∙ ap (λ l. text_has l (left +ℤ pos 6 *ℤ pos m) pen_y z y) (drop_all m codes (omega arith))

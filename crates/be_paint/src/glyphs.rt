@@ -1,4 +1,4 @@
-ghost use Rattle.std.specs.Prelude.{◌≡◌, ℕ, ℤ, pos, ◌+ℤ◌, ◌-ℤ◌, ◌≤ℤ◌, false, MatchOption};
+ghost use Rattle.std.specs.Prelude.{◌≡◌, ℕ, ℤ, pos, ◌<◌, ◌+ℤ◌, ◌-ℤ◌, ◌*ℤ◌, ◌≤ℤ◌, false, MatchOption};
 ghost use Rattle.be_views.specs.Places.{IsNear};
 ghost use Rattle.be_paint.specs.Inks.{text_has, glyph_covers, pen_behind};
 ghost use Rattle.be_paint.specs.Stretches.{IsAhead};
@@ -27,8 +27,44 @@ const ADVANCE: i32 = 6;
 const LAST_PEN: i32 = 32767;
 
 /// Whether a glyph of the text covers a pixel, in drawing coordinates, and the last column up to which that stays so at
-/// least. It takes a few steps for each glyph.
+/// least. It takes a few steps, and a few for each glyph where the pen stopped.
 pub(crate) fn covered(codes: &[u8], pen: Point, at: Pixel) -> (bool, i32)
+    requires across { IsNear 60 at.x }
+    requires down { IsNear 60 at.y }
+    ensures answer { result.0 ≡ text_has codes.now pen.x pen.y at.x at.y }
+    ensures run { IsAhead (λ z. text_has codes.now pen.x pen.y z at.y) at.x result.1 }
+{
+    let (count, x) = glyphs_before(pen.x, at.x);
+    if codes.len() < count {
+        return (false, LAST_COLUMN);
+    }
+    covered_from(&codes[count..], Point { x, y: pen.y }, at)
+}
+
+/// How many glyphs from the pen on end before a column, and the pen behind them.
+fn glyphs_before(pen: i16, x: i32) -> (usize, i16)
+    requires { IsNear 60 x }
+    ensures pen { result.1 ≡ pen +ℤ pos 6 *ℤ pos result.0 }
+    ensures before { 0 < result.0 → result.1 ≤ℤ x }
+{
+    let count = columns_before(pen, x) / 6;
+    let pen = i32::from(pen) + i32::from(6 * count);
+    (usize::from(count), pen as i16)
+}
+
+/// How many columns there are from the pen to another one, and at most to where the pen stops.
+fn columns_before(pen: i16, x: i32) -> u16
+    requires { IsNear 60 x }
+    ensures stops { (pen +ℤ pos result) ≤ℤ pos 32767 }
+    ensures before { 0 < result → (pen +ℤ pos result) ≤ℤ x }
+{
+    let pen = i32::from(pen);
+    let last = x.min(LAST_PEN);
+    if last < pen { 0 } else { (last - pen) as u16 }
+}
+
+/// The same as `covered`, by the glyphs in turn up to the first one that begins behind the column.
+fn covered_from(codes: &[u8], pen: Point, at: Pixel) -> (bool, i32)
     requires across { IsNear 60 at.x }
     requires down { IsNear 60 at.y }
     ensures answer { result.0 ≡ text_has codes.now pen.x pen.y at.x at.y }
@@ -46,6 +82,9 @@ pub(crate) fn covered(codes: &[u8], pen: Point, at: Pixel) -> (bool, i32)
             return (true, last);
         }
         left = (left + ADVANCE).min(LAST_PEN);
+        if at.x < left {
+            return (false, (left - 1).min(last));
+        }
     }
     (false, last)
 }

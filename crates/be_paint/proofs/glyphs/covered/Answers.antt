@@ -1,147 +1,71 @@
-use Rattle.std.proofs.Common.{rules, SFits, w16, w32, arith, sym, ◌∙◌, ℤ, pos, ◌-ℤ◌, ◌+ℤ◌, ◌≤ℤ◌, ◌<◌, to_z, get_or, length, add-one, refl}
-use Rattle.std.proofs.lemmas.Int.{to_z-of_z, ints, clamps}
-use Rattle.be_paint.specs.Inks.{glyph_covers}
+use Rattle.std.proofs.Common.{rules, ◌≡◌, ◌-◌, ◌<◌, ℤ, ◌≤ℤ◌, length, false, SFits, w16, w32, arith, ◌∙◌, sym}
+use Rattle.std.proofs.Math.ListN.{drop, take}
+use Rattle.std.proofs.lemmas.Int.{to_z-of_z, ints}
+use Rattle.be_paint.specs.Inks.{text_has}
 use Rattle.be_paint.specs.Stretches.{IsAhead}
-use Rattle.be_paint.proofs.GlyphLemmas.{text_none, text_end, hit_on, miss_on, away_fits, stopped_low, stopped_high}
+use Rattle.be_paint.proofs.GlyphLemmas.{text_skip, text_past}
 use Rattle.be_paint.proofs.glyphs.covered.Goals as goal
 
-pub returns-in_default-clause-answer : goal.returns-in_default-clause-answer
-returns-in_default-clause-answer c =
-    let y : SFits w32 c.args.at.y = search rules in
-    let p : SFits w16 c.args.pen.y = search rules in
-    sym (text_none c.args.codes.now c.args.pen.x c.args.pen.y c.args.at.x c.args.at.y (simp to_z-of_z at c.in_default.ensures))
-
-pub returns-in_default-clause-run : goal.returns-in_default-clause-run
-returns-in_default-clause-run c =
-    let y : SFits w32 c.args.at.y = search rules in
-    let p : SFits w16 c.args.pen.y = search rules in
-    let none = simp to_z-of_z at c.in_default.ensures in
-    record {
-      forward = search rules;
-      same = λ z from to. text_none c.args.codes.now c.args.pen.x c.args.pen.y z c.args.at.y none ∙ sym (text_none c.args.codes.now c.args.pen.x c.args.pen.y c.args.at.x c.args.at.y none);
-    }
-
-pub returns-then-has-clause-answer : goal.returns-then-has-clause-answer
-returns-then-has-clause-answer c =
+pub returns-clause-answer : goal.returns-clause-answer
+returns-clause-answer c =
+    let near : SFits w16 c.glyphs_before-count.result.1 = search rules in
     let x : SFits w32 c.args.at.x = search rules in
     let y : SFits w32 c.args.at.y = search rules in
     let px : SFits w16 c.args.pen.x = search rules in
     let py : SFits w16 c.args.pen.y = search rules in
-    let g : SFits w32 c.glyph_run-has.result.1 = search rules in
-    let sa : SFits w32 c.saturating_add.result = search rules in
-    let la : SFits w32 c.min-last.result = search rules in
-    let near = c.requires.across in
-    let low = near.0 in
-    let high = near.1 in
-    let least = c.loop-code.invariant.least in
-    let most = c.loop-code.invariant.most in
-    let left : ℤ = to_z w32 c.loop-code.left-bits in
-    let last : ℤ = to_z w32 c.loop-code.last-bits in
-    let code = get_or c.args.codes.now c.loop-code.code-index 0 in
-    let end = c.glyph_run-has.result.1 in
-    let d : SFits w32 (c.args.at.x -ℤ to_z w32 c.loop-code.left-bits) = away_fits c.args.at.x (to_z w32 c.loop-code.left-bits) near least most in
-    let row = simp to_z-of_z at c.in-Some.ensures in
-    let answer = simp to_z-of_z at c.glyph_run-has.ensures.answer in
-    let run : IsAhead (λ z. glyph_covers code z (pos c.in-Some.row)) (c.args.at.x -ℤ to_z w32 c.loop-code.left-bits) c.glyph_run-has.result.1 = simp to_z-of_z at c.glyph_run-has.ensures.run in
-    let forward = run.forward in
-    let sum = simp to_z-of_z at c.saturating_add.ensures in
-    let behind = c.loop-code.invariant.behind in
-    let ahead = c.loop-code.invariant.ahead in
-    let over : c.args.at.x ≤ℤ (c.glyph_run-has.result.1 +ℤ to_z w32 c.loop-code.left-bits) = omega (arith, ints) in
-    let from_low = stopped_low (c.glyph_run-has.result.1 +ℤ to_z w32 c.loop-code.left-bits) c.args.at.x over x in
-    let to_high = stopped_high (c.glyph_run-has.result.1 +ℤ to_z w32 c.loop-code.left-bits) c.args.at.x over x in
-    let value = simp to_z-of_z at c.min-last.ensures.value in
-    let short = c.min-last.ensures.self_bound in
-    let shorter = simp to_z-of_z at c.min-last.ensures.other_bound in
-    let reaches : c.args.at.x ≤ℤ c.min-last.result = omega (arith, ints, clamps) in
-    let inside : c.loop-code.code-index < length c.args.codes.now = omega arith in
-    sym (hit_on c.args.codes.now c.loop-code.code-index code c.in-Some.row left c.args.pen.x c.args.pen.y c.args.at.y c.args.at.x last end c.min-last.result inside refl row behind run (sym answer ∙ c.if-has.true) short (omega (arith, ints)) c.args.at.x (omega (arith, ints)) reaches)
-
-pub returns-then-has-clause-run : goal.returns-then-has-clause-run
-returns-then-has-clause-run c =
-    let x : SFits w32 c.args.at.x = search rules in
-    let y : SFits w32 c.args.at.y = search rules in
-    let px : SFits w16 c.args.pen.x = search rules in
-    let py : SFits w16 c.args.pen.y = search rules in
-    let g : SFits w32 c.glyph_run-has.result.1 = search rules in
-    let sa : SFits w32 c.saturating_add.result = search rules in
-    let la : SFits w32 c.min-last.result = search rules in
-    let near = c.requires.across in
-    let low = near.0 in
-    let high = near.1 in
-    let least = c.loop-code.invariant.least in
-    let most = c.loop-code.invariant.most in
-    let left : ℤ = to_z w32 c.loop-code.left-bits in
-    let last : ℤ = to_z w32 c.loop-code.last-bits in
-    let code = get_or c.args.codes.now c.loop-code.code-index 0 in
-    let end = c.glyph_run-has.result.1 in
-    let d : SFits w32 (c.args.at.x -ℤ to_z w32 c.loop-code.left-bits) = away_fits c.args.at.x (to_z w32 c.loop-code.left-bits) near least most in
-    let row = simp to_z-of_z at c.in-Some.ensures in
-    let answer = simp to_z-of_z at c.glyph_run-has.ensures.answer in
-    let run : IsAhead (λ z. glyph_covers code z (pos c.in-Some.row)) (c.args.at.x -ℤ to_z w32 c.loop-code.left-bits) c.glyph_run-has.result.1 = simp to_z-of_z at c.glyph_run-has.ensures.run in
-    let forward = run.forward in
-    let sum = simp to_z-of_z at c.saturating_add.ensures in
-    let behind = c.loop-code.invariant.behind in
-    let ahead = c.loop-code.invariant.ahead in
-    let over : c.args.at.x ≤ℤ (c.glyph_run-has.result.1 +ℤ to_z w32 c.loop-code.left-bits) = omega (arith, ints) in
-    let from_low = stopped_low (c.glyph_run-has.result.1 +ℤ to_z w32 c.loop-code.left-bits) c.args.at.x over x in
-    let to_high = stopped_high (c.glyph_run-has.result.1 +ℤ to_z w32 c.loop-code.left-bits) c.args.at.x over x in
-    let value = simp to_z-of_z at c.min-last.ensures.value in
-    let short = c.min-last.ensures.self_bound in
-    let shorter = simp to_z-of_z at c.min-last.ensures.other_bound in
-    let reaches : c.args.at.x ≤ℤ c.min-last.result = omega (arith, ints, clamps) in
-    let inside : c.loop-code.code-index < length c.args.codes.now = omega arith in
-    let on = hit_on c.args.codes.now c.loop-code.code-index code c.in-Some.row left c.args.pen.x c.args.pen.y c.args.at.y c.args.at.x last end c.min-last.result inside refl row behind run (sym answer ∙ c.if-has.true) short (omega (arith, ints)) in
-    simp to_z-of_z record { forward = reaches; same = λ z from to. on z from to ∙ sym (on c.args.at.x (omega (arith, ints)) reaches) }
-
-pub loop-code-preserved : goal.loop-code-preserved
-loop-code-preserved c =
-    let x : SFits w32 c.args.at.x = search rules in
-    let y : SFits w32 c.args.at.y = search rules in
-    let px : SFits w16 c.args.pen.x = search rules in
-    let py : SFits w16 c.args.pen.y = search rules in
-    let g : SFits w32 c.glyph_run-has.result.1 = search rules in
-    let sa : SFits w32 c.saturating_add.result = search rules in
-    let la : SFits w32 c.min-last.result = search rules in
-    let near = c.requires.across in
-    let low = near.0 in
-    let high = near.1 in
-    let least = c.loop-code.invariant.least in
-    let most = c.loop-code.invariant.most in
-    let left : ℤ = to_z w32 c.loop-code.left-bits in
-    let last : ℤ = to_z w32 c.loop-code.last-bits in
-    let code = get_or c.args.codes.now c.loop-code.code-index 0 in
-    let end = c.glyph_run-has.result.1 in
-    let d : SFits w32 (c.args.at.x -ℤ to_z w32 c.loop-code.left-bits) = away_fits c.args.at.x (to_z w32 c.loop-code.left-bits) near least most in
-    let row = simp to_z-of_z at c.in-Some.ensures in
-    let answer = simp to_z-of_z at c.glyph_run-has.ensures.answer in
-    let run : IsAhead (λ z. glyph_covers code z (pos c.in-Some.row)) (c.args.at.x -ℤ to_z w32 c.loop-code.left-bits) c.glyph_run-has.result.1 = simp to_z-of_z at c.glyph_run-has.ensures.run in
-    let forward = run.forward in
-    let sum = simp to_z-of_z at c.saturating_add.ensures in
-    let behind = c.loop-code.invariant.behind in
-    let ahead = c.loop-code.invariant.ahead in
-    let over : c.args.at.x ≤ℤ (c.glyph_run-has.result.1 +ℤ to_z w32 c.loop-code.left-bits) = omega (arith, ints) in
-    let from_low = stopped_low (c.glyph_run-has.result.1 +ℤ to_z w32 c.loop-code.left-bits) c.args.at.x over x in
-    let to_high = stopped_high (c.glyph_run-has.result.1 +ℤ to_z w32 c.loop-code.left-bits) c.args.at.x over x in
-    let value = simp to_z-of_z at c.min-last.ensures.value in
-    let short = c.min-last.ensures.self_bound in
-    let shorter = simp to_z-of_z at c.min-last.ensures.other_bound in
-    let reaches : c.args.at.x ≤ℤ c.min-last.result = omega (arith, ints, clamps) in
-    let inside : c.loop-code.code-index < length c.args.codes.now = omega arith in
-    let le : SFits w32 c.min-left.result = search rules in
-    let six : SFits w32 (to_z w32 c.loop-code.left-bits +ℤ pos 6) = search rules in
-    let pen = simp to_z-of_z at c.min-left.ensures.value in
-    let on = miss_on c.args.codes.now c.loop-code.code-index code c.in-Some.row left c.args.pen.x c.args.pen.y c.args.at.y c.args.at.x last end c.min-last.result inside refl row behind run (sym answer ∙ c.if-has.false) short (omega (arith, ints)) in
-    simp to_z-of_z record {
-      least = omega (arith, ints, clamps);
-      most = c.min-left.ensures.other_bound;
-      ahead = reaches;
-      behind = λ z from to. rw (pen, add-one) (on z from to);
-    }
+    let pen = simp to_z-of_z at c.glyphs_before-count.ensures.pen in
+    let before = simp to_z-of_z at c.glyphs_before-count.ensures.before in
+    let later : (z : ℤ) → c.args.at.x ≤ℤ z → 0 < c.glyphs_before-count.result.0 → c.glyphs_before-count.result.1 ≤ℤ z = λ z from some. let b = before some in omega (arith, ints) in
+    let skip : (z : ℤ) → c.args.at.x ≤ℤ z → text_has c.args.codes.now c.args.pen.x c.args.pen.y z c.args.at.y ≡ text_has (take (length c.args.codes.now - c.glyphs_before-count.result.0) (drop c.glyphs_before-count.result.0 c.args.codes.now)) c.glyphs_before-count.result.1 c.args.pen.y z c.args.at.y = λ z from. text_skip c.args.codes.now c.glyphs_before-count.result.0 c.args.pen.x c.glyphs_before-count.result.1 c.args.pen.y z c.args.at.y pen (omega (arith, ints)) (later z from) (omega arith) in
+    let here : c.args.at.x ≤ℤ c.args.at.x = omega (arith, ints) in
+    let answer = simp to_z-of_z at c.covered_from.ensures.answer in
+    answer ∙ sym (skip c.args.at.x here)
 
 pub returns-clause-run : goal.returns-clause-run
 returns-clause-run c =
-    let behind = c.loop-code.invariant.behind in
-    let ahead = c.loop-code.invariant.ahead in
-    let none = λ (z : ℤ). text_end c.args.codes.now c.loop-code.code-index (to_z w32 c.loop-code.left-bits) c.args.pen.y z c.args.at.y (omega arith) in
-    record { forward = ahead; same = λ z from to. behind z from to ∙ none z ∙ sym (behind c.args.at.x (omega (arith, ints)) ahead ∙ none c.args.at.x) }
+    let near : SFits w16 c.glyphs_before-count.result.1 = search rules in
+    let x : SFits w32 c.args.at.x = search rules in
+    let y : SFits w32 c.args.at.y = search rules in
+    let px : SFits w16 c.args.pen.x = search rules in
+    let py : SFits w16 c.args.pen.y = search rules in
+    let pen = simp to_z-of_z at c.glyphs_before-count.ensures.pen in
+    let before = simp to_z-of_z at c.glyphs_before-count.ensures.before in
+    let later : (z : ℤ) → c.args.at.x ≤ℤ z → 0 < c.glyphs_before-count.result.0 → c.glyphs_before-count.result.1 ≤ℤ z = λ z from some. let b = before some in omega (arith, ints) in
+    let skip : (z : ℤ) → c.args.at.x ≤ℤ z → text_has c.args.codes.now c.args.pen.x c.args.pen.y z c.args.at.y ≡ text_has (take (length c.args.codes.now - c.glyphs_before-count.result.0) (drop c.glyphs_before-count.result.0 c.args.codes.now)) c.glyphs_before-count.result.1 c.args.pen.y z c.args.at.y = λ z from. text_skip c.args.codes.now c.glyphs_before-count.result.0 c.args.pen.x c.glyphs_before-count.result.1 c.args.pen.y z c.args.at.y pen (omega (arith, ints)) (later z from) (omega arith) in
+    let here : c.args.at.x ≤ℤ c.args.at.x = omega (arith, ints) in
+    let run : IsAhead (λ z. text_has (take (length c.args.codes.now - c.glyphs_before-count.result.0) (drop c.glyphs_before-count.result.0 c.args.codes.now)) c.glyphs_before-count.result.1 c.args.pen.y z c.args.at.y) c.args.at.x c.covered_from.result.1 = simp to_z-of_z at c.covered_from.ensures.run in
+    record {
+      forward = run.forward;
+      same = λ z from to. skip z from ∙ run.same z from to ∙ sym (skip c.args.at.x here);
+    }
+
+pub returns-then-codes-count-clause-answer : goal.returns-then-codes-count-clause-answer
+returns-then-codes-count-clause-answer c =
+    let near : SFits w16 c.glyphs_before-count.result.1 = search rules in
+    let x : SFits w32 c.args.at.x = search rules in
+    let y : SFits w32 c.args.at.y = search rules in
+    let px : SFits w16 c.args.pen.x = search rules in
+    let py : SFits w16 c.args.pen.y = search rules in
+    let pen = simp to_z-of_z at c.glyphs_before-count.ensures.pen in
+    let before = simp to_z-of_z at c.glyphs_before-count.ensures.before in
+    let later : (z : ℤ) → c.args.at.x ≤ℤ z → 0 < c.glyphs_before-count.result.0 → c.glyphs_before-count.result.1 ≤ℤ z = λ z from some. let b = before some in omega (arith, ints) in
+    let past : (z : ℤ) → c.args.at.x ≤ℤ z → text_has c.args.codes.now c.args.pen.x c.args.pen.y z c.args.at.y ≡ false = λ z from. text_past c.args.codes.now c.glyphs_before-count.result.0 c.args.pen.x c.glyphs_before-count.result.1 c.args.pen.y z c.args.at.y pen (omega (arith, ints)) (later z from) (omega arith) in
+    let here : c.args.at.x ≤ℤ c.args.at.x = omega (arith, ints) in
+    sym (past c.args.at.x here)
+
+pub returns-then-codes-count-clause-run : goal.returns-then-codes-count-clause-run
+returns-then-codes-count-clause-run c =
+    let near : SFits w16 c.glyphs_before-count.result.1 = search rules in
+    let x : SFits w32 c.args.at.x = search rules in
+    let y : SFits w32 c.args.at.y = search rules in
+    let px : SFits w16 c.args.pen.x = search rules in
+    let py : SFits w16 c.args.pen.y = search rules in
+    let pen = simp to_z-of_z at c.glyphs_before-count.ensures.pen in
+    let before = simp to_z-of_z at c.glyphs_before-count.ensures.before in
+    let later : (z : ℤ) → c.args.at.x ≤ℤ z → 0 < c.glyphs_before-count.result.0 → c.glyphs_before-count.result.1 ≤ℤ z = λ z from some. let b = before some in omega (arith, ints) in
+    let past : (z : ℤ) → c.args.at.x ≤ℤ z → text_has c.args.codes.now c.args.pen.x c.args.pen.y z c.args.at.y ≡ false = λ z from. text_past c.args.codes.now c.glyphs_before-count.result.0 c.args.pen.x c.glyphs_before-count.result.1 c.args.pen.y z c.args.at.y pen (omega (arith, ints)) (later z from) (omega arith) in
+    let here : c.args.at.x ≤ℤ c.args.at.x = omega (arith, ints) in
+    record {
+      forward = search rules;
+      same = λ z from to. past z from ∙ sym (past c.args.at.x here);
+    }

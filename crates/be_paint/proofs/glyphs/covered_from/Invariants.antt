@@ -1,7 +1,7 @@
 use Rattle.std.proofs.Common.{◌≡◌, ℤ, pos, negsuc, ◌≤ℤ◌}
 use Rattle.std.proofs.Math.ListN.{drop}
 use Rattle.be_paint.specs.Inks.{text_has}
-use Rattle.be_paint.proofs.glyphs.covered.Given as goal
+use Rattle.be_paint.proofs.glyphs.covered_from.Given as goal
 
 abbrev pub invariant-loop-code : goal.invariant-loop-code
 invariant-loop-code l = record {
