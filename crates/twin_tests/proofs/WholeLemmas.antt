@@ -11,5 +11,6 @@ both_hold true false p q f g h = absurd (cc h)
 both_hold false b p q f g h = absurd (cc h)
 
 -- a number between the inner ends is between the outer ones
-pub still_between : (first last low high z : ℤ) → low ≤ℤ first → last ≤ℤ high → between first z last ≡ true → between low z high ≡ true
+pub still_between : (first last low high z : ℤ) → low ≤ℤ first → last ≤ℤ high
+    → between first z last ≡ true → between low z high ≡ true
 still_between first last low high z f g h = grind (arith, ints, between_tells)

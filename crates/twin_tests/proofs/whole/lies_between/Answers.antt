@@ -12,11 +12,14 @@ returns-then-moved-from c =
     let by : SFits w16 c.args.by = search rules in
     let moved : SFits w32 c.moved.result = search rules in
     let from : SFits w32 c.from.result = search rules in
-    let right : SFits w32 c.moved-then-moved-from.result = search rules in
+    let limit : SFits w32 c.moved-then-moved-from.result = search rules in
     let of : SFits w32 c.from-then-moved-from.result = search rules in
     let test = simp to_z-of_z at c.if-moved-from.true in
     let one = simp to_z-of_z at c.moved.ensures in
     let two = simp to_z-of_z at c.moved-then-moved-from.ensures in
     let three = simp to_z-of_z at c.from.ensures in
     let four = simp to_z-of_z at c.from-then-moved-from.ensures in
-    simp to_z-of_z (λ e z h. still_between c.args.first c.args.last (c.args.low +ℤ c.args.by) (c.args.high +ℤ c.args.by) z (grind (arith, ints)) (grind (arith, ints)) h)
+    let left = c.args.low +ℤ c.args.by in
+    let right = c.args.high +ℤ c.args.by in
+    simp to_z-of_z (λ e z.
+        still_between c.args.first c.args.last left right z (grind (arith, ints)) (grind (arith, ints)))
