@@ -22,4 +22,4 @@ returns-then-moved-from c =
     let left = c.args.low +ℤ c.args.by in
     let right = c.args.high +ℤ c.args.by in
     simp to_z-of_z (λ e z.
-        still_between c.args.first c.args.last left right z (grind (arith, ints)) (grind (arith, ints)))
+    still_between c.args.first c.args.last left right z (grind (arith, ints)) (grind (arith, ints)))
