@@ -13,7 +13,7 @@ use Rattle.be_geom.specs.Rects.{rect_has}
 use Rattle.be_region.specs.Regions.{region_has, IsNotEmpty}
 use Rattle.be_region.specs.Bands.{IsBefore, AreBands}
 use Rattle.be_region.specs.Places.{is_passed, IsSpanAt}
-use Rattle.be_region.specs.Runs.{IsRun}
+use Rattle.be_region.specs.Runs.{IsRun, IsBlock}
 use Rattle.be_region.proofs.CountLemmas.{has-append}
 use Rattle.be_region.proofs.LineLemmas.{not_between_left, not_between_right, is_between}
 use Rattle.be_region.proofs.PairLemmas.{pairs_head, pairs_drop}
@@ -43,23 +43,26 @@ pub partitioned : (rs : List Rect) (x y : ℤ) → AreBands rs → IsPartitioned
 partitioned rs x y h i j d m n e =
     elim (cases_order i j) [ inl same ↦ ap (λ k. is_passed (get_or rs k d) x y) same ∙ e | inr other ↦ elim other [ inl less ↦ passed_from (get_or rs i d) x y (before_passed (get_or rs i d) (get_or rs j d) x y (h.in_order i j d less n) (h.none_empty j d n) (passed_cases (get_or rs j d) x y e)) | inr more ↦ absurd (omega arith) ] ]
 
--- ---- the pixels of a row from the place on
+-- ---- the pixels from the place on, in its row and in those below it
 
-passed_none : (r : Rect) (x y z : ℤ) → (r.bottom <ℤ y) ⊎ ((r.top ≤ℤ y) × (r.right <ℤ x)) → x ≤ℤ z → rect_has r z y ≡ false
-passed_none r x y z (inl h) k =
-    and_second (between r.left z r.right) (between r.top y r.bottom) (not_between_right r.top y r.bottom h)
-passed_none r x y z (inr h) k =
+passed_none : (r : Rect) (x y z w : ℤ) → (r.bottom <ℤ y) ⊎ ((r.top ≤ℤ y) × (r.right <ℤ x)) → x ≤ℤ z → y ≤ℤ w → rect_has r z w ≡ false
+passed_none r x y z w (inl h) k m =
+    and_second (between r.left z r.right) (between r.top w r.bottom) (not_between_right r.top w r.bottom (omega (arith, ints)))
+passed_none r x y z w (inr h) k m =
     let right = h.1 in
-    ap (λ b. b && between r.top y r.bottom) (not_between_right r.left z r.right (omega (arith, ints)))
+    ap (λ b. b && between r.top w r.bottom) (not_between_right r.left z r.right (omega (arith, ints)))
 
-none_passed : (rs : List Rect) (x y z : ℤ) → All (λ r. is_passed r x y ≡ true) rs → x ≤ℤ z → region_has rs z y ≡ false
-none_passed [] x y z h k = refl
-none_passed (r ∷ rs) x y z h k =
-    or_from (rect_has r z y) (region_has rs z y) (passed_none r x y z (passed_cases r x y (All-head (λ (q : Rect). is_passed q x y ≡ true) r rs h)) k) (none_passed rs x y z (All-tail (λ (q : Rect). is_passed q x y ≡ true) r rs h) k)
+none_passed : (rs : List Rect) (x y z w : ℤ) → All (λ r. is_passed r x y ≡ true) rs → x ≤ℤ z → y ≤ℤ w → region_has rs z w ≡ false
+none_passed [] x y z w h k m = refl
+none_passed (r ∷ rs) x y z w h k m =
+    or_from (rect_has r z w) (region_has rs z w) (passed_none r x y z w (passed_cases r x y (All-head (λ (q : Rect). is_passed q x y ≡ true) r rs h)) k m) (none_passed rs x y z w (All-tail (λ (q : Rect). is_passed q x y ≡ true) r rs h) k m)
 
-pub row_from : (rs : List Rect) (n : ℕ) (x y z : ℤ) → n ≤ length rs → AllWithin (λ r. is_passed r x y ≡ true) rs 0 n → x ≤ℤ z → region_has rs z y ≡ region_has (drop n rs) z y
-row_from rs n x y z within h k =
-    ap (λ l. region_has l z y) (sym (take-append-drop n rs)) ∙ has-append (take n rs) (drop n rs) z y ∙ ap (λ b. b || region_has (drop n rs) z y) (none_passed (take n rs) x y z (λ i d m. let l = length-take n rs in rw (get_or-take n rs i d (omega arith)) (h i d (omega arith) (omega arith))) k)
+pub rest_from : (rs : List Rect) (n : ℕ) (x y z w : ℤ) → n ≤ length rs → AllWithin (λ r. is_passed r x y ≡ true) rs 0 n → x ≤ℤ z → y ≤ℤ w → region_has rs z w ≡ region_has (drop n rs) z w
+rest_from rs n x y z w within h k m =
+    ap (λ l. region_has l z w) (sym (take-append-drop n rs)) ∙ has-append (take n rs) (drop n rs) z w ∙ ap (λ b. b || region_has (drop n rs) z w) (none_passed (take n rs) x y z w (λ i d m. let l = length-take n rs in rw (get_or-take n rs i d (omega arith)) (h i d (omega arith) (omega arith))) k m)
+
+same_row : (y : ℤ) → y ≤ℤ y
+same_row y = omega (arith, ints)
 
 -- rectangles behind one that isn't above the row have no pixel of the row up to the column behind its last
 after_none : (r s : Rect) (y z : ℤ) → IsBefore r s → y ≤ℤ r.bottom → z ≤ℤ (r.right +ℤ pos 1) → rect_has s z y ≡ false
@@ -126,22 +129,35 @@ ahead_at rs n x y r place h e = ap (λ q. is_passed q x y) e ∙ place.ahead n r
 full_at : (rs : List Rect) (n : ℕ) (r : Rect) → AreBands rs → n < length rs → r ≡ get_or rs n r → IsNotEmpty r
 full_at rs n r bands h e = rw e (bands.none_empty n r h)
 
--- the columns of a rectangle of the row
+-- the columns of a rectangle of the row, in each row down to its bottom
+pub at_band : (rs : List Rect) (n : ℕ) (x y : ℤ) (r : Rect) → AreBands rs → IsPlace rs n x y → n < length rs → r ≡ get_or rs n r → r.top ≤ℤ y → (z w : ℤ) → x ≤ℤ z → z ≤ℤ (r.right +ℤ pos 1) → y ≤ℤ w → w ≤ℤ r.bottom → region_has rs z w ≡ between r.left z r.right
+at_band rs n x y r bands place h e top z w from to down low =
+    rest_from rs n x y z w place.within place.passed from down ∙ rw (rest_at rs n r h e) (in_row r (drop (n + 1) rs) w z (later_at rs n r bands h e) (omega (arith, ints)) low to)
+
+low_ahead : (rs : List Rect) (n : ℕ) (x y : ℤ) (r : Rect) → IsPlace rs n x y → n < length rs → r ≡ get_or rs n r → y ≤ℤ r.bottom
+low_ahead rs n x y r place h e = (ahead_cases r x y (ahead_at rs n x y r place h e)).0
+
 pub at_row : (rs : List Rect) (n : ℕ) (x y : ℤ) (r : Rect) → AreBands rs → IsPlace rs n x y → n < length rs → r ≡ get_or rs n r → r.top ≤ℤ y → (z : ℤ) → x ≤ℤ z → z ≤ℤ (r.right +ℤ pos 1) → region_has rs z y ≡ between r.left z r.right
 at_row rs n x y r bands place h e top z from to =
-    row_from rs n x y z place.within place.passed from ∙ rw (rest_at rs n r h e) (in_row r (drop (n + 1) rs) y z (later_at rs n r bands h e) top (ahead_cases r x y (ahead_at rs n x y r place h e)).0 to)
+    at_band rs n x y r bands place h e top z y from to (same_row y) (low_ahead rs n x y r place h e)
 
 last_ahead : (rs : List Rect) (n : ℕ) (x y : ℤ) (r : Rect) → IsPlace rs n x y → n < length rs → r ≡ get_or rs n r → r.top ≤ℤ y → x ≤ℤ r.right
 last_ahead rs n x y r place h e top =
     elim (ahead_cases r x y (ahead_at rs n x y r place h e)).1 [ inl k ↦ absurd (omega (arith, ints)) | inr k ↦ k ]
 
+pub none_above : (rs : List Rect) (n : ℕ) (x y : ℤ) (r : Rect) → AreBands rs → IsPlace rs n x y → n < length rs → r ≡ get_or rs n r → (z w : ℤ) → x ≤ℤ z → y ≤ℤ w → w <ℤ r.top → region_has rs z w ≡ false
+none_above rs n x y r bands place h e z w from down above =
+    rest_from rs n x y z w place.within place.passed from down ∙ rw (rest_at rs n r h e) (under_row r (drop (n + 1) rs) w z (full_at rs n r bands h e) (later_at rs n r bands h e) above)
+
 pub none_at_row : (rs : List Rect) (n : ℕ) (x y : ℤ) (r : Rect) → AreBands rs → IsPlace rs n x y → n < length rs → r ≡ get_or rs n r → y <ℤ r.top → (z : ℤ) → x ≤ℤ z → region_has rs z y ≡ false
-none_at_row rs n x y r bands place h e top z from =
-    row_from rs n x y z place.within place.passed from ∙ rw (rest_at rs n r h e) (under_row r (drop (n + 1) rs) y z (full_at rs n r bands h e) (later_at rs n r bands h e) top)
+none_at_row rs n x y r bands place h e top z from = none_above rs n x y r bands place h e z y from (same_row y) top
+
+pub none_beyond : (rs : List Rect) (n : ℕ) (x y : ℤ) → IsPlace rs n x y → length rs ≤ n → (z w : ℤ) → x ≤ℤ z → y ≤ℤ w → region_has rs z w ≡ false
+none_beyond rs n x y place h z w from down =
+    rest_from rs n x y z w place.within place.passed from down ∙ ap (λ l. region_has l z w) (drop_all n rs h)
 
 pub none_at_end : (rs : List Rect) (n : ℕ) (x y : ℤ) → IsPlace rs n x y → length rs ≤ n → (z : ℤ) → x ≤ℤ z → region_has rs z y ≡ false
-none_at_end rs n x y place h z from =
-    row_from rs n x y z place.within place.passed from ∙ ap (λ l. region_has l z y) (drop_all n rs h)
+none_at_end rs n x y place h z from = none_beyond rs n x y place h z y from (same_row y)
 
 -- ---- runs
 
@@ -185,6 +201,44 @@ answer_in rs n x y r bands place h e top from =
     let to = last_ahead rs n x y r place h e top in
     sym (at_row rs n x y r bands place h e top x (omega (arith, ints)) (omega (arith, ints)) ∙ is_between r.left x r.right from to)
 
+-- ---- blocks
+
+pub block_beyond : (rs : List Rect) (n : ℕ) (x y right bottom : ℤ) → x ≤ℤ right → y ≤ℤ bottom → IsPlace rs n x y → length rs ≤ n → IsBlock (region_has rs) x y right bottom
+block_beyond rs n x y right bottom k m place h = record {
+  across = k;
+  down = m;
+  same = λ z w f _ g _. none_beyond rs n x y place h z w f g ∙ sym (none_at_end rs n x y place h x (same_row x));
+}
+
+pub block_above : (rs : List Rect) (n : ℕ) (x y : ℤ) (r : Rect) (right bottom : ℤ) → x ≤ℤ right → bottom ≡ (r.top -ℤ pos 1) → AreBands rs → IsPlace rs n x y → n < length rs → r ≡ get_or rs n r → y <ℤ r.top → IsBlock (region_has rs) x y right bottom
+block_above rs n x y r right bottom k m bands place h e above = record {
+  across = k;
+  down = omega (arith, ints);
+  same = λ z w f _ g l. none_above rs n x y r bands place h e z w f g (omega (arith, ints)) ∙ sym (none_at_row rs n x y r bands place h e above x (same_row x));
+}
+
+pub block_gap : (rs : List Rect) (n : ℕ) (x y : ℤ) (r : Rect) (right bottom : ℤ) → right ≡ (r.left -ℤ pos 1) → bottom ≡ r.bottom → AreBands rs → IsPlace rs n x y → n < length rs → r ≡ get_or rs n r → r.top ≤ℤ y → x <ℤ r.left → IsBlock (region_has rs) x y right bottom
+block_gap rs n x y r right bottom k m bands place h e top before =
+    let full = (full_at rs n r bands h e).across in
+    let low = low_ahead rs n x y r place h e in
+    let out : (z w : ℤ) → x ≤ℤ z → z <ℤ r.left → y ≤ℤ w → w ≤ℤ r.bottom → region_has rs z w ≡ false = λ z w f t g l. at_band rs n x y r bands place h e top z w f (omega (arith, ints)) g l ∙ not_between_left r.left z r.right t in
+    record {
+      across = omega (arith, ints);
+      down = omega (arith, ints);
+      same = λ z w f t g l. out z w f (omega (arith, ints)) g (omega (arith, ints)) ∙ sym (out x y (same_row x) before (same_row y) low);
+    }
+
+pub block_in : (rs : List Rect) (n : ℕ) (x y : ℤ) (r : Rect) (right bottom : ℤ) → right ≡ r.right → bottom ≡ r.bottom → AreBands rs → IsPlace rs n x y → n < length rs → r ≡ get_or rs n r → r.top ≤ℤ y → r.left ≤ℤ x → IsBlock (region_has rs) x y right bottom
+block_in rs n x y r right bottom k m bands place h e top from =
+    let to = last_ahead rs n x y r place h e top in
+    let low = low_ahead rs n x y r place h e in
+    let inside : (z w : ℤ) → x ≤ℤ z → z ≤ℤ r.right → y ≤ℤ w → w ≤ℤ r.bottom → region_has rs z w ≡ true = λ z w f t g l. at_band rs n x y r bands place h e top z w f (omega (arith, ints)) g l ∙ is_between r.left z r.right (omega (arith, ints)) t in
+    record {
+      across = omega (arith, ints);
+      down = omega (arith, ints);
+      same = λ z w f t g l. inside z w f (omega (arith, ints)) g (omega (arith, ints)) ∙ sym (inside x y (same_row x) to (same_row y) low);
+    }
+
 -- ---- the rectangle of a pixel
 
 same_default : (rs : List Rect) (n : ℕ) (d r : Rect) → n < length rs → r ≡ get_or rs n r → get_or rs n d ≡ r
@@ -197,6 +251,6 @@ span_found rs n x y r bands place h e top from =
     record {
       within = h;
       has = λ d. rw (same_default rs n d r h e) (rw (is_between r.left x r.right from to, is_between r.top y r.bottom top low) refl);
-      first = λ z k i d l m. passed_none (get_or rs i d) x y z (passed_cases (get_or rs i d) x y (place.passed i d l m)) k;
+      first = λ z k i d l m. passed_none (get_or rs i d) x y z y (passed_cases (get_or rs i d) x y (place.passed i d l m)) k (same_row y);
       ends = λ d. rw (same_default rs n d r h e) (at_row rs n x y r bands place h e top (r.right +ℤ pos 1) (omega (arith, ints)) (omega (arith, ints)) ∙ not_between_right r.left (r.right +ℤ pos 1) r.right (omega (arith, ints)));
     }
