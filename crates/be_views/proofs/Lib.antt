@@ -7,3 +7,4 @@ pub mod FrontLemmas
 pub mod KinLemmas
 pub mod RunLemmas
 pub mod ClipLemmas
+pub mod BlockLemmas

@@ -28,7 +28,7 @@ use Rattle.be_views.proofs.KinLemmas.{ends_within, within_below, one_child, pare
 min_cases : (last a b : ℤ) → last ≡ int_min a b → (last ≡ a) ⊎ ((last <ℤ a) × (last ≡ b))
 min_cases last a b h = grind (arith, ints, clamps)
 
-left_of : (f : Rect) (z y : ℤ) → z <ℤ f.left → rect_has f z y ≡ false
+pub left_of : (f : Rect) (z y : ℤ) → z <ℤ f.left → rect_has f z y ≡ false
 left_of f z y h = ap (λ b. b && between f.top y f.bottom) (not_between_left f.left z f.right h)
 
 right_of : (f : Rect) (z y : ℤ) → f.right <ℤ z → rect_has f z y ≡ false
@@ -61,21 +61,21 @@ none_ahead f x y end why none h = record {
 
 -- ---- up to the next of some views
 
-or_same : (p q p' q' : Bool) → p ≡ p' → q ≡ q' → (p || q) ≡ (p' || q')
+pub or_same : (p q p' q' : Bool) → p ≡ p' → q ≡ q' → (p || q) ≡ (p' || q')
 or_same p q p' q' h k = rw (h, k) refl
 
-covers_more : (views : List View) (i v : ℕ) (x y : ℤ) (d : View) → i < length views → covers (take (i + 1) views) v x y ≡ (covers (take i views) v x y || (is_number v (get_or views i d).parent && rect_has (get_or views i d).frame x y))
+pub covers_more : (views : List View) (i v : ℕ) (x y : ℤ) (d : View) → i < length views → covers (take (i + 1) views) v x y ≡ (covers (take i views) v x y || (is_number v (get_or views i d).parent && rect_has (get_or views i d).frame x y))
 covers_more views i v x y d h = list_any_more (λ view. is_number v view.parent && rect_has view.frame x y) views i d h
 
 -- none of the first of these views holds the pixel where none of all holds it
-front_free : (views : List View) (i v : ℕ) (x y : ℤ) → covers views v x y ≡ false → covers (take i views) v x y ≡ false
+pub front_free : (views : List View) (i v : ℕ) (x y : ℤ) → covers views v x y ≡ false → covers (take i views) v x y ≡ false
 front_free views zero v x y h = refl
 front_free [] (suc i) v x y h = refl
 front_free (w ∷ views) (suc i) v x y h =
     let parts = or_parts (is_number v w.parent && rect_has w.frame x y) (covers views v x y) h in
     or_from (is_number v w.parent && rect_has w.frame x y) (covers (take i views) v x y) parts.0 (front_free views i v x y parts.1)
 
-or_false : (p : Bool) → (p || false) ≡ p
+pub or_false : (p : Bool) → (p || false) ≡ p
 or_false true = refl
 or_false false = refl
 
@@ -117,10 +117,10 @@ free_frame views i v x y view d h read lies free =
 
 -- ---- up to another child in front
 
-no_child : (tree : Tree) (v : ℕ) (x y : ℤ) → covers tree v x y ≡ false → last_child_at tree v x y ≡ None
+pub no_child : (tree : Tree) (v : ℕ) (x y : ℤ) → covers tree v x y ≡ false → last_child_at tree v x y ≡ None
 no_child tree v x y h = none_of (last_child_at tree v x y) (sym (covers_is tree v x y) ∙ h)
 
-no_cover : (tree : Tree) (v : ℕ) (x y : ℤ) → last_child_at tree v x y ≡ None → covers tree v x y ≡ false
+pub no_cover : (tree : Tree) (v : ℕ) (x y : ℤ) → last_child_at tree v x y ≡ None → covers tree v x y ≡ false
 no_cover tree v x y h = covers_is tree v x y ∙ ap is_some h
 
 -- where none is in front
@@ -217,7 +217,7 @@ deep_run n tree v x y end last run c first is r s =
 -- ---- the child in front, as the calls give it
 
 -- the view of which a number and a frame are known
-front_of : (o : Option (ℕ × View)) (child : ℕ × Rect) → Some child ≡ option_map framed o → (c : ℕ × View) × ((o ≡ Some c) × ((c.0 ≡ child.0) × (c.1.frame ≡ child.1)))
+pub front_of : (o : Option (ℕ × View)) (child : ℕ × Rect) → Some child ≡ option_map framed o → (c : ℕ × View) × ((o ≡ Some c) × ((c.0 ≡ child.0) × (c.1.frame ≡ child.1)))
 front_of None child h = absurd (none-some child (sym h))
 front_of (Some c) child h =
     let e = same_Some child (framed c) h in
@@ -228,7 +228,7 @@ free_behind tree v x y child h =
     let f = front_of (last_child_at tree v x y) child h in
     ap (λ l. covers l v x y) (take_rest tree (child.0 + 1)) ∙ ap (λ k. covers (drop (k + 1) tree) v x y) (sym f.1.1.0) ∙ none_in_front tree v x y f.0 f.1.0
 
-none_framed : (o : Option (ℕ × View)) → None ≡ option_map framed o → o ≡ None
+pub none_framed : (o : Option (ℕ × View)) → None ≡ option_map framed o → o ≡ None
 none_framed None h = refl
 none_framed (Some c) h = absurd (none-some (framed c) h)
 
@@ -297,12 +297,12 @@ end_steps steps tree v x y end last some first h r =
 
 -- ---- in the window
 
-view_in : (tree : Tree) (root : View) (z y : ℤ) → slice_get tree 0 ≡ Some root → rect_has root.frame z y ≡ true → view_at tree z y ≡ Some (view_below (length tree) tree 0 z y)
+pub view_in : (tree : Tree) (root : View) (z y : ℤ) → slice_get tree 0 ≡ Some root → rect_has root.frame z y ≡ true → view_at tree z y ≡ Some (view_below (length tree) tree 0 z y)
 unfolding view_at
 view_in tree root z y got h =
     ap (λ o. option_and_then (λ (w : View). cond (rect_has w.frame z y) (Some (view_below (length tree) tree 0 z y)) None) o) got ∙ ap (λ b. cond b (Some (view_below (length tree) tree 0 z y)) None) h
 
-view_out : (tree : Tree) (root : View) (z y : ℤ) → slice_get tree 0 ≡ Some root → rect_has root.frame z y ≡ false → view_at tree z y ≡ None
+pub view_out : (tree : Tree) (root : View) (z y : ℤ) → slice_get tree 0 ≡ Some root → rect_has root.frame z y ≡ false → view_at tree z y ≡ None
 unfolding view_at
 view_out tree root z y got h =
     ap (λ o. option_and_then (λ (w : View). cond (rect_has w.frame z y) (Some (view_below (length tree) tree 0 z y)) None) o) got ∙ ap (λ b. cond b (Some (view_below (length tree) tree 0 z y)) None) h

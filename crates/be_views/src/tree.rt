@@ -2,12 +2,13 @@ ghost use Rattle.be_geom.specs.Rects.{rect_has};
 ghost use Rattle.std.specs.Prelude.{◌≡◌, ◌<◌, ◌≤◌, ◌↔◌, ◌⊎◌, ℕ, true, pos, ◌-ℤ◌, ◌≤ℤ◌, ◌∷◌, [], length, slice_get, option_map, option_and_then, vec_len, vec_capacity, IfOk, IfSome, OnOk, OnErr, IsNone, IsErr};
 ghost use Rattle.be_views.specs.Trees.{parent_of, place_of, place_from};
 ghost use Rattle.be_views.specs.Pixels.{view_at, view_below};
-ghost use Rattle.be_region.specs.Runs.{IsRun};
+ghost use Rattle.be_region.specs.Runs.{IsRun, IsBlock};
 ghost use Rattle.be_views.specs.Clips.{IsClip};
 ghost use Rattle.be_views.specs.Resizing.{resized};
 ghost use Rattle.be_views.specs.Whole.{IsTree, root_view, with_view, depth_from, depth_of};
 ghost use Rattle.be_views.specs.Places.{pair_of, IsNear};
 
+use crate::block::{block_below, frame_gap_block};
 use crate::children::{has_pixel, last_child_at, within};
 use crate::clip::clip_of;
 use crate::fault::{ClipFault, ViewFault};
@@ -16,12 +17,12 @@ use crate::run::{frame_gap_end, run_below};
 use crate::view::View;
 use be_follow::{Across, Down, Follow};
 use be_geom::{NoMemory, OutOfRange, Rect};
-use be_region::Region;
+use be_region::{Corner, Region};
 use std::alloc::Global;
 use std::marker::Model;
 
-/// Where no column follows.
-const LAST_COLUMN: i32 = 2147483647;
+/// Where no column follows, and no row.
+const LAST: i32 = 2147483647;
 
 /// How deep a view may be, where the root is at depth 1.
 const MAX_DEPTH: usize = 8;
@@ -35,7 +36,7 @@ pub struct ViewTree {
 
 impl Model for ViewTree {
     ghost use Rattle.be_views.specs.Trees.{Tree};
-    ghost use Rattle.be_region.specs.Runs.{IsRun};
+    ghost use Rattle.be_region.specs.Runs.{IsRun, IsBlock};
     ghost use Rattle.be_views.specs.Clips.{IsClip};
     ghost use Rattle.be_views.specs.Resizing.{resized};
     ghost use Rattle.be_views.specs.Whole.{IsTree};
@@ -164,7 +165,30 @@ impl ViewTree {
             let (view, last) = run_below(self.views.len(), &self.views, 0, (x, y), end);
             (Some(view), last)
         } else {
-            (None, frame_gap_end(root, (x, y), LAST_COLUMN))
+            (None, frame_gap_end(root, (x, y), LAST))
+        }
+    }
+
+    /// The view at a pixel of the window, and a last column and a last row up to which that stays
+    /// so at least, for all pixels that are neither left of this one nor above it.
+    pub fn block_at(&self, x: i32, y: i32) -> (Option<u16>, Corner)
+        ensures answer { result.0 ≡ view_at self.now x y }
+        ensures block { IsBlock (λ z w. view_at self.now z w) x y result.1.right result.1.bottom }
+    {
+        let root = self.views[0].frame;
+        if has_pixel(root, x, y) {
+            let end = Corner {
+                right: i32::from(root.right),
+                bottom: i32::from(root.bottom),
+            };
+            let (view, last) = block_below(self.views.len(), &self.views, 0, (x, y), end);
+            (Some(view), last)
+        } else {
+            let end = Corner {
+                right: LAST,
+                bottom: LAST,
+            };
+            (None, frame_gap_block(root, (x, y), end))
         }
     }
 
