@@ -1,3 +1,4 @@
 pub mod PartLemmas
 pub mod ClipLemmas
 pub mod StackLemmas
+pub mod BlockLemmas

@@ -1,15 +1,16 @@
 ghost use Rattle.std.specs.Prelude.{◌≡◌, map};
 ghost use Rattle.std.specs.Option.{option_map};
 ghost use Rattle.be_geom.specs.Rects.{moved_rect};
+ghost use Rattle.be_region.specs.Runs.{IsBlock};
 ghost use Rattle.be_state.specs.Stacks.{clip_has, next_layer, first_stack};
 ghost use Rattle.be_state.specs.Parts.{IsPart};
 ghost use Rattle.be_state.specs.Limits.{IsNear, IsPenSize};
 
 use crate::State;
-use crate::clip::{Clip, LAST_COLUMN};
+use crate::clip::{Clip, LAST_COLUMN, LAST_CORNER};
 use be_color::{Color, Mode, Rgb};
 use be_geom::Point;
-use be_region::Region;
+use be_region::{Corner, Region};
 use std::marker::Model;
 
 const ORIGIN: Point = Point { x: 0, y: 0 };
@@ -94,6 +95,18 @@ impl Layer {
         match &self.clip {
             Some(clip) => clip.part_at(x, y),
             None => (true, LAST_COLUMN),
+        }
+    }
+
+    /// Whether the clip holds the pixel, and a last column and a last row up to which that stays
+    /// so, for all pixels that are neither left of this one nor above it.
+    pub(crate) fn block_at(&self, x: i32, y: i32) -> (bool, Corner)
+        ensures answer { result.0 ≡ clip_has self.now.clip x y }
+        ensures block { IsBlock (clip_has self.now.clip) x y result.1.right result.1.bottom }
+    {
+        match &self.clip {
+            Some(clip) => clip.block_at(x, y),
+            None => (true, LAST_CORNER),
         }
     }
 }

@@ -1,17 +1,18 @@
 ghost use Rattle.std.specs.Prelude.{◌≡◌, ◌↔◌, ◌≤◌, true, false, length, map, fold, IsErr, IsNone, Some, IfOk, OnOk, OnErr};
 ghost use Rattle.std.specs.List.{list_all};
-ghost use Rattle.be_region.specs.Runs.{IsRun};
+ghost use Rattle.std.specs.Int.{int_min};
+ghost use Rattle.be_region.specs.Runs.{IsRun, IsBlock};
 ghost use Rattle.be_state.specs.Stacks.{first_stack, base_of, allows, clip_has, with_state, with_clip, can_push, pushed, popped, origin_point};
 ghost use Rattle.be_geom.specs.Places.{sum_of};
 ghost use Rattle.be_state.specs.Parts.{IsPart};
 ghost use Rattle.be_state.specs.Limits.{IsNear, IsPenSize};
 
 use crate::State;
-use crate::clip::LAST_COLUMN;
+use crate::clip::{LAST_COLUMN, LAST_CORNER};
 use crate::fault::{StackEmpty, StackFull};
 use crate::layer::Layer;
 use be_geom::NoMemory;
-use be_region::Region;
+use be_region::{Corner, Region};
 use std::alloc::Global;
 use std::marker::Model;
 use std::mem;
@@ -101,6 +102,20 @@ impl StateStack {
             last = end;
         }
         (false, last)
+    }
+
+    /// Whether every clip holds the pixel, and a last column and a last row up to which that stays
+    /// so at least, for all pixels that are neither left of this one nor above it.
+    pub fn block_at(&self, x: i32, y: i32) -> (bool, Corner)
+        ensures answer { result.0 ≡ allows self.now x y }
+        ensures block { IsBlock (allows self.now) x y result.1.right result.1.bottom }
+    {
+        let (allowed, corner) = self.top.block_at(x, y);
+        if !allowed {
+            return (false, corner);
+        }
+        let (all_allow, end) = block_of_all(&self.saved, x, y);
+        (all_allow, nearer(corner, end))
     }
 
     /// Puts another state in place of the one in force, whose clip stays.
@@ -199,4 +214,33 @@ fn part_of_all(layers: &[Layer], x: i32, y: i32) -> (bool, i32)
         last = last.min(end);
     }
     (true, last)
+}
+
+/// Whether the clips of all layers hold the pixel, and a last column and a last row up to which that
+/// stays so, for all pixels that are neither left of this one nor above it.
+fn block_of_all(layers: &[Layer], x: i32, y: i32) -> (bool, Corner)
+    ensures answer { result.0 ≡ list_all (λ l. clip_has l.clip x y) layers.now }
+    ensures block { IsBlock (λ z w. list_all (λ l. clip_has l.clip z w) layers.now) x y
+        result.1.right result.1.bottom }
+{
+    let mut corner = LAST_CORNER;
+    for layer in layers {
+        let (allowed, end) = layer.block_at(x, y);
+        if !allowed {
+            return (false, end);
+        }
+        corner = nearer(corner, end);
+    }
+    (true, corner)
+}
+
+/// Where two blocks from the same pixel on both end.
+fn nearer(corner: Corner, other: Corner) -> Corner
+    ensures right { result.right ≡ int_min corner.right other.right }
+    ensures bottom { result.bottom ≡ int_min corner.bottom other.bottom }
+{
+    Corner {
+        right: corner.right.min(other.right),
+        bottom: corner.bottom.min(other.bottom),
+    }
 }
