@@ -1,6 +1,6 @@
 -- The four sides of a rectangle as lines, and the columns of a row that they have.
 use Rattle.std.proofs.Common.{◌≡◌, ℕ, ℤ, pos, Bool, true, false, ◌&&◌, ◌||◌, ◌-◌, ◌/◌, ◌+ℤ◌, ◌-ℤ◌, ◌≤ℤ◌, ◌<ℤ◌, sym, ◌∙◌, refl, SFits, w32, arith, rules}
-use lib.Signed.{lt_z}
+use lib.Signed.{lt_z, le_z}
 use Rattle.std.specs.Int.{int_min, int_max}
 use Rattle.std.proofs.lemmas.Int.{ints, clamps, by_lt_z}
 use Rattle.be_geom.specs.declared.point.Point.{Point}
@@ -135,6 +135,12 @@ less_of_test a b h = grind (arith, ints)
 pub not_less_of_test : (a b : ℤ) → lt_z a b ≡ false → b ≤ℤ a
 not_less_of_test a b h = grind (arith, ints)
 
+pub not_more_of_test : (a b : ℤ) → le_z a b ≡ true → a ≤ℤ b
+not_more_of_test a b h = grind (arith, ints)
+
+pub more_of_test : (a b : ℤ) → le_z a b ≡ false → b <ℤ a
+more_of_test a b h = grind (arith, ints)
+
 -- the column behind a span
 pub fits_behind : (s : Span) → IsSpan s → SFits w32 (s.last +ℤ pos 1)
 fits_behind s h =
@@ -153,3 +159,17 @@ pub pixel_of_frame_row : (r : Rect) (size : ℕ) (y : ℤ) → r.left ≤ℤ r.r
 pixel_of_frame_row r size y across down h =
     let side : swept_has size r.left r.left r.left ≡ true = is_between _ r.left _ (omega (arith, ints, clamps)) (omega (arith, ints, clamps)) in
     (r.left, frame_is r size r.left y across down ∙ left_row (swept_has size r.left r.right r.left) _ (swept_has size r.right r.right r.left) _ (swept_has size r.top r.top y) (swept_has size r.bottom r.bottom y) side h)
+
+-- ---- rows with the same columns
+
+same_sides : (w l r v t b v' t' b' : Bool) → v ≡ v' → t ≡ t' → b ≡ b' → sides_have w l r v t b ≡ sides_have w l r v' t' b'
+same_sides w l r v t b v' t' b' e f g = rw (e, f, g) refl
+
+-- which rows of the sides a row is in decides its columns
+pub frame_alike : (rect : Rect) (size : ℕ) (y z : ℤ) → rect.left ≤ℤ rect.right → rect.top ≤ℤ rect.bottom → swept_has size rect.top rect.bottom z ≡ swept_has size rect.top rect.bottom y → swept_has size rect.top rect.top z ≡ swept_has size rect.top rect.top y → swept_has size rect.bottom rect.bottom z ≡ swept_has size rect.bottom rect.bottom y → (x : ℤ) → frame_has rect size x z ≡ frame_has rect size x y
+frame_alike rect size y z across down rows top bottom x =
+    frame_is rect size x z across down ∙ same_sides _ _ _ _ _ _ _ _ _ rows top bottom ∙ sym (frame_is rect size x y across down)
+
+-- an empty rectangle has no sides
+pub frame_empty : (rect : Rect) (size : ℕ) (x y : ℤ) → is_not_empty rect ≡ false → frame_has rect size x y ≡ false
+frame_empty rect size x y e = rw e refl

@@ -1,9 +1,9 @@
-ghost use Rattle.std.specs.Prelude.{◌≡◌, ℤ, false, IfSome, IfNone};
+ghost use Rattle.std.specs.Prelude.{◌≡◌, ℤ, ◌≤ℤ◌, false, IfSome, IfNone};
 ghost use Rattle.be_shape.specs.Rasters.{frame_has, is_not_empty};
 ghost use Rattle.be_shape.specs.Rows.{IsRow, row_has, ArePenRows};
 
 use crate::pen::PenSize;
-use crate::row::{self, Row, Span};
+use crate::row::{self, LAST_ROW, Row, Span};
 use be_geom::Rect;
 
 /// The columns of a row that the sides of a rectangle have, drawn with a pen.
@@ -28,6 +28,20 @@ pub(crate) fn row_of(rect: Rect, pen: PenSize, y: i32) -> Row
     } else {
         Row::One(across)
     }
+}
+
+/// The last row down to which each row of the sides has the columns of this one.
+pub(crate) fn alike(rect: Rect, pen: PenSize, y: i32) -> i32
+    ensures forward { y ≤ℤ result }
+    ensures same { (x z : ℤ) → y ≤ℤ z → z ≤ℤ result
+        → frame_has rect pen x z ≡ frame_has rect pen x y }
+{
+    let Some(rows) = rows_of(rect, pen) else {
+        return LAST_ROW;
+    };
+    let top = pen.swept(rect.top, rect.top);
+    let bottom = pen.swept(rect.bottom, rect.bottom);
+    rows.alike(y).min(top.alike(y)).min(bottom.alike(y))
 }
 
 /// The rows of the sides. None where the rectangle is empty.

@@ -1,10 +1,13 @@
-ghost use Rattle.std.specs.Prelude.{◌≡◌, ℤ, ◌<ℤ◌, false, IfSome, IfNone};
+ghost use Rattle.std.specs.Prelude.{◌≡◌, ℤ, ◌<ℤ◌, ◌≤ℤ◌, false, IfSome, IfNone};
 ghost use Rattle.be_geom.specs.Rects.{rect_has};
 ghost use Rattle.be_shape.specs.Rasters.{is_not_empty};
-ghost use Rattle.be_shape.specs.Rows.{span_has, row_has, IsRow, IsCut, IsNextSpan, NoneFrom};
+ghost use Rattle.be_shape.specs.Rows.{span_has, row_has, IsSpan, IsRow, IsCut, IsNextSpan, NoneFrom};
 ghost use Rattle.be_shape.specs.Rows.{AreEdges};
 
 use be_geom::Rect;
+
+/// Where no row follows.
+pub(crate) const LAST_ROW: i32 = 2147483647;
 
 /// Columns of a row without a gap, or rows without one; both ends belong to it.
 #[derive(Clone, Copy, Debug, PartialEq, Eq)]
@@ -29,6 +32,21 @@ impl Span {
         ensures { result ≡ span_has self z }
     {
         self.first <= z && z <= self.last
+    }
+
+    /// The last number from `z` on up to which all are in it, as `z` is, or none is.
+    pub(crate) fn alike(self, z: i32) -> i32
+        requires { IsSpan self }
+        ensures forward { z ≤ℤ result }
+        ensures same { (w : ℤ) → z ≤ℤ w → w ≤ℤ result → span_has self w ≡ span_has self z }
+    {
+        if z < self.first {
+            self.first - 1
+        } else if z <= self.last {
+            self.last
+        } else {
+            LAST_ROW
+        }
     }
 
     /// What there is of it from a column on.
@@ -92,6 +110,17 @@ pub(crate) fn row_of(rect: Rect, y: i32) -> Row
         first: i32::from(rect.left),
         last: i32::from(rect.right),
     })
+}
+
+/// The last row down to which each row of a rectangle has the columns of this one.
+pub(crate) fn alike(rect: Rect, y: i32) -> i32
+    ensures forward { y ≤ℤ result }
+    ensures same { (x z : ℤ) → y ≤ℤ z → z ≤ℤ result → rect_has rect x z ≡ rect_has rect x y }
+{
+    match rows_of(rect) {
+        Some(rows) => rows.alike(y),
+        None => LAST_ROW,
+    }
 }
 
 /// The rows of a rectangle. None where it is empty.
