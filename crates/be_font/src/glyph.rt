@@ -1,4 +1,4 @@
-ghost use Rattle.std.specs.Prelude.{◌≡◌, ℕ, ◌<◌, MatchOption};
+ghost use Rattle.std.specs.Prelude.{◌≡◌, ℕ, ◌<◌, ◌%◌, MatchOption};
 ghost use Rattle.be_font.specs.Glyphs.{glyph_bit};
 ghost use Rattle.be_font.specs.Runs.{row_bit, IsFirstRun, HasNoBit};
 
@@ -17,7 +17,7 @@ const LAST_ROW: u8 = 6;
 pub fn bit(code: u8, column: u8, row: u8) -> bool
     ensures { result ≡ glyph_bit code column row }
 {
-    column < 8 && row_of(code, row) >> (7 - column) & 1 == 1
+    column < 8 && self::row(code, row) >> (7 - column) & 1 == 1
 }
 
 /// The first run of a glyph's bits in a row, from a column on: its first and its last column. What lies left
@@ -30,20 +30,23 @@ pub fn next_run(code: u8, row: u8, from: u8) -> Option<(u8, u8)>
     ensures within { MatchOption result (Unit {0}) (λ run. run.1 < 5) }
 {
     if from < 8 {
-        run_in(row_of(code, row), from)
+        run_in(self::row(code, row), from)
     } else {
         None
     }
 }
 
-/// A glyph's row, its leftmost column highest; 0 outside the table.
-fn row_of(code: u8, row: u8) -> u8
-    ensures { (column : ℕ) → glyph_bit code column row ≡ row_bit result column }
+/// The bits of a glyph's row, the leftmost column the highest bit. 0 outside the table.
+pub fn row(code: u8, line: u8) -> u8
+    ensures bits { (column : ℕ) → glyph_bit code column line ≡ row_bit result column }
+
+    // Every bit lies in the glyph's columns.
+    ensures narrow { result % 8 ≡ 0 }
 {
-    if code < FIRST_CODE || LAST_CODE < code || LAST_ROW < row {
+    if code < FIRST_CODE || LAST_CODE < code || LAST_ROW < line {
         return 0;
     }
-    ROWS[usize::from(code - FIRST_CODE)][usize::from(row)] << 3
+    ROWS[usize::from(code - FIRST_CODE)][usize::from(line)] << 3
 }
 
 /// The first run of ones from a place on, of the eight places from the highest bit to the lowest.
