@@ -103,6 +103,17 @@ pub cell_read : (rs : List Rect) (cells : List Cell) (start len : ℕ) (x y : �
 unfolding cell_in
 cell_read rs cells start len x y k run less = ap (option_and_then (slice_get cells)) (run.places k less)
 
+-- the n pixels from (x, y) on to the right have their cells side by side
+abbrev pub StandAt : List Rect → ℕ → ℤ → ℤ → ℕ → Type 0
+StandAt rs start x y n = (k : ℕ) → k < n → place_of rs (x +ℤ pos k) y ≡ Some (start + k)
+
+-- each of these changed
+pub changed_cell_in : (rs : List Rect) (old new : List Cell) (f : Cell → Cell) (start n : ℕ) (x y : ℤ) (k : ℕ) → StandAt rs start x y n → slice_get new (start + k) ≡ option_map f (slice_get old (start + k)) → k < n → cell_in (spans rs new) (x +ℤ pos k) y ≡ option_map f (cell_in (spans rs old) (x +ℤ pos k) y)
+unfolding cell_in
+changed_cell_in rs old new f start n x y k places e less =
+    let at = places k less in
+    ap (option_and_then (slice_get new)) at ∙ e ∙ ap (option_map f) (sym (ap (option_and_then (slice_get old)) at))
+
 pub run_long : (rs : List Rect) (start len n : ℕ) (x y : ℤ) → IsRunFrom rs start len x y → HasRun rs x y n → n ≤ len
 run_long rs start len n x y run has =
     elim (cases_lt len n) [ inl h ↦ absurd (true≢false (sym (has len h) ∙ run.ends)) | inr h ↦ h ]
@@ -120,13 +131,13 @@ not_beside x y n z w k less across down (inr (inl h)) = omega (arith, ints)
 not_beside x y n z w k less across down (inr (inr h)) = omega (arith, ints)
 
 -- cells with the same answer at each place that a pixel beside the run may have
-pub cell_stays : (rs : List Rect) (old new : List Cell) (start len n : ℕ) (x y z w : ℤ) → IsRunFrom rs start len x y → n ≤ len → ((q : ℕ) → (q < start) ⊎ (start + n ≤ q) → slice_get new q ≡ slice_get old q) → IsBeside x y n z w → cell_in (spans rs new) z w ≡ cell_in (spans rs old) z w
+pub stays_beside : (rs : List Rect) (old new : List Cell) (start n : ℕ) (x y z w : ℤ) → StandAt rs start x y n → ((q : ℕ) → (q < start) ⊎ (start + n ≤ q) → slice_get new q ≡ slice_get old q) → IsBeside x y n z w → cell_in (spans rs new) z w ≡ cell_in (spans rs old) z w
 unfolding cell_in
-cell_stays rs old new start len n x y z w run few same beside = at_place (place_of rs z w) refl
+stays_beside rs old new start n x y z w places same beside = at_place (place_of rs z w) refl
   where
     meets : (q : ℕ) → place_of rs z w ≡ Some q → start ≤ q → q < start + n → ⊥
     meets q e low high =
-        let here = place_same rs (x +ℤ pos (q - start)) y z w q (run.places (q - start) (omega arith) ∙ ap Some (omega arith)) e in
+        let here = place_same rs (x +ℤ pos (q - start)) y z w q (places (q - start) (omega arith) ∙ ap Some (omega arith)) e in
         let across = here.0 in
         not_beside x y n z w (q - start) (omega arith) across (sym here.1) beside
 
@@ -136,6 +147,10 @@ cell_stays rs old new start len n x y z w run few same beside = at_place (place_
     at_place : (o : Option ℕ) → place_of rs z w ≡ o → option_and_then (slice_get new) (place_of rs z w) ≡ option_and_then (slice_get old) (place_of rs z w)
     at_place None e = ap (option_and_then (slice_get new)) e ∙ sym (ap (option_and_then (slice_get old)) e)
     at_place (Some q) e = ap (option_and_then (slice_get new)) e ∙ same q (apart q e) ∙ sym (ap (option_and_then (slice_get old)) e)
+
+pub cell_stays : (rs : List Rect) (old new : List Cell) (start len n : ℕ) (x y z w : ℤ) → IsRunFrom rs start len x y → n ≤ len → ((q : ℕ) → (q < start) ⊎ (start + n ≤ q) → slice_get new q ≡ slice_get old q) → IsBeside x y n z w → cell_in (spans rs new) z w ≡ cell_in (spans rs old) z w
+cell_stays rs old new start len n x y z w run few same beside =
+    stays_beside rs old new start n x y z w (λ k less. run.places k (omega arith)) same beside
 
 -- ---- rows of a buffer
 
@@ -181,7 +196,7 @@ put_cells rs new row start len x y k run has e less =
 pub mapped_cells_in : (rs : List Rect) (old new : List Cell) (f : Cell → Cell) (start len n : ℕ) (x y : ℤ) (k : ℕ) → IsRunFrom rs start len x y → HasRun rs x y n → slice_get new (start + k) ≡ option_map f (slice_get old (start + k)) → k < n → cell_in (spans rs new) (x +ℤ pos k) y ≡ option_map f (cell_in (spans rs old) (x +ℤ pos k) y)
 mapped_cells_in rs old new f start len n x y k run has e less =
     let few = run_long rs start len n x y run has in
-    cell_read rs new start len x y k run (omega arith) ∙ e ∙ ap (option_map f) (sym (cell_read rs old start len x y k run (omega arith)))
+    changed_cell_in rs old new f start n x y k (λ j low. run.places j (omega arith)) e less
 
 -- a row with the colours of another
 pub copied_cells_in : (rs : List Rect) (old new : List Cell) (start len from from_len n : ℕ) (x y from_x from_y : ℤ) (k : ℕ) → IsRunFrom rs start len x y → IsRunFrom rs from from_len from_x from_y → HasRun rs x y n → HasRun rs from_x from_y n → slice_get new (start + k) ≡ option_map (colored_as (slice_get old (from + k))) (slice_get old (start + k)) → k < n → cell_in (spans rs new) (x +ℤ pos k) y ≡ option_map (colored_as (cell_in (spans rs old) (from_x +ℤ pos k) from_y)) (cell_in (spans rs old) (x +ℤ pos k) y)

@@ -1,5 +1,6 @@
 pub mod GridLemmas
 pub mod PlaceLemmas
+pub mod SpanLemmas
 pub mod SliceLemmas
 pub mod CellLemmas
 pub mod LaidLemmas

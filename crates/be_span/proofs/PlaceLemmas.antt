@@ -98,7 +98,7 @@ place_at (q ∷ rs) (suc m) r x y less e none h =
 
 -- ---- each cell is some pixel's
 
-apart : (r s : Rect) (x y : ℤ) → IsBefore r s → rect_has s x y ≡ true → rect_has r x y ≡ false
+pub apart : (r s : Rect) (x y : ℤ) → IsBefore r s → rect_has s x y ≡ true → rect_has r x y ≡ false
 apart r s x y before has =
     elim (either (rect_has r x y)) [ inl h ↦ absurd (both (in_from r x y h) (in_from s x y has) before) | inr h ↦ h ]
   where

@@ -1,10 +1,10 @@
 -- Pixels side by side in a row (this project's own).
-use Rattle.std.specs.Prelude.{◌≡◌, ◌+◌, ◌<◌, ◌≤◌, ◌⊎◌, ℕ, ℤ, pos, ◌+ℤ◌, ◌≤ℤ◌, ◌<ℤ◌, true, false, List, length, count_by, take, slice_index, Some}
+use Rattle.std.specs.Prelude.{◌≡◌, ◌+◌, ◌<◌, ◌≤◌, ◌⊎◌, ℕ, ℤ, pos, ◌+ℤ◌, ◌≤ℤ◌, ◌<ℤ◌, true, false, List, length, count_by, take, slice_index, slice_get, Some}
 use Rattle.be_geom.specs.declared.rect.Rect.{Rect}
 use Rattle.be_region.specs.Bands.{AreBands}
 use Rattle.be_region.specs.Regions.{region_has}
 use Rattle.be_span.specs.declared.Cell.{Cell}
-use Rattle.be_span.specs.Spans.{pixels_of, place_of}
+use Rattle.be_span.specs.Spans.{SpanAt, pixels_of, place_of}
 
 -- each of the n pixels from (x, y) on to the right is in the region
 abbrev pub HasRun : List Rect → ℤ → ℤ → ℕ → Type 0
@@ -20,6 +20,12 @@ pub record IsRunFrom (rs : List Rect) (start len : ℕ) (x y : ℤ) : Type 0 whe
   pub places : (k : ℕ) → k < len → place_of rs (x +ℤ pos k) y ≡ Some (start + k)
   pub ends : region_has rs (x +ℤ pos len) y ≡ false
   pub within : start + len ≤ pixels_of rs
+
+-- it is a rectangle of the region, and its cells stand behind those of the rectangles before it
+pub record IsSpanOf (rs : List Rect) (span : SpanAt) : Type 0 where
+  pub place : ℕ
+  pub there : slice_get rs place ≡ Some span.rect
+  pub starts : span.start ≡ pixels_of (take place rs)
 
 -- what is kept of a region's cells: how many come before those of each rectangle, and how many are dirty; the region's
 -- rectangles are bands, so that each pixel is in one at most

@@ -1,22 +1,34 @@
 -- What painting makes of cells side by side (the rules of colours are those of single pixels).
-use Rattle.std.specs.Prelude.{ℕ, ℤ, pos, ◌+ℤ◌, ◌-◌, ◌%◌, ◌==◌, Bool}
+use Rattle.std.specs.Prelude.{ℕ, ℤ, pos, ◌+ℤ◌, ◌-◌, ◌%◌, ◌==◌, Bool, ◌&&◌, nat_lt, if◌then◌else◌, Option, Some, None, slice_get}
 use Rattle.std.specs.Int.{bit_at}
 use Rattle.be_color.specs.declared.colors.Color.{Color}
+use Rattle.be_color.specs.declared.colors.Color.TheVariants.{Clear}
 use Rattle.be_color.specs.Pattern.{place_in_pattern}
 use Rattle.be_color.specs.Pixel.{picked, blended}
 use Rattle.be_span.specs.declared.Cell.{Cell}
 use Rattle.be_span.specs.declared.brush.Brush.{Brush}
 use Rattle.be_span.specs.declared.brush.Source.{Source}
-use Rattle.be_span.specs.declared.brush.Source.TheVariants.{One, Bits}
+use Rattle.be_span.specs.declared.brush.Source.TheVariants.{One, Bits, Colors, Mask}
 
 -- the bit of a pattern's row at a column, of which the highest is leftmost
 abbrev pub row_bit : ℕ → ℤ → Bool
 row_bit byte x = bit_at byte (7 - place_in_pattern x) == 1
 
+-- whether a mask has a bit for the k-th cell, of which the highest is for the first; behind the 64th there is none
+abbrev pub mask_bit : ℕ → ℕ → Bool
+mask_bit bits k = nat_lt k 64 && (bit_at bits (63 - k) == 1)
+
+-- a colour, or the transparent one where there is none
+abbrev pub color_or_clear : Option Color → Color
+color_or_clear (Some color) = color
+color_or_clear None = Clear
+
 -- the colour that the k-th cell of a slice is painted with
 abbrev pub source_at : Brush → Source → ℕ → Color
 source_at brush (One color) k = color
 source_at brush (Bits byte column) k = picked brush.mode (row_bit byte (column +ℤ pos k)) brush.high brush.low
+source_at brush (Colors colors) k = color_or_clear (slice_get colors.now k)
+source_at brush (Mask bits color) k = if mask_bit bits k then color else Clear
 
 -- a cell on which a colour was painted; its mark stays
 abbrev pub painted : Brush → Color → Cell → Cell

@@ -12,6 +12,11 @@ pub record Spans : Type 0 where
   pub rects : List Rect
   pub cells : List Cell
 
+-- a rectangle of a region, and how many cells come before its own
+pub record SpanAt : Type 0 where
+  pub rect : Rect
+  pub start : ℕ
+
 -- how many columns a rectangle has that isn't empty, and how many rows
 abbrev pub width_of : Rect → ℕ
 width_of r = unsigned_abs (r.right -ℤ r.left +ℤ pos 1)

@@ -10,7 +10,7 @@ pub struct Brush {
 
 /// The colours that the cells of a row are painted with, from the left on.
 #[derive(Clone, Copy, Debug, PartialEq, Eq)]
-pub enum Source {
+pub enum Source<'a> {
     /// Each with this one.
     One(Color),
     /// Each with the colour that its bit picks.
@@ -19,5 +19,12 @@ pub enum Source {
         byte: u8,
         /// The column of the first cell, in window coordinates.
         column: i32,
+    },
+    /// Each with its own. A cell behind those that have one stays.
+    Colors(&'a [Color]),
+    /// Those whose bit is set with this colour, the first cell by the highest bit. The others stay.
+    Mask {
+        bits: u64,
+        color: Color,
     },
 }

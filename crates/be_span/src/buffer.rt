@@ -1,18 +1,20 @@
-ghost use Rattle.std.specs.Prelude.{◌≡◌, ◌<◌, ◌↔◌, ℕ, ℤ, pos, ◌+ℤ◌, true, false, None, Some, IfOk, IsSome, IsTrue, All, length, slice_get, count_by, if◌then◌else◌};
+ghost use Rattle.std.specs.Prelude.{◌≡◌, ◌<◌, ◌↔◌, ℕ, ℤ, pos, ◌+ℤ◌, ◌≤ℤ◌, true, false, None, Some, IfOk, IfNone, IfSome, IsSome, IsTrue, All, length, slice_get, count_by, if◌then◌else◌};
 ghost use Rattle.std.specs.Option.{option_map};
+ghost use Rattle.be_geom.specs.Rects.{rect_has};
 ghost use Rattle.be_region.specs.Regions.{region_has};
 ghost use Rattle.be_region.specs.Bands.{AreBands};
 ghost use Rattle.be_span.specs.Cells.{unmarked, exposed_cell, colored_as};
 ghost use Rattle.be_span.specs.Spans.{cell_in, is_dirty, black_cell, clean_cell, pixels_of};
-ghost use Rattle.be_span.specs.Runs.{AreRows, HasRun, IsBeside};
+ghost use Rattle.be_span.specs.Runs.{AreRows, HasRun, IsBeside, IsSpanOf};
 ghost use Rattle.be_span.specs.Slices.{source_at, painted};
 
 use crate::Cell;
 use crate::brush::{Brush, Source};
 use crate::copy::copy_part;
 use crate::expose::expose_part;
-use crate::places::{run_from, starts_of};
+use crate::places::{cell_at, run_from, span_from, starts_of};
 use crate::rows::{dirty_among, dirty_of, overwrite, paint_part, unmark_all};
+use crate::span::Span;
 use be_color::{Color, Rgb};
 use be_geom::NoMemory;
 use be_region::Region;
@@ -209,11 +211,11 @@ impl SpanBuf {
     }
 
     /// Paints the `count` pixels from (x, y) on to the right. Their marks stay.
-    pub fn paint_row(&mut self, x: i32, y: i32, count: usize, brush: Brush, source: Source)
+    pub fn paint_row(&mut self, x: i32, y: i32, count: usize, brush: Brush, source: Source<'_>)
         requires { HasRun self.old.rects x y count }
         ensures region { self.new.rects ≡ self.old.rects }
         ensures painted { (k : ℕ) → k < count → cell_in self.new (x +ℤ pos k) y
-            ≡ option_map (painted brush (source_at brush source k))
+            ≡ option_map (painted brush (source_at brush source.entry k))
             (cell_in self.old (x +ℤ pos k) y) }
         ensures others { (z w : ℤ) → IsBeside x y count z w
             → cell_in self.new z w ≡ cell_in self.old z w }
@@ -224,6 +226,46 @@ impl SpanBuf {
             return;
         };
         paint_part(&mut self.cells, run.start, count, brush, source);
+    }
+
+    /// The rectangle of the region that has a pixel. None outside the region. It holds as long as the
+    /// region stays.
+    pub fn span_at(&self, x: i32, y: i32) -> Option<Span>
+        ensures none { IfNone result (region_has self.now.rects x y ≡ false) }
+        ensures some { IfSome result (λ span. IsSpanOf self.now.rects span
+            × (rect_has span.rect x y ≡ true)) }
+    {
+        span_from(&self.region, &self.starts, x, y)
+    }
+
+    /// Paints the `count` pixels from (x, y) on to the right, all of them in this span. Their marks
+    /// stay. It takes no search.
+    pub fn paint_in(
+        &mut self,
+        span: Span,
+        x: i32,
+        y: i32,
+        count: usize,
+        brush: Brush,
+        source: Source<'_>,
+    )
+        requires span { IsSpanOf self.old.rects span }
+        requires left { span.rect.left ≤ℤ x }
+        requires right { (x +ℤ pos count) ≤ℤ (span.rect.right +ℤ pos 1) }
+        requires top { span.rect.top ≤ℤ y }
+        requires bottom { y ≤ℤ span.rect.bottom }
+        ensures region { self.new.rects ≡ self.old.rects }
+        ensures painted { (k : ℕ) → k < count → cell_in self.new (x +ℤ pos k) y
+            ≡ option_map (painted brush (source_at brush source.entry k))
+            (cell_in self.old (x +ℤ pos k) y) }
+        ensures others { (z w : ℤ) → IsBeside x y count z w
+            → cell_in self.new z w ≡ cell_in self.old z w }
+        ensures marks { count_by (λ c. c.dirty) self.new.cells
+            ≡ count_by (λ c. c.dirty) self.old.cells }
+    {
+        let cells = &mut self.cells;
+        let start = cell_at(span.rect, span.start, x, y);
+        paint_part(cells, start, count, brush, source);
     }
 
     /// Exposes the `count` pixels from (x, y) on to the right: each gets the colour, or keeps its own

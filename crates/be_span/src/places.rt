@@ -1,10 +1,11 @@
-ghost use Rattle.std.specs.Prelude.{◌≡◌, ◌<◌, ◌≤ℤ◌, ◌+ℤ◌, ◌-ℤ◌, ◌+◌, pos, unsigned_abs, ℕ, ◌^◌, false, length, take, slice_index, IfNone, IfSome, IfOk};
+ghost use Rattle.std.specs.Prelude.{◌≡◌, ◌<◌, ◌≤ℤ◌, ◌+ℤ◌, ◌-ℤ◌, ◌+◌, pos, unsigned_abs, ℕ, ◌^◌, true, false, length, take, slice_index, IfNone, IfSome, IfOk};
 ghost use Rattle.be_geom.specs.Rects.{rect_has};
 ghost use Rattle.be_region.specs.Bands.{AreBands};
 ghost use Rattle.be_region.specs.Regions.{region_has};
 ghost use Rattle.be_span.specs.Spans.{pixels_of, place_in, width_of, height_of, area_of};
-ghost use Rattle.be_span.specs.Runs.{IsRunFrom};
+ghost use Rattle.be_span.specs.Runs.{IsRunFrom, IsSpanOf};
 
+use crate::span::Span;
 use be_geom::{NoMemory, Rect};
 use be_region::Region;
 use std::alloc::Global;
@@ -32,8 +33,26 @@ pub(crate) fn run_from(region: &Region, starts: &[usize], x: i32, y: i32) -> Opt
     Some(run_in(rect, starts[place], x, y))
 }
 
+/// The rectangle that has the pixel. None outside the region.
+pub(crate) fn span_from(region: &Region, starts: &[usize], x: i32, y: i32) -> Option<Span>
+    requires each { length starts.now ≡ length region.now }
+    requires before { (k : ℕ) → k < length region.now
+        → slice_index starts.now k ≡ pixels_of (take k region.now) }
+    ensures none { IfNone result (region_has region.now x y ≡ false) }
+    ensures some { IfSome result (λ span. IsSpanOf region.now span
+        × (rect_has span.rect x y ≡ true)) }
+{
+    let Some(place) = region.span_at(x, y) else {
+        return None;
+    };
+    let rect = region.rect_at(place).unwrap();
+    Some(Span {
+        rect,
+        start: starts[place],
+    })
+}
+
 /// The same in the rectangle that has the pixel, before whose cells there are `start` others.
-#[tactic(auto, unfolding(crate::specs::Spans::place_in))]
 fn run_in(rect: Rect, start: usize, x: i32, y: i32) -> Run
     requires from_left { rect.left ≤ℤ x }
     requires to_right { x ≤ℤ rect.right }
@@ -43,19 +62,30 @@ fn run_in(rect: Rect, start: usize, x: i32, y: i32) -> Run
     ensures start { result.start ≡ start + place_in rect x y }
     ensures len { pos result.len ≡ rect.right -ℤ x +ℤ pos 1 }
 {
-    let width = width_of(rect);
-    let row = steps(rect.top, y);
-    let column = steps(rect.left, x);
     Run {
-        start: start + (row * width + column),
-        len: width - column,
+        start: cell_at(rect, start, x, y),
+        len: width_of(rect) - steps(rect.left, x),
     }
+}
+
+/// Where the cell of a pixel stands in the rectangle's rows, or the place behind the last of its row.
+#[tactic(auto, unfolding(crate::specs::Spans::place_in))]
+pub(crate) fn cell_at(rect: Rect, start: usize, x: i32, y: i32) -> usize
+    requires across { rect.left ≤ℤ rect.right }
+    requires from_left { rect.left ≤ℤ x }
+    requires to_right { x ≤ℤ (rect.right +ℤ pos 1) }
+    requires from_top { rect.top ≤ℤ y }
+    requires to_bottom { y ≤ℤ rect.bottom }
+    requires fits { start + area_of rect < 2 ^ 63 }
+    ensures { result ≡ start + place_in rect x y }
+{
+    start + (steps(rect.top, y) * width_of(rect) + steps(rect.left, x))
 }
 
 /// How far it is from an edge to a column or a row that isn't before it.
 fn steps(edge: i16, z: i32) -> usize
     requires from { edge ≤ℤ z }
-    requires to { z ≤ℤ pos 32767 }
+    requires to { z ≤ℤ pos 32768 }
     ensures { result ≡ unsigned_abs (z -ℤ edge) }
 {
     (z - i32::from(edge)) as usize

@@ -38,12 +38,12 @@ pub(crate) fn paint_part(
     start: usize,
     count: usize,
     brush: Brush,
-    source: Source,
+    source: Source<'_>,
 )
     requires { start + count ≤ length cells.old }
     ensures len { length cells.new ≡ length cells.old }
     ensures inside { (k : ℕ) → k < count → slice_get cells.new (start + k)
-        ≡ option_map (painted brush (source_at brush source k)) (slice_get cells.old (start + k)) }
+        ≡ option_map (painted brush (source_at brush source.entry k)) (slice_get cells.old (start + k)) }
     ensures others { (q : ℕ) → (q < start) ⊎ (start + count ≤ q)
         → slice_get cells.new q ≡ slice_get cells.old q }
     ensures marks { count_by (λ c. c.dirty) cells.new ≡ count_by (λ c. c.dirty) cells.old }

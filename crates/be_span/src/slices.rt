@@ -1,24 +1,26 @@
-ghost use Rattle.std.specs.Prelude.{◌≡◌, ℕ, ℤ, pos, ◌+◌, ◌-◌, ◌%◌, ◌<◌, ◌==◌, true, map, slice_get, length, count_by};
+ghost use Rattle.std.specs.Prelude.{◌≡◌, ℕ, ℤ, pos, ◌+◌, ◌-◌, ◌%◌, ◌<◌, ◌≤◌, ◌==◌, true, map, slice_get, length, count_by, if◌then◌else◌};
 ghost use Rattle.std.specs.Option.{option_map};
 ghost use Rattle.std.specs.Int.{bit_at};
-ghost use Rattle.be_color.specs.declared.colors.Color.TheVariants.{Solid};
+ghost use Rattle.be_color.specs.declared.colors.Color.TheVariants.{Solid, Clear};
 ghost use Rattle.be_color.specs.Pattern.{place_in_pattern};
-ghost use Rattle.be_span.specs.declared.brush.Source.TheVariants.{Bits};
-ghost use Rattle.be_span.specs.Slices.{source_at, painted, painted_by_bit};
+ghost use Rattle.be_span.specs.declared.brush.Source.TheVariants.{Bits, Mask};
+ghost use Rattle.be_span.specs.Slices.{source_at, mask_bit, color_or_clear, painted, painted_by_bit};
 
 use crate::Cell;
 use crate::brush::{Brush, Source};
 use be_color::{Color, Mode, Rgb, blend, pick};
 
 /// Paints cells that stand side by side in a row.
-pub fn paint_cells(cells: &mut [Cell], brush: Brush, source: Source)
+pub fn paint_cells(cells: &mut [Cell], brush: Brush, source: Source<'_>)
     ensures cells { (k : ℕ) → slice_get cells.new k
-        ≡ option_map (painted brush (source_at brush source k)) (slice_get cells.old k) }
+        ≡ option_map (painted brush (source_at brush source.entry k)) (slice_get cells.old k) }
     ensures marks { count_by (λ c. c.dirty) cells.new ≡ count_by (λ c. c.dirty) cells.old }
 {
     match source {
         Source::One(color) => paint_one(cells, brush, color),
         Source::Bits { byte, column } => paint_byte(cells, brush, byte, column),
+        Source::Colors(colors) => paint_colors(cells, brush, colors),
+        Source::Mask { bits, color } => paint_mask(cells, brush, bits, color),
     }
 }
 
@@ -118,6 +120,132 @@ fn paint_each_bit(cells: &mut [Cell], mode: Mode, byte: u8, first: usize, high: 
         cell.rgb = blend(mode, source, cell.rgb, high, low);
         place = (place + 1) % 8;
     }
+}
+
+/// Paints each cell with its own colour, as far as there are colours.
+fn paint_colors(cells: &mut [Cell], brush: Brush, colors: &[Color])
+    ensures { (k : ℕ) → slice_get cells.new k
+        ≡ option_map (painted brush (color_or_clear (slice_get colors.now k)))
+        (slice_get cells.old k) }
+{
+    let count = cells.len().min(colors.len());
+    paint_as_many(&mut cells[..count], brush, colors);
+}
+
+/// The same where no cell is behind the last colour.
+fn paint_as_many(cells: &mut [Cell], brush: Brush, colors: &[Color])
+    requires { length cells.old ≤ length colors.now }
+    ensures { (k : ℕ) → slice_get cells.new k
+        ≡ option_map (painted brush (color_or_clear (slice_get colors.now k)))
+        (slice_get cells.old k) }
+{
+    let Brush { mode, high, low } = brush;
+    match mode {
+        Mode::Copy => paint_each_color(cells, Mode::Copy, colors, high, low),
+        Mode::Over => paint_each_color(cells, Mode::Over, colors, high, low),
+        Mode::Erase => paint_each_color(cells, Mode::Erase, colors, high, low),
+        Mode::Invert => paint_each_color(cells, Mode::Invert, colors, high, low),
+        Mode::Add => paint_each_color(cells, Mode::Add, colors, high, low),
+        Mode::Subtract => paint_each_color(cells, Mode::Subtract, colors, high, low),
+        Mode::Blend => paint_each_color(cells, Mode::Blend, colors, high, low),
+        Mode::Min => paint_each_color(cells, Mode::Min, colors, high, low),
+        Mode::Max => paint_each_color(cells, Mode::Max, colors, high, low),
+        Mode::Select => paint_each_color(cells, Mode::Select, colors, high, low),
+    }
+}
+
+/// The same in a mode. Each caller has a loop of its own, for its mode.
+#[inline(always)]
+fn paint_each_color(cells: &mut [Cell], mode: Mode, colors: &[Color], high: Color, low: Color)
+    requires { length cells.old ≤ length colors.now }
+    ensures { (k : ℕ) → slice_get cells.new k
+        ≡ option_map (painted record { mode = mode; high = high; low = low }
+        (color_or_clear (slice_get colors.now k))) (slice_get cells.old k) }
+{
+    let mut place = 0;
+    for cell in cells.iter_mut() {
+        if let Color::Solid(source) = color_at(colors, place) {
+            *cell = painted(*cell, mode, source, high, low);
+        }
+        place += 1;
+    }
+}
+
+/// The colour at a place.
+#[inline(always)]
+fn color_at(colors: &[Color], place: usize) -> Color
+    requires { place < length colors.now }
+    ensures { result ≡ color_or_clear (slice_get colors.now place) }
+{
+    colors[place]
+}
+
+/// Paints the cells whose bit of the mask is set with the same colour.
+fn paint_mask(cells: &mut [Cell], brush: Brush, bits: u64, color: Color)
+    ensures { (k : ℕ) → slice_get cells.new k
+        ≡ option_map (painted brush (source_at brush (Mask bits color) k)) (slice_get cells.old k) }
+{
+    let source = match color {
+        Color::Solid(rgb) => rgb,
+        Color::Clear => return,
+    };
+    let count = cells.len().min(64);
+    paint_marked(&mut cells[..count], brush, bits, source);
+}
+
+/// The same where each cell has a bit.
+fn paint_marked(cells: &mut [Cell], brush: Brush, bits: u64, source: Rgb)
+    requires { length cells.old ≤ 64 }
+    ensures { (k : ℕ) → slice_get cells.new k
+        ≡ option_map (painted brush (if mask_bit bits k then Solid source else Clear))
+        (slice_get cells.old k) }
+{
+    let Brush { mode, high, low } = brush;
+    match mode {
+        Mode::Copy => paint_each_marked(cells, Mode::Copy, bits, source, high, low),
+        Mode::Over => paint_each_marked(cells, Mode::Over, bits, source, high, low),
+        Mode::Erase => paint_each_marked(cells, Mode::Erase, bits, source, high, low),
+        Mode::Invert => paint_each_marked(cells, Mode::Invert, bits, source, high, low),
+        Mode::Add => paint_each_marked(cells, Mode::Add, bits, source, high, low),
+        Mode::Subtract => paint_each_marked(cells, Mode::Subtract, bits, source, high, low),
+        Mode::Blend => paint_each_marked(cells, Mode::Blend, bits, source, high, low),
+        Mode::Min => paint_each_marked(cells, Mode::Min, bits, source, high, low),
+        Mode::Max => paint_each_marked(cells, Mode::Max, bits, source, high, low),
+        Mode::Select => paint_each_marked(cells, Mode::Select, bits, source, high, low),
+    }
+}
+
+/// The same in a mode. Each caller has a loop of its own, for its mode.
+#[inline(always)]
+fn paint_each_marked(
+    cells: &mut [Cell],
+    mode: Mode,
+    bits: u64,
+    source: Rgb,
+    high: Color,
+    low: Color,
+)
+    requires { length cells.old ≤ 64 }
+    ensures { (k : ℕ) → slice_get cells.new k
+        ≡ option_map (painted record { mode = mode; high = high; low = low }
+        (if mask_bit bits k then Solid source else Clear)) (slice_get cells.old k) }
+{
+    let mut place = 0;
+    for cell in cells.iter_mut() {
+        if is_marked(bits, place) {
+            *cell = painted(*cell, mode, source, high, low);
+        }
+        place += 1;
+    }
+}
+
+/// Whether the mask has the bit of a cell, counted from the highest.
+#[inline(always)]
+fn is_marked(bits: u64, place: usize) -> bool
+    requires { place < 64 }
+    ensures { result ≡ mask_bit bits place }
+{
+    bits >> (63 - place) & 1 == 1
 }
 
 /// Whether the byte has this bit, counted from the left.

@@ -55,9 +55,9 @@ pub fn bit_rounds(alloc: Global, rounds: u32) -> Result<usize, NoMemory> {
     Ok(cells.len())
 }
 
-fn paint(cells: &mut [Cell], brush: Brush, source: Source)
+fn paint(cells: &mut [Cell], brush: Brush, source: Source<'_>)
     ensures { (k : ℕ) → slice_get cells.new k
-        ≡ option_map (painted brush (source_at brush source k)) (slice_get cells.old k) }
+        ≡ option_map (painted brush (source_at brush source.entry k)) (slice_get cells.old k) }
 {
     paint_cells(cells, brush, source);
 }
