@@ -1,7 +1,7 @@
 ghost use Rattle.std.specs.Prelude.{pos, ◌≤ℤ◌};
 
 use be_geom::{NoMemory, OutOfRange, Point, Rect};
-use be_region::Region;
+use be_region::{Corner, Region};
 use std::alloc::Global;
 use std::test::Fail;
 
@@ -242,6 +242,13 @@ fn cuts_a_hole(rt: HostRuntime) -> Result<(), Fail> {
     ] {
         assert_eq!(rt; region.run_at(x, y), run, "at {x}, {y}");
     }
+    assert_eq!(rt;
+        region.block_at(1, 1).1,
+        Corner {
+            right: 2,
+            bottom: 2
+        }
+    );
     let empty = Region::empty(rt.alloc());
     assert_eq!(rt; empty.count(), 0);
     assert_eq!(rt; empty.rect_at(0), None);

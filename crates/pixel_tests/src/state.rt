@@ -1,6 +1,6 @@
 use be_color::{Color, Mode, Rgb, blend};
 use be_geom::{NoMemory, Point, Rect};
-use be_region::Region;
+use be_region::{Corner, Region};
 use be_state::{StackEmpty, StackFull, State, StateStack};
 use std::alloc::Global;
 use std::test::Fail;
@@ -206,5 +206,12 @@ fn runs_through_all_clips(rt: HostRuntime) -> Result<(), Fail> {
         assert_eq!(rt; stack.run_at(x, y), (allowed, last), "at {x}, {y}");
         assert_eq!(rt; stack.allows(x, y), allowed, "at {x}, {y}");
     }
+    assert_eq!(rt;
+        stack.block_at(6, 0).1,
+        Corner {
+            right: 7,
+            bottom: 0
+        }
+    );
     Ok(())
 }

@@ -1,5 +1,6 @@
 use be_follow::{Across, Down, Follow};
 use be_geom::{OutOfRange, Rect};
+use be_region::Corner;
 use be_views::{ClipFault, ViewFault, ViewTree};
 use std::alloc::Global;
 use std::test::Fail;
@@ -151,6 +152,29 @@ fn goes_along_a_row(rt: HostRuntime) -> Result<(), Fail> {
         (0, 9, (Some(0), 9)),
     ] {
         assert_eq!(rt; tree.run_at(x, y), run, "at {x}, {y}");
+    }
+    Ok(())
+}
+
+#[test]
+fn goes_right_and_down(rt: HostRuntime) -> Result<(), Fail> {
+    let tree = five_views(rt.alloc())?;
+    for (x, y, view, right, bottom) in [
+        (-5, 4, None, -1, 2147483647),
+        (-5, -5, None, 2147483647, -1),
+        (10, 0, None, 2147483647, 2147483647),
+        (0, 0, Some(0), 9, 0),
+        (8, 4, Some(0), 9, 9),
+        (1, 1, Some(3), 1, 1),
+        (2, 1, Some(1), 5, 2),
+        (3, 3, Some(2), 7, 3),
+        (4, 4, Some(4), 7, 4),
+    ] {
+        assert_eq!(rt;
+            tree.block_at(x, y),
+            (view, Corner { right, bottom }),
+            "at {x}, {y}"
+        );
     }
     Ok(())
 }
