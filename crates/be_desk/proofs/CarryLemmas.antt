@@ -17,7 +17,7 @@ use Rattle.be_views.specs.Trees.{Tree}
 use Rattle.be_desk.specs.Carrying.{IsCarriedOver, IsFollowed}
 use Rattle.be_desk.specs.Changes.{Desk, desk_after, desk_unless, desk_with, with_tree}
 use Rattle.be_desk.specs.Desks.{IsPaired, IsTaken}
-use Rattle.be_desk.specs.Plans.{IsPaneOf, ArePanesOf, Planned, IsPlanOf, IsCarried, AreCarried}
+use Rattle.be_desk.specs.Plans.{IsPaneOf, ArePanesOf, Planned, IsPlanOf, IsCarried, AreCarried, then_spans}
 use Rattle.be_desk.proofs.DeskLemmas.{IsAfter, TreesAfter, is_after}
 use Rattle.be_desk.proofs.OthersLemmas.{others_stay}
 use Rattle.be_desk.proofs.PairedLemmas.{other_trees, paired_after, set_many, set_other, set_there}
@@ -91,7 +91,7 @@ followed (Behind front) old_trees new_trees w old new same got is = stayed old_t
 followed (Focus view) old_trees new_trees w old new same got is = stayed old_trees new_trees w old new same got is
 followed Close old_trees new_trees w old new same got is = stayed old_trees new_trees w old new same got is
 
-by_number : (b : Bool) (before after : Desk) (w : ℕ) (change : Change) (these : Spans) (old new : Pane) → (old.window == w) ≡ b → IsAfter before after w change → slice_get before.pointing.trees old.window ≡ Some old.tree → IsCarriedOver these after.windows w change old new → slice_get after.pointing.trees old.window ≡ Some new.tree
+by_number : (b : Bool) (before after : Desk) (w : ℕ) (change : Change) (these : Option Spans) (old new : Pane) → (old.window == w) ≡ b → IsAfter before after w change → slice_get before.pointing.trees old.window ≡ Some old.tree → IsCarriedOver these after.windows w change old new → slice_get after.pointing.trees old.window ≡ Some new.tree
 by_number true before after w change these old new e is views over =
     let same : old.window ≡ w = eqb-true old.window w e in
     ap (slice_get after.pointing.trees) same
@@ -100,7 +100,7 @@ by_number false before after w change these old new e is views over =
     let other : old.window ≡ w → ⊥ = λ same. false≢true (sym e ∙ eq-eqb old.window w same) in
     (other_trees change before.pointing.trees after.pointing.trees w is.trees).1 old.window other ∙ views ∙ ap (λ (t : Tree). Some t) (sym (over.other_views e))
 
-pub is_carried : (before after : Desk) (w : ℕ) (change : Change) (these : Spans) (old new : Pane) → IsAfter before after w change → IsPaneOf before old → IsCarriedOver these after.windows w change old new → IsCarried after these old new
+pub is_carried : (before after : Desk) (w : ℕ) (change : Change) (these : Option Spans) (old new : Pane) → IsAfter before after w change → IsPaneOf before old → IsCarriedOver these after.windows w change old new → IsCarried after (then_spans these old) old new
 is_carried before after w change these old new is of_pane over = record {
   window = over.window;
   place = over.place;
@@ -121,14 +121,14 @@ not_above : (k n : ℕ) → n + 1 ≤ k → k ≡ n → ⊥
 not_above k n more e = omega arith
 
 -- those up to a place are carried over, and those behind it are as they were, with their spans
-pub record AreCarriedTo (windows : Windows) (w : ℕ) (change : Change) (old now : List Pane) (spans left : List Spans) (n : ℕ) : Type 0 where
+pub record AreCarriedTo (windows : Windows) (w : ℕ) (change : Change) (old now : List Pane) (spans left : List (Option Spans)) (n : ℕ) : Type 0 where
   pub each : length now ≡ length old
   pub many : length left ≡ length spans
-  pub over : (k : ℕ) (pane new : Pane) (these : Spans) → k < n → slice_get old k ≡ Some pane → slice_get spans k ≡ Some these → slice_get now k ≡ Some new → IsCarriedOver these windows w change pane new
+  pub over : (k : ℕ) (pane new : Pane) (these : Option Spans) → k < n → slice_get old k ≡ Some pane → slice_get spans k ≡ Some these → slice_get now k ≡ Some new → IsCarriedOver these windows w change pane new
   pub panes : (k : ℕ) → n ≤ k → slice_get now k ≡ slice_get old k
   pub spans_left : (k : ℕ) → n ≤ k → slice_get left k ≡ slice_get spans k
 
-pub none_carried : (windows : Windows) (w : ℕ) (change : Change) (old : List Pane) (spans : List Spans) → AreCarriedTo windows w change old old spans spans 0
+pub none_carried : (windows : Windows) (w : ℕ) (change : Change) (old : List Pane) (spans : List (Option Spans)) → AreCarriedTo windows w change old old spans spans 0
 none_carried windows w change old spans = record {
   each = refl;
   many = refl;
@@ -137,7 +137,7 @@ none_carried windows w change old spans = record {
   spans_left = λ k less. refl;
 }
 
-pub one_carried : (windows : Windows) (w : ℕ) (change : Change) (old now : List Pane) (spans left : List Spans) (n : ℕ) (pane new : Pane) (these other : Spans) → AreCarriedTo windows w change old now spans left n → n < length old → slice_get now n ≡ Some pane → slice_get left n ≡ Some these → IsCarriedOver these windows w change pane new → AreCarriedTo windows w change old (slice_set now n new) spans (slice_set left n other) (n + 1)
+pub one_carried : (windows : Windows) (w : ℕ) (change : Change) (old now : List Pane) (spans left : List (Option Spans)) (n : ℕ) (pane new : Pane) (these other : Option Spans) → AreCarriedTo windows w change old now spans left n → n < length old → slice_get now n ≡ Some pane → slice_get left n ≡ Some these → IsCarriedOver these windows w change pane new → AreCarriedTo windows w change old (slice_set now n new) spans (slice_set left n other) (n + 1)
 one_carried windows w change old now spans left n pane new these other to within got got_spans over = record {
   each = set_many now n new ∙ to.each;
   many = set_many left n other ∙ to.many;
@@ -152,13 +152,13 @@ one_carried windows w change old now spans left n pane new these other to within
             let is_pane = same_Some pane p (sym got ∙ to.panes n (omega arith) ∙ ap (slice_get old) (sym same) ∙ at) in
             let is_spans = same_Some these t (sym got_spans ∙ to.spans_left n (omega arith) ∙ ap (slice_get spans) (sym same) ∙ at_spans) in
             subst (λ (x : Pane). IsCarriedOver t windows w change p x) is_new
-            (subst (λ (x : Pane). IsCarriedOver t windows w change x new) is_pane (subst (λ (x : Spans). IsCarriedOver x windows w change pane new) is_spans over))
+            (subst (λ (x : Pane). IsCarriedOver t windows w change x new) is_pane (subst (λ (x : Option Spans). IsCarriedOver x windows w change pane new) is_spans over))
       ];
   panes = λ k more. set_other now n k new (λ e. not_above k n more e) ∙ to.panes k (omega arith);
   spans_left = λ k more. set_other left n k other (λ e. not_above k n more e) ∙ to.spans_left k (omega arith);
 }
 
-pub all_carried : (plan : Planned) (desk after : Desk) (old new : List Pane) (left : List Spans) (n : ℕ) → IsPlanOf plan desk old → desk_after desk plan.window plan.change ≡ Ok after → AreCarriedTo after.windows plan.window plan.change old new plan.spans left n → length old ≤ n → AreCarried plan after old new
+pub all_carried : (plan : Planned) (desk after : Desk) (old new : List Pane) (left : List (Option Spans)) (n : ℕ) → IsPlanOf plan desk old → desk_after desk plan.window plan.change ≡ Ok after → AreCarriedTo after.windows plan.window plan.change old new plan.spans left n → length old ≤ n → AreCarried plan after old new
 all_carried plan desk after old new left n is taken to all = record {
   each = to.each;
   panes = λ k pane these at at_spans next then_at.
@@ -167,7 +167,7 @@ all_carried plan desk after old new left n is taken to all = record {
 }
 
 -- a pane's window is there afterwards
-pub pane_there : (plan : Planned) (desk after : Desk) (old now : List Pane) (left : List Spans) (n : ℕ) (pane : Pane) → IsPlanOf plan desk old → desk_after desk plan.window plan.change ≡ Ok after → AreCarriedTo after.windows plan.window plan.change old now plan.spans left n → slice_get now n ≡ Some pane → pane.window < length after.windows.windows
+pub pane_there : (plan : Planned) (desk after : Desk) (old now : List Pane) (left : List (Option Spans)) (n : ℕ) (pane : Pane) → IsPlanOf plan desk old → desk_after desk plan.window plan.change ≡ Ok after → AreCarriedTo after.windows plan.window plan.change old now plan.spans left n → slice_get now n ≡ Some pane → pane.window < length after.windows.windows
 pane_there plan desk after old now left n pane is taken to got =
     let of_pane = is.panes_of n pane (sym (to.panes n (omega arith)) ∙ got) in
     let within = corner_within desk.windows pane.window pane.place of_pane.place in
@@ -192,7 +192,7 @@ panes_after plan desk after old new is taken carried k pane got =
     let was = got_some old k (omega arith) in
     let every = is.each in
     let these = got_some plan.spans k (omega arith) in
-    pane_after desk after plan.window plan.change old was.0 pane these.0 (is_after desk after plan.window plan.change taken) (is.panes_of k was.0 was.1) (is.changed after taken k was.0 these.0 was.1 these.1) (carried.panes k was.0 these.0 was.1 these.1 pane got)
+    pane_after desk after plan.window plan.change old was.0 pane (then_spans these.0 was.0) (is_after desk after plan.window plan.change taken) (is.panes_of k was.0 was.1) (is.changed after taken k was.0 these.0 was.1 these.1) (carried.panes k was.0 these.0 was.1 these.1 pane got)
 
 -- and windows and views still go together
 pub paired_then : (plan : Planned) (desk after : Desk) (panes : List Pane) → IsPlanOf plan desk panes → desk_after desk plan.window plan.change ≡ Ok after → IsPaired after

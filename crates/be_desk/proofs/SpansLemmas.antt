@@ -1,6 +1,6 @@
 -- The spans that are made for a pane are those after the change.
 use Rattle.std.specs.Prelude.{ℤ, slice_get, Contains}
-use Rattle.std.proofs.Common.{◌≡◌, ℕ, zero, suc, ◌<◌, ◌+◌, true, List, [], ◌∷◌, ◌++◌, Result, Ok, Err, IfOk, length, Option, Some, None, inl, inr, refl, sym, ap, ◌∙◌, subst, arith}
+use Rattle.std.proofs.Common.{◌≡◌, ℕ, zero, suc, ◌<◌, ◌+◌, true, List, [], ◌∷◌, ◌++◌, Result, Ok, length, Option, Some, None, cond, inl, inr, refl, sym, ap, ◌∙◌, subst, arith}
 use Rattle.std.proofs.lemmas.Bool.{cases_eq, cases_lt}
 use Rattle.std.proofs.lemmas.List.{length_push}
 use Rattle.std.specs.Option.{option_map}
@@ -11,7 +11,8 @@ use Rattle.be_geom.specs.declared.point.Point.{Point}
 use Rattle.be_geom.specs.declared.rect.Rect.{Rect}
 use Rattle.be_input.specs.Pointing.{corner_of}
 use Rattle.be_pane.specs.declared.pane.Pane.{Pane}
-use Rattle.be_region.specs.Regions.{region_has}
+use Rattle.be_region.specs.Regions.{region_has, SamePixels}
+use Rattle.be_span.specs.Cells.{exposed_as}
 use Rattle.be_span.specs.Spans.{Spans, cell_in}
 use Rattle.be_span.specs.declared.Cell.{Cell}
 use Rattle.be_stack.specs.declared.fault.ChangeFault.{ChangeFault}
@@ -19,10 +20,12 @@ use Rattle.be_stack.specs.Visible.{IsVisible}
 use Rattle.be_stack.specs.Windows.{Windows}
 use Rattle.be_stack.specs.declared.window.Window.{Window}
 use Rattle.be_views.specs.Trees.{Tree, left_top}
-use Rattle.be_desk.specs.Changes.{Desk, owns, desk_after}
+use Rattle.be_desk.specs.Changes.{Desk, owns, desk_after, or_exposed}
 use Rattle.be_desk.specs.Desks.{IsAsked, IsTaken}
-use Rattle.be_desk.specs.Plans.{IsPaneOf, ArePanesOf, AreChanged, IsPlanOf, IsCarried}
-use Rattle.be_desk.specs.Renewals.{AreColored, AreUnder, renewed_cell}
+use Rattle.be_desk.specs.Plans.{IsPaneOf, ArePanesOf, AreChanged, IsPlanOf, IsCarried, then_spans}
+use Rattle.be_desk.specs.Renewals.{AreColored, AreUnder, brought_by, color_at, is_kept_by, renewed_cell}
+use Rattle.be_desk.specs.declared.renewal.Motion.{Motion}
+use Rattle.be_desk.specs.declared.renewal.Motion.TheVariants.{Still}
 use Rattle.be_desk.specs.Renewed.{AreChangedTo, IsChange, IsRenewalIn}
 use Rattle.be_desk.specs.declared.renewal.Renewal.{Renewal}
 use Rattle.be_desk.proofs.ChangedLemmas.{renewed_is_changed}
@@ -93,6 +96,14 @@ colored_spans before after w change panes r region is listed renewal visible =
     let some : 0 < length r.tree.now = let rooted = of_pane.rooted in omega arith in
     are_colored after w change r region (paired_after before after w change is.paired then_is) some renewal (of_pane.colored ∙ sym many) visible
 
+-- a pixel that stays has the cell that was there
+kept_by_still : (r : Renewal) (x y : ℤ) (c : Cell) → r.motion ≡ Still → region_has r.pane.now.spans.rects x y ≡ true → cell_in r.pane.now.spans x y ≡ Some c → renewed_cell r x y c ≡ c
+kept_by_still r x y c still here was =
+    let exposed : Cell = exposed_as (color_at r x y) c in
+    ap (λ (m : Motion). or_exposed (cond (is_kept_by m r x y) (brought_by m r.pane.now.spans x y) None) exposed) still
+    ∙ ap (λ b. or_exposed (cond b (cell_in r.pane.now.spans x y) None) exposed) here
+    ∙ ap (λ (o : Option Cell). or_exposed o exposed) was
+
 -- each pixel has its cell
 pub changed_spans : (before after : Desk) (w : ℕ) (change : Change) (panes : List Pane) (r : Renewal) (region : List Rect) (spans : Spans) → IsChange before after w change panes → Contains panes r.pane.now → IsRenewalIn after w change r → IsVisible region after.windows r.pane.now.window → spans.rects ≡ region → ((cells : ℤ → ℤ → Cell) → AreUnder panes region cells → (x y : ℤ) → region_has region x y ≡ true → cell_in spans x y ≡ Some (renewed_cell r x y (cells x y))) → AreChanged before after w change panes r.pane.now spans
 changed_spans before after w change panes r region spans is listed renewal visible rects renewed =
@@ -103,6 +114,19 @@ changed_spans before after w change panes r region spans is listed renewal visib
       cells = λ cells colors old screen colored looks x y owned.
           renewed cells (under before after panes at.0 r.pane.now region cells is.panes_of is.named at.1 visible screen) x y (visible x y ∙ owned)
           ∙ ap (λ (c : Cell). Some c) (sym (renewed_is_changed before after w change colors r old cells x y of_pane renewal (screen.windows at.0 r.pane.now at.1) colored looks owned));
+    }
+
+-- the pixels of a pane that keeps all of them, and no others, are as they were
+pub kept_spans : (before after : Desk) (w : ℕ) (change : Change) (panes : List Pane) (r : Renewal) (region : List Rect) → IsChange before after w change panes → Contains panes r.pane.now → IsRenewalIn after w change r → IsVisible region after.windows r.pane.now.window → r.motion ≡ Still → SamePixels region r.pane.now.spans.rects → AreChanged before after w change panes r.pane.now r.pane.now.spans
+kept_spans before after w change panes r region is listed renewal visible still same =
+    let at = pane_at panes r.pane.now listed in
+    let of_pane = is.panes_of at.0 r.pane.now at.1 in
+    record {
+      pixels = λ x y. sym (same x y) ∙ visible x y;
+      cells = λ cells colors old screen colored looks x y owned.
+          let here = sym (same x y) ∙ visible x y ∙ owned in
+          let was = screen.windows at.0 r.pane.now at.1 x y (sym (of_pane.pixels x y) ∙ here) in
+          was ∙ ap (λ (c : Cell). Some c) (sym (renewed_is_changed before after w change colors r old cells x y of_pane renewal (screen.windows at.0 r.pane.now at.1) colored looks owned ∙ kept_by_still r x y (cells x y) still here was));
     }
 
 -- ---- the spans of all panes
@@ -121,7 +145,7 @@ got_last (y ∷ ys) x (suc k) e = got_last ys x k (omega arith)
 pub no_spans : (before after : Desk) (w : ℕ) (change : Change) (panes : List Pane) → AreChangedTo before after w change panes [] 0
 no_spans before after w change panes = record { each = refl; are = λ k pane these less got then_got. absurd (omega arith) }
 
-pub one_more : (before after : Desk) (w : ℕ) (change : Change) (panes : List Pane) (spans : List Spans) (n : ℕ) (pane : Pane) (these : Spans) → AreChangedTo before after w change panes spans n → slice_get panes n ≡ Some pane → AreChanged before after w change panes pane these → AreChangedTo before after w change panes (spans ++ these ∷ []) (n + 1)
+pub one_more : (before after : Desk) (w : ℕ) (change : Change) (panes : List Pane) (spans : List (Option Spans)) (n : ℕ) (pane : Pane) (these : Option Spans) → AreChangedTo before after w change panes spans n → slice_get panes n ≡ Some pane → AreChanged before after w change panes pane (then_spans these pane) → AreChangedTo before after w change panes (spans ++ these ∷ []) (n + 1)
 one_more before after w change panes spans n pane these listed got changed = record {
   each = let long = length_push spans these in let many = listed.each in omega arith;
   are = λ k other own less here then_here.
@@ -134,14 +158,9 @@ one_more before after w change panes spans n pane these listed got changed = rec
             let same : k ≡ n = omega arith in
             let of_pane = same_Some pane other (sym got ∙ ap (slice_get panes) (sym same) ∙ here) in
             let of_spans = same_Some these own (sym (got_last spans these k (omega arith)) ∙ then_here) in
-            subst (λ (p : Pane). AreChanged before after w change panes p own) of_pane (subst (λ (l : Spans). AreChanged before after w change panes pane l) of_spans changed)
+            subst (λ (p : Pane). AreChanged before after w change panes p (then_spans own p)) of_pane (subst (λ (l : Option Spans). AreChanged before after w change panes pane (then_spans l pane)) of_spans changed)
       ];
 }
-
--- what follows from both that an answer gives
-pub ok_both : {T E : Type 0} (r : Result T E) (P Q R : T → Type 0) → ((x : T) → P x → Q x → R x) → IfOk r P → IfOk r Q → IfOk r R
-ok_both (Ok x) P Q R h p q = h x p q
-ok_both (Err e) P Q R h p q = tt
 
 -- ---- the panes afterwards
 
@@ -170,7 +189,7 @@ same_desk a b e = cc
 taken_by : (desk after : Desk) (w : ℕ) (change : Change) → desk_after desk w change ≡ Ok after → IsTaken (desk_after desk w change)
 taken_by desk after w change e = subst (λ (r : Result Desk ChangeFault). IsTaken r) (sym e) tt
 
-pub is_plan : (desk after : Desk) (w : ℕ) (change : Change) (panes : List Pane) (spans : List Spans) → IsAsked desk w change → desk_after desk w change ≡ Ok after → ArePanesOf desk panes → AreChangedTo desk after w change panes spans (length panes) → IsPlanOf (record { window = w; change = change; windows = after.windows; spans = spans }) desk panes
+pub is_plan : (desk after : Desk) (w : ℕ) (change : Change) (panes : List Pane) (spans : List (Option Spans)) → IsAsked desk w change → desk_after desk w change ≡ Ok after → ArePanesOf desk panes → AreChangedTo desk after w change panes spans (length panes) → IsPlanOf (record { window = w; change = change; windows = after.windows; spans = spans }) desk panes
 is_plan desk after w change panes spans asked e panes_of listed = record {
   asked = asked;
   taken = taken_by desk after w change e;
@@ -178,5 +197,5 @@ is_plan desk after w change panes spans asked e panes_of listed = record {
   panes_of = panes_of;
   each = listed.each;
   changed = λ other then_e k pane these got got_spans.
-      subst (λ (d : Desk). AreChanged desk d w change panes pane these) (same_desk after other (sym e ∙ then_e)) (listed.are k pane these (slice_get_within panes k pane got) got got_spans);
+      subst (λ (d : Desk). AreChanged desk d w change panes pane (then_spans these pane)) (same_desk after other (sym e ∙ then_e)) (listed.are k pane these (slice_get_within panes k pane got) got got_spans);
 }

@@ -1,5 +1,5 @@
 -- A pane once its change is carried out, as the pane alone tells it (this project's own).
-use Rattle.std.specs.Prelude.{◌≡◌, ℕ, ◌==◌, true, false, Some}
+use Rattle.std.specs.Prelude.{◌≡◌, ℕ, ◌==◌, true, false, Option, Some}
 use Rattle.be_geom.specs.declared.change.Change.{Change}
 use Rattle.be_geom.specs.declared.change.Change.TheVariants.{Show, Hide, MoveTo, MoveBy, ResizeTo, Activate, Behind, Focus, Close}
 use Rattle.be_input.specs.Pointing.{corner_of}
@@ -8,6 +8,7 @@ use Rattle.be_span.specs.Spans.{Spans}
 use Rattle.be_stack.specs.Windows.{Windows}
 use Rattle.be_views.specs.Resizing.{resized}
 use Rattle.be_views.specs.Trees.{Tree}
+use Rattle.be_desk.specs.Plans.{then_spans}
 
 -- the views after their window's change: resized where they can be, and else as they were
 abbrev pub IsFollowed : Change → Tree → Tree → Type 0
@@ -22,10 +23,10 @@ IsFollowed (Focus view) old new = new ≡ old
 IsFollowed Close old new = new ≡ old
 
 -- a pane with these spans, where its window is among the windows afterwards; of window w the views follow
-pub record IsCarriedOver (these : Spans) (windows : Windows) (w : ℕ) (change : Change) (old new : Pane) : Type 0 where
+pub record IsCarriedOver (these : Option Spans) (windows : Windows) (w : ℕ) (change : Change) (old new : Pane) : Type 0 where
   pub window : new.window ≡ old.window
   pub place : corner_of windows old.window ≡ Some new.place
-  pub spans : new.spans ≡ these
+  pub spans : new.spans ≡ then_spans these old
   pub own_views : (old.window == w) ≡ true → IsFollowed change old.tree new.tree
   pub other_views : (old.window == w) ≡ false → new.tree ≡ old.tree
   pub colors : new.colors.items ≡ old.colors.items

@@ -1,5 +1,5 @@
 -- What is made ready of a change before it is carried out, and what it leaves then (this project's own).
-use Rattle.std.specs.Prelude.{◌≡◌, ◌<◌, ℕ, ℤ, true, List, length, Some, None, Ok, slice_get}
+use Rattle.std.specs.Prelude.{◌≡◌, ◌<◌, ℕ, ℤ, true, List, length, Some, None, Ok, slice_get, Option}
 use Rattle.be_color.specs.declared.colors.Color.{Color}
 use Rattle.be_geom.specs.declared.change.Change.{Change}
 use Rattle.be_input.specs.Pointing.{corner_of}
@@ -41,12 +41,18 @@ LooksUp old desk w cells = (x y : ℤ) → owns desk w x y ≡ true → old x y 
 
 -- ---- a plan
 
--- a change of a window, the windows after it, and for each pane the pixels that its window owns then, with their cells
+-- a change of a window, the windows after it, and for each pane the pixels that its window owns then, with their cells;
+-- none where they are as before
 pub record Planned : Type 0 where
   pub window : ℕ
   pub change : Change
   pub windows : Windows
-  pub spans : List Spans
+  pub spans : List (Option Spans)
+
+-- the pane's spans afterwards
+abbrev pub then_spans : Option Spans → Pane → Spans
+then_spans (Some spans) pane = spans
+then_spans None pane = pane.spans
 
 -- A pane's spans after a change of window w: the pixels that its window owns then, and on each screen of the panes the
 -- cells that the change rule gives.
@@ -61,7 +67,7 @@ pub record IsPlanOf (plan : Planned) (desk : Desk) (panes : List Pane) : Type 0 
   pub windows : (after : Desk) → desk_after desk plan.window plan.change ≡ Ok after → after.windows ≡ plan.windows
   pub panes_of : ArePanesOf desk panes
   pub each : length plan.spans ≡ length panes
-  pub changed : (after : Desk) → desk_after desk plan.window plan.change ≡ Ok after → (k : ℕ) (pane : Pane) (spans : Spans) → slice_get panes k ≡ Some pane → slice_get plan.spans k ≡ Some spans → AreChanged desk after plan.window plan.change panes pane spans
+  pub changed : (after : Desk) → desk_after desk plan.window plan.change ≡ Ok after → (k : ℕ) (pane : Pane) (spans : Option Spans) → slice_get panes k ≡ Some pane → slice_get plan.spans k ≡ Some spans → AreChanged desk after plan.window plan.change panes pane (then_spans spans pane)
 
 -- ---- once it is carried out
 
@@ -79,4 +85,4 @@ pub record IsCarried (after : Desk) (these : Spans) (old new : Pane) : Type 0 wh
 -- each pane has the plan's spans
 pub record AreCarried (plan : Planned) (after : Desk) (old new : List Pane) : Type 0 where
   pub each : length new ≡ length old
-  pub panes : (k : ℕ) (pane : Pane) (spans : Spans) → slice_get old k ≡ Some pane → slice_get plan.spans k ≡ Some spans → (then_pane : Pane) → slice_get new k ≡ Some then_pane → IsCarried after spans pane then_pane
+  pub panes : (k : ℕ) (pane : Pane) (spans : Option Spans) → slice_get old k ≡ Some pane → slice_get plan.spans k ≡ Some spans → (then_pane : Pane) → slice_get new k ≡ Some then_pane → IsCarried after (then_spans spans pane) pane then_pane

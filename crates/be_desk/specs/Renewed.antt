@@ -1,5 +1,5 @@
 -- What becomes of a pane in a change of the desk (this project's own).
-use Rattle.std.specs.Prelude.{◌≡◌, ◌<◌, ℕ, ◌==◌, ◌-ℤ◌, List, length, Ok, Some, map, slice_get, if◌then◌else◌}
+use Rattle.std.specs.Prelude.{◌≡◌, ◌<◌, ℕ, ◌==◌, ◌-ℤ◌, List, length, Ok, Option, Some, map, slice_get, if◌then◌else◌}
 use Rattle.be_geom.specs.declared.change.Change.{Change}
 use Rattle.be_geom.specs.declared.point.Point.{Point}
 use Rattle.be_input.specs.Pointing.{corner_of}
@@ -9,7 +9,7 @@ use Rattle.be_desk.specs.Affected.{HasAltered}
 use Rattle.be_desk.specs.Changes as machine
 use Rattle.be_desk.specs.Changes.{Desk, desk_after, motion_of}
 use Rattle.be_desk.specs.Desks.{IsPaired}
-use Rattle.be_desk.specs.Plans.{ArePanesOf, AreChanged}
+use Rattle.be_desk.specs.Plans.{ArePanesOf, AreChanged, then_spans}
 use Rattle.be_desk.specs.declared.renewal.Motion.{Motion}
 use Rattle.be_desk.specs.declared.renewal.Motion.TheVariants.{Still, Moving, Resizing}
 use Rattle.be_desk.specs.declared.renewal.Renewal.{Renewal}
@@ -38,6 +38,6 @@ pub record IsChange (before after : Desk) (w : ℕ) (change : Change) (panes : L
   pub named : HasAltered before.windows after.windows (map (λ pane. pane.window) panes)
 
 -- as many spans as panes up to a place, each its pane's after the change
-pub record AreChangedTo (before after : Desk) (w : ℕ) (change : Change) (panes : List Pane) (spans : List Spans) (n : ℕ) : Type 0 where
+pub record AreChangedTo (before after : Desk) (w : ℕ) (change : Change) (panes : List Pane) (spans : List (Option Spans)) (n : ℕ) : Type 0 where
   pub each : length spans ≡ n
-  pub are : (k : ℕ) (pane : Pane) (these : Spans) → k < n → slice_get panes k ≡ Some pane → slice_get spans k ≡ Some these → AreChanged before after w change panes pane these
+  pub are : (k : ℕ) (pane : Pane) (these : Option Spans) → k < n → slice_get panes k ≡ Some pane → slice_get spans k ≡ Some these → AreChanged before after w change panes pane (then_spans these pane)

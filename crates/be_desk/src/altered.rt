@@ -92,7 +92,7 @@ fn owns_the_same(before: &Stack, after: &Stack, u: u16) -> Result<bool, NoMemory
 }
 
 /// Whether two regions have the same pixels. They have the same rectangles then.
-fn has_same_pixels(one: &Region, other: &Region) -> bool
+pub(crate) fn has_same_pixels(one: &Region, other: &Region) -> bool
     ensures { IsTrue result ↔ SamePixels one.now other.now }
 {
     if one.count() != other.count() {

@@ -69,14 +69,16 @@ fn point(pointing: &mut Pointing, w: u16, change: Change)
     }
 }
 
-/// Gives a pane its new pixels, and puts it where its window is. Its views follow where it is window
-/// `w` and is resized. The pixels that it had are handed out.
-fn carry_over(pane: &mut Pane, spans: &mut SpanBuf, stack: &Stack, w: u16, change: Change)
+/// Gives a pane its new pixels, if it gets some, and puts it where its window is. Its views follow
+/// where it is window `w` and is resized. The pixels that it had are handed out.
+fn carry_over(pane: &mut Pane, spans: &mut Option<SpanBuf>, stack: &Stack, w: u16, change: Change)
     requires there { pane.old.window < length stack.now.windows }
     requires within_limits { IsTrue (is_within_limits change) }
     ensures { IsCarriedOver spans.old stack.now w change pane.old pane.new }
 {
-    swap(&mut pane.spans, spans);
+    if let Some(spans) = spans {
+        swap(&mut pane.spans, spans);
+    }
     let frame = stack.frame(pane.window).unwrap();
     pane.place = Point {
         x: frame.left,

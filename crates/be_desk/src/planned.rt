@@ -10,8 +10,8 @@ pub struct Plan {
     pub(crate) change: Change,
     /// The windows afterwards.
     pub(crate) stack: Stack,
-    /// For each pane its pixels afterwards.
-    pub(crate) spans: Vec<SpanBuf>,
+    /// For each pane its pixels afterwards. None where they are as before.
+    pub(crate) spans: Vec<Option<SpanBuf>>,
 }
 
 impl Model for Plan {

@@ -1,4 +1,4 @@
-ghost use Rattle.std.specs.Prelude.{◌≡◌, ◌<◌, ◌-ℤ◌, List, Contains, IfOk, IfErr, Ok, Some, length, map, slice_get};
+ghost use Rattle.std.specs.Prelude.{◌≡◌, ◌<◌, ◌-ℤ◌, true, List, Contains, IfOk, IfErr, Ok, Some, length, map, slice_get};
 ghost use Rattle.be_input.specs.Pointing.{corner_of};
 ghost use Rattle.be_span.specs.Laid.{IsNear};
 ghost use Rattle.be_views.specs.Trees.{Tree};
@@ -6,11 +6,12 @@ ghost use Rattle.be_desk.specs.Affected.{HasAltered};
 ghost use Rattle.be_desk.specs.Changes as machine;
 ghost use Rattle.be_desk.specs.Changes.{desk_after};
 ghost use Rattle.be_desk.specs.Desks.{desk_of, desk_with_both, trees_with, IsAsked, IsRefusedFor};
-ghost use Rattle.be_desk.specs.Plans.{ArePanesOf, AreChanged, IsPlanOf};
+ghost use Rattle.be_desk.specs.Plans.{ArePanesOf, AreChanged, IsPlanOf, then_spans};
 ghost use Rattle.be_desk.specs.Renewed.{AreChangedTo, IsChange, IsRenewalIn, motion_in};
 ghost use Rattle.be_desk.specs.Renewals.{IsNearBy};
-ghost use Rattle.be_desk.specs.declared.renewal.Motion.TheVariants.{Moving};
+ghost use Rattle.be_desk.specs.declared.renewal.Motion.TheVariants.{Still, Moving};
 
+use crate::altered::has_same_pixels;
 use crate::desk::Desk;
 use crate::fault::PlanFault;
 use crate::next::{Next, next_of};
@@ -24,8 +25,8 @@ use be_views::ViewTree;
 use std::alloc::Global;
 
 /// Makes ready a change of window `w`. The panes are those of the windows that `affected` names, and
-/// more may be among them. It costs the rectangles and the pixels of their windows, before and
-/// after, and no look at any other window's pixels.
+/// more may be among them. It costs the rectangles of their windows, before and after, and the
+/// pixels of those that win or lose some, are moved or resized.
 pub fn plan(
     alloc: Global,
     desk: &Desk,
@@ -52,7 +53,8 @@ pub fn plan(
     })
 }
 
-/// For each pane the pixels that its window owns afterwards, with their cells.
+/// For each pane the pixels that its window owns afterwards, with their cells. None where they are
+/// as before.
 fn all_spans(
     alloc: Global,
     desk: &Desk,
@@ -60,7 +62,7 @@ fn all_spans(
     panes: &[Pane],
     w: u16,
     change: &Change,
-) -> Result<Vec<SpanBuf>, NoMemory>
+) -> Result<Vec<Option<SpanBuf>>, NoMemory>
     requires { IsChange (desk_of desk.now)
         (desk_with_both (desk_of desk.now) w change.now next.now.stack next.now.tree)
         w change.now panes.now }
@@ -75,7 +77,8 @@ fn all_spans(
     Ok(all)
 }
 
-/// The pixels that a pane's window owns afterwards, with their cells.
+/// The pixels that a pane's window owns afterwards, with their cells. None where they are as
+/// before.
 fn new_spans(
     alloc: Global,
     desk: &Desk,
@@ -84,18 +87,31 @@ fn new_spans(
     pane: &Pane,
     w: u16,
     change: &Change,
-) -> Result<SpanBuf, NoMemory>
+) -> Result<Option<SpanBuf>, NoMemory>
     requires change { IsChange (desk_of desk.now)
         (desk_with_both (desk_of desk.now) w change.now next.now.stack next.now.tree)
         w change.now panes.now }
     requires listed { Contains panes.now pane.now }
     ensures { IfOk result (λ spans. AreChanged (desk_of desk.now)
         (desk_with_both (desk_of desk.now) w change.now next.now.stack next.now.tree)
-        w change.now panes.now pane.now spans) }
+        w change.now panes.now pane.now (then_spans spans pane.now)) }
 {
     let renewal = renewal_of(desk, next, pane, w, change);
     let region = next.stack.visible(pane.window)?;
-    renewed(alloc, &renewal, panes, region)
+    if is_still(renewal.motion) && has_same_pixels(&region, pane.spans.region()) {
+        return Ok(None);
+    }
+    Ok(Some(renewed(alloc, &renewal, panes, region)?))
+}
+
+/// Whether the pixels that a window keeps stay where they are.
+fn is_still(motion: Motion) -> bool
+    ensures { result ≡ true → motion ≡ Still }
+{
+    match motion {
+        Motion::Still => true,
+        Motion::Moving { .. } | Motion::Resizing => false,
+    }
 }
 
 /// What becomes of a pane's window.

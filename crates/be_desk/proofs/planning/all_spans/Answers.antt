@@ -1,4 +1,4 @@
-use Rattle.std.proofs.Common.{List, length, sym, refl, subst, ◌+◌}
+use Rattle.std.proofs.Common.{Option, List, length, sym, refl, subst, ◌+◌}
 use Rattle.std.proofs.lemmas.Option.{slice_get_read}
 use Rattle.be_span.specs.Spans.{Spans}
 use Rattle.be_desk.specs.Desks.{desk_of, desk_with_both}
@@ -14,5 +14,5 @@ loop-pane-preserved c =
     let n = c.loop-pane.pane-index in
     let pane = c.pane-item.result in
     let got = slice_get_read panes (length panes) n pane refl c.loop-pane-test.true c.pane-item.is in
-    subst (λ (l : List Spans). AreChangedTo before after c.args.w c.args.change.now panes l (n + 1)) (sym {A = List Spans} c.in_ok-push.ensures.items)
+    subst (λ (l : List (Option Spans)). AreChangedTo before after c.args.w c.args.change.now panes l (n + 1)) (sym {A = List (Option Spans)} c.in_ok-push.ensures.items)
     (one_more before after c.args.w c.args.change.now panes c.loop-pane.all.items n pane c.in_ok-new_spans.field-0 c.loop-pane.invariant got c.in_ok-new_spans.ensures)

@@ -1,11 +1,12 @@
-use Rattle.std.proofs.Common.{◌≡◌, sym, subst}
+use Rattle.std.proofs.Common.{List, sym, subst}
 use Rattle.std.specs.Prelude.{Contains}
+use Rattle.be_geom.specs.declared.rect.Rect.{Rect}
 use Rattle.be_pane.specs.declared.pane.Pane.{Pane}
-use Rattle.be_span.specs.Spans.{Spans}
+use Rattle.be_region.specs.Regions.{SamePixels}
 use Rattle.be_stack.specs.Visible.{IsVisible}
 use Rattle.be_desk.specs.Desks.{desk_of, desk_with_both}
 use Rattle.be_desk.specs.Plans.{AreChanged}
-use Rattle.be_desk.proofs.SpansLemmas.{changed_spans, colored_spans, ok_both, stays_there}
+use Rattle.be_desk.proofs.SpansLemmas.{changed_spans, colored_spans, kept_spans, stays_there}
 use Rattle.be_desk.proofs.planning.new_spans.Goals as goal
 
 pub renewal_of-renewal-requires-clause-there : goal.renewal_of-renewal-requires-clause-there
@@ -30,6 +31,20 @@ renewed-requires-clause-colored c =
     let visible = subst (λ (p : Pane). IsVisible c.in_ok-region.region after.windows p.window) (sym same) c.in_ok-region.ensures in
     colored_spans before after c.args.w c.args.change.now c.args.panes.now r c.in_ok-region.region c.requires.change listed c.renewal_of-renewal.ensures.renewal visible
 
+pub returns-then-has_same_pixels : goal.returns-then-has_same_pixels
+returns-then-has_same_pixels c =
+    let before = desk_of c.args.desk.now in
+    let after = desk_with_both before c.args.w c.args.change.now c.args.next.now.stack c.args.next.now.tree in
+    let r = c.renewal_of-renewal.result in
+    let region = c.in_ok-region.region in
+    let same = c.renewal_of-renewal.ensures.pane in
+    let listed = subst (λ (p : Pane). Contains c.args.panes.now p) (sym same) c.requires.listed in
+    let visible = subst (λ (p : Pane). IsVisible region after.windows p.window) (sym same) c.in_ok-region.ensures in
+    let pixels = subst (λ (l : List Rect). SamePixels region l) c.region-then-is_still.ensures.region (c.has_same_pixels.ensures.0 c.if-has_same_pixels.true) in
+    let its_pixels = subst (λ (p : Pane). SamePixels region p.spans.rects) (sym same) pixels in
+    subst (λ (p : Pane). AreChanged before after c.args.w c.args.change.now c.args.panes.now p p.spans) same
+    (kept_spans before after c.args.w c.args.change.now c.args.panes.now r region c.requires.change listed c.renewal_of-renewal.ensures.renewal visible (c.is_still.ensures c.if-is_still.true) its_pixels)
+
 pub returns : goal.returns
 returns c =
     let before = desk_of c.args.desk.now in
@@ -39,6 +54,5 @@ returns c =
     let same = c.renewal_of-renewal.ensures.pane in
     let listed = subst (λ (p : Pane). Contains c.args.panes.now p) (sym same) c.requires.listed in
     let visible = subst (λ (p : Pane). IsVisible region after.windows p.window) (sym same) c.in_ok-region.ensures in
-    ok_both c.renewed.result (λ (spans : Spans). spans.rects ≡ region) _ (λ (spans : Spans). AreChanged before after c.args.w c.args.change.now c.args.panes.now c.args.pane.now spans)
-    (λ spans rects cells. subst (λ (p : Pane). AreChanged before after c.args.w c.args.change.now c.args.panes.now p spans) same (changed_spans before after c.args.w c.args.change.now c.args.panes.now r region spans c.requires.change listed c.renewal_of-renewal.ensures.renewal visible rects cells))
-    c.renewed.ensures.region c.renewed.ensures.cells
+    subst (λ (p : Pane). AreChanged before after c.args.w c.args.change.now c.args.panes.now p c.in_ok-renewed.field-0) same
+    (changed_spans before after c.args.w c.args.change.now c.args.panes.now r region c.in_ok-renewed.field-0 c.requires.change listed c.renewal_of-renewal.ensures.renewal visible c.in_ok-renewed.ensures.region c.in_ok-renewed.ensures.cells)
