@@ -1,17 +1,17 @@
 -- Glyphs and texts along a row.
-use Rattle.std.proofs.Common.{rules, ◌≡◌, ℕ, zero, suc, ℤ, pos, negsuc, ◌*◌, ◌/◌, ◌+ℤ◌, ◌-ℤ◌, ◌*ℤ◌, ◌≤ℤ◌, ◌<ℤ◌, ◌≤◌, ◌<◌, true, false, ◌||◌, List, [], ◌∷◌, length, get_or, SFits, w32, refl, ap, sym, ◌∙◌, ◌-◌, arith}
+use Rattle.std.proofs.Common.{◌≡◌, ℕ, zero, suc, ℤ, pos, negsuc, ◌*◌, ◌/◌, ◌+ℤ◌, ◌-ℤ◌, ◌*ℤ◌, ◌≤ℤ◌, ◌<ℤ◌, ◌≤◌, ◌<◌, Bool, true, false, ◌||◌, List, [], ◌∷◌, length, get_or, refl, ap, sym, ◌∙◌, ◌-◌, arith}
 use Rattle.std.proofs.Math.ListN.{drop, take}
 use Rattle.std.proofs.Math.Seq.{drop-cons}
-use Rattle.std.specs.Int.{saturate_signed}
 use Rattle.std.proofs.lemmas.List.{drop_all, take_all, length-drop}
 use Rattle.std.proofs.lemmas.Int.{ints, clamps}
 use Rattle.be_font.specs.Glyphs.{glyph_bit}
-use Rattle.be_font.specs.Runs.{HasNoBit, IsFirstRun}
+use Rattle.std.specs.Int.Bits.{bit_or}
+use Rattle.be_font.specs.Runs.{row_bit}
 use Rattle.be_font.proofs.RowLemmas.{glyph_bit-column_past, glyph_bit-row_past}
-use Rattle.be_views.specs.Places.{IsNear}
+use Rattle.be_span.specs.Slices.{mask_bit}
 use Rattle.be_paint.specs.Inks.{glyph_covers, text_has, pen_behind}
 use Rattle.be_paint.specs.Laying.{HasNoGlyph}
-use Rattle.be_paint.specs.Stretches.{IsAhead}
+use Rattle.be_paint.proofs.BitLemmas.{mask_or}
 
 -- ---- rows
 
@@ -32,74 +32,32 @@ text_none (code ∷ codes) pen_x pen_y x y h =
 
 -- ---- glyphs
 
-pub covers_left : (code row : ℕ) (z : ℤ) → z <ℤ pos 0 → glyph_covers code z (pos row) ≡ false
+covers_left : (code row : ℕ) (z : ℤ) → z <ℤ pos 0 → glyph_covers code z (pos row) ≡ false
 covers_left code row (pos n) h = absurd (omega (arith, ints))
 covers_left code row (negsuc n) h = refl
 
-pub covers_past : (code row : ℕ) (z : ℤ) → pos 5 ≤ℤ z → glyph_covers code z (pos row) ≡ false
+covers_past : (code row : ℕ) (z : ℤ) → pos 5 ≤ℤ z → glyph_covers code z (pos row) ≡ false
 covers_past code row (negsuc n) h = absurd (omega (arith, ints))
 covers_past code row (pos n) h = glyph_bit-column_past code n row (omega (arith, ints))
 
-pub covers_none : (code row from : ℕ) (z : ℤ) → HasNoBit (λ k. glyph_bit code k row) from → pos from ≤ℤ z → glyph_covers code z (pos row) ≡ false
-covers_none code row from (pos n) h le = h n (omega (arith, ints))
-covers_none code row from (negsuc n) h le = absurd (omega (arith, ints))
-
-pub covers_before : (code row from first last : ℕ) (z : ℤ) → IsFirstRun (λ k. glyph_bit code k row) from first last → pos from ≤ℤ z → z <ℤ pos first → glyph_covers code z (pos row) ≡ false
-covers_before code row from first last (pos n) run le less = run.none_before n (omega (arith, ints)) (omega (arith, ints))
-covers_before code row from first last (negsuc n) run le less = refl
-
-pub covers_in : (code row from first last : ℕ) (z : ℤ) → IsFirstRun (λ k. glyph_bit code k row) from first last → pos first ≤ℤ z → z ≤ℤ pos last → glyph_covers code z (pos row) ≡ true
-covers_in code row from first last (pos n) run le most = run.all_inside n (omega (arith, ints)) (omega (arith, ints))
-covers_in code row from first last (negsuc n) run le most = absurd (omega (arith, ints))
-
 -- ---- texts
 
--- a glyph that covers the pixel
-pub text_hit : (codes : List ℕ) (i code : ℕ) (left pen_y z y : ℤ) → i < length codes → code ≡ get_or codes i 0 → glyph_covers code (z -ℤ left) (y -ℤ pen_y +ℤ pos 6) ≡ true → text_has (drop i codes) left pen_y z y ≡ true
-text_hit codes i code left pen_y z y h read e =
-    rw (drop-cons codes i 0, ← read) (ap (λ b. b || text_has (drop (suc i) codes) (pen_behind left) pen_y z y) e)
-
--- one that doesn't
-pub text_miss : (codes : List ℕ) (i code : ℕ) (left pen_y z y : ℤ) → i < length codes → code ≡ get_or codes i 0 → glyph_covers code (z -ℤ left) (y -ℤ pen_y +ℤ pos 6) ≡ false → text_has (drop i codes) left pen_y z y ≡ text_has (drop (suc i) codes) (pen_behind left) pen_y z y
-text_miss codes i code left pen_y z y h read e =
-    rw (drop-cons codes i 0, ← read) (ap (λ b. b || text_has (drop (suc i) codes) (pen_behind left) pen_y z y) e)
-
--- a sum that stops at the range's end
-pub stopped_low : (z x : ℤ) → x ≤ℤ z → SFits w32 x → x ≤ℤ saturate_signed w32 z
-stopped_low (pos n) x h f = grind arith
-stopped_low (negsuc n) x h f = grind arith
-
-pub stopped_high : (z x : ℤ) → x ≤ℤ z → SFits w32 x → saturate_signed w32 z ≤ℤ z
-stopped_high (pos n) x h f = grind arith
-stopped_high (negsuc n) x h f = grind arith
-
--- the glyph that comes next covers the pixels up to column r, and no glyph before it does
-pub hit_on : (codes : List ℕ) (i code row : ℕ) (left pen_x pen_y y x last end r : ℤ) → i < length codes → code ≡ get_or codes i 0 → y -ℤ pen_y +ℤ pos 6 ≡ pos row → ((z : ℤ) → x ≤ℤ z → z ≤ℤ last → text_has codes pen_x pen_y z y ≡ text_has (drop i codes) left pen_y z y) → IsAhead (λ z. glyph_covers code z (pos row)) (x -ℤ left) end → glyph_covers code (x -ℤ left) (pos row) ≡ true → r ≤ℤ last → r ≤ℤ (end +ℤ left) → (z : ℤ) → x ≤ℤ z → z ≤ℤ r → text_has codes pen_x pen_y z y ≡ true
-hit_on codes i code row left pen_x pen_y y x last end r h read at behind run e short shorter z from to =
-    behind z from (omega (arith, ints))
-    ∙ text_hit codes i code left pen_y z y h read (ap (glyph_covers code (z -ℤ left)) at ∙ run.same (z -ℤ left) (omega (arith, ints)) (omega (arith, ints)) ∙ e)
-
--- it doesn't
-pub miss_on : (codes : List ℕ) (i code row : ℕ) (left pen_x pen_y y x last end r : ℤ) → i < length codes → code ≡ get_or codes i 0 → y -ℤ pen_y +ℤ pos 6 ≡ pos row → ((z : ℤ) → x ≤ℤ z → z ≤ℤ last → text_has codes pen_x pen_y z y ≡ text_has (drop i codes) left pen_y z y) → IsAhead (λ z. glyph_covers code z (pos row)) (x -ℤ left) end → glyph_covers code (x -ℤ left) (pos row) ≡ false → r ≤ℤ last → r ≤ℤ (end +ℤ left) → (z : ℤ) → x ≤ℤ z → z ≤ℤ r → text_has codes pen_x pen_y z y ≡ text_has (drop (suc i) codes) (pen_behind left) pen_y z y
-miss_on codes i code row left pen_x pen_y y x last end r h read at behind run e short shorter z from to =
-    behind z from (omega (arith, ints))
-    ∙ text_miss codes i code left pen_y z y h read (ap (glyph_covers code (z -ℤ left)) at ∙ run.same (z -ℤ left) (omega (arith, ints)) (omega (arith, ints)) ∙ e)
+-- the next glyph, and those behind it
+text_next : (codes : List ℕ) (i code : ℕ) (left pen_y z y : ℤ) → i < length codes → code ≡ get_or codes i 0 → text_has (drop i codes) left pen_y z y ≡ (glyph_covers code (z -ℤ left) (y -ℤ pen_y +ℤ pos 6) || text_has (drop (suc i) codes) (pen_behind left) pen_y z y)
+text_next codes i code left pen_y z y h read = rw (drop-cons codes i 0, ← read) refl
 
 -- no glyph is left
 pub text_end : (codes : List ℕ) (i : ℕ) (left pen_y z y : ℤ) → length codes ≤ i → text_has (drop i codes) left pen_y z y ≡ false
 text_end codes i left pen_y z y h = ap (λ l. text_has l left pen_y z y) (drop_all i codes h)
 
-pub away_fits : (x left : ℤ) → IsNear 60 x → negsuc 32767 ≤ℤ left → left ≤ℤ pos 32767 → SFits w32 (x -ℤ left)
-away_fits x left (low, high) least most = search rules
-
 -- ---- glyphs that are far from a column
 
-pub covers_not_past : (code : ℕ) (row z : ℤ) → pos 5 ≤ℤ z → glyph_covers code z row ≡ false
+covers_not_past : (code : ℕ) (row z : ℤ) → pos 5 ≤ℤ z → glyph_covers code z row ≡ false
 covers_not_past code (pos row) z h = covers_past code row z h
 covers_not_past code (negsuc row) (pos n) h = refl
 covers_not_past code (negsuc row) (negsuc n) h = refl
 
-pub covers_not_left : (code : ℕ) (row z : ℤ) → z <ℤ pos 0 → glyph_covers code z row ≡ false
+covers_not_left : (code : ℕ) (row z : ℤ) → z <ℤ pos 0 → glyph_covers code z row ≡ false
 covers_not_left code (pos row) z h = covers_left code row z h
 covers_not_left code (negsuc row) (pos n) h = refl
 covers_not_left code (negsuc row) (negsuc n) h = refl
@@ -140,3 +98,42 @@ pub text_past : (codes : List ℕ) (m : ℕ) (left x pen_y z y : ℤ) → x ≡ 
 text_past codes m left x pen_y z y at most before few =
     text_before m codes left pen_y z y (omega (arith, ints)) (λ some. let b = before some in omega (arith, ints))
     ∙ ap (λ l. text_has l (left +ℤ pos 6 *ℤ pos m) pen_y z y) (drop_all m codes (omega arith))
+
+-- ---- the bits of a row
+
+-- a column from a glyph's left on
+bit_covered : (code row byte : ℕ) (z : ℤ) (b : Bool) → ((column : ℕ) → glyph_bit code column row ≡ row_bit byte column) → ((column : ℕ) → z ≡ pos column → b ≡ row_bit byte column) → (z <ℤ pos 0 → b ≡ false) → b ≡ glyph_covers code z (pos row)
+bit_covered code row byte (pos n) b bits inside before = inside n refl ∙ sym (bits n)
+bit_covered code row byte (negsuc n) b bits inside before = before (omega (arith, ints))
+
+-- a glyph's byte placed among the pixels from column x on
+pub placed_covers : (code row byte mask k : ℕ) (left x : ℤ) → k < 64 → ((column : ℕ) → glyph_bit code column row ≡ row_bit byte column) → ((k column : ℕ) → k < 64 → pos k ≡ left -ℤ x +ℤ pos column → mask_bit mask k ≡ row_bit byte column) → ((k : ℕ) → pos k <ℤ (left -ℤ x) → mask_bit mask k ≡ false) → mask_bit mask k ≡ glyph_covers code (x +ℤ pos k -ℤ left) (pos row)
+placed_covers code row byte mask k left x h bits inside before =
+    bit_covered code row byte (x +ℤ pos k -ℤ left) (mask_bit mask k) bits
+    (λ column e. inside k column h (omega (arith, ints)))
+    (λ less. before k (omega (arith, ints)))
+
+-- what is gathered, and what is left
+abbrev pub IsGathered : List ℕ → List ℕ → ℤ → ℤ → ℕ → ℤ → ℕ → Type 0
+IsGathered codes rest pen left row x bits = (pen_y y : ℤ) → y -ℤ pen_y +ℤ pos 6 ≡ pos row → (k : ℕ) → k < 64 → text_has codes pen pen_y (x +ℤ pos k) y ≡ (mask_bit bits k || text_has rest left pen_y (x +ℤ pos k) y)
+
+one_more : (a b c : Bool) → (a || (b || c)) ≡ ((a || b) || c)
+one_more true b c = refl
+one_more false b c = refl
+
+pub gathered_more : (codes : List ℕ) (i code row bits more : ℕ) (pen left x : ℤ) → i < length codes → code ≡ get_or codes i 0 → ((k : ℕ) → k < 64 → mask_bit more k ≡ glyph_covers code (x +ℤ pos k -ℤ left) (pos row)) → IsGathered codes (drop i codes) pen left row x bits → IsGathered codes (drop (suc i) codes) pen (pen_behind left) row x (bit_or bits more)
+gathered_more codes i code row bits more pen left x inside read covers before pen_y y at k h =
+    let next = text_has (drop (suc i) codes) (pen_behind left) pen_y (x +ℤ pos k) y in
+    before pen_y y at k h
+    ∙ ap (λ b. mask_bit bits k || b) (text_next codes i code left pen_y (x +ℤ pos k) y inside read ∙ ap (λ b. b || next) (ap (glyph_covers code (x +ℤ pos k -ℤ left)) at ∙ sym (covers k h)))
+    ∙ one_more (mask_bit bits k) (mask_bit more k) next
+    ∙ ap (λ b. b || next) (sym (mask_or bits more k h))
+
+none_more : (a b : Bool) → b ≡ false → (a || b) ≡ a
+none_more true b e = refl
+none_more false b e = e
+
+-- none of those that are left is at the pixels
+pub gathered_all : (codes rest : List ℕ) (pen left : ℤ) (row : ℕ) (x : ℤ) (bits : ℕ) → IsGathered codes rest pen left row x bits → ((pen_y y : ℤ) (k : ℕ) → k < 64 → text_has rest left pen_y (x +ℤ pos k) y ≡ false) → (pen_y y : ℤ) → y -ℤ pen_y +ℤ pos 6 ≡ pos row → (k : ℕ) → k < 64 → mask_bit bits k ≡ text_has codes pen pen_y (x +ℤ pos k) y
+gathered_all codes rest pen left row x bits gathered none pen_y y at k h =
+    sym (gathered pen_y y at k h ∙ none_more (mask_bit bits k) (text_has rest left pen_y (x +ℤ pos k) y) (none pen_y y k h))

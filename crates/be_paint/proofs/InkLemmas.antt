@@ -1,27 +1,41 @@
 -- What an ink lays along a row.
-use Rattle.std.specs.Prelude.{IsNone, IfSome, MatchOption, ◌↔◌, slice_index, slice_get, nat_lt, ◌+◌, ◌*◌, ◌&&◌, if◌then◌else◌}
-use Rattle.std.proofs.Common.{◌≡◌, ℕ, ℤ, pos, negsuc, List, ◌-ℤ◌, ◌+ℤ◌, ◌≤ℤ◌, ◌<ℤ◌, true, false, Bool, Option, Some, None, ◌⊎◌, inl, inr, refl, sym, ap, ap₂, ◌∙◌, arith}
+use Rattle.std.specs.Prelude.{IsNone, IfSome, MatchOption, ◌↔◌, slice_index, slice_get, nat_lt, length, ◌<◌, ◌+◌, ◌*◌, ◌&&◌, if◌then◌else◌}
+use Rattle.std.proofs.Common.{◌≡◌, ℕ, zero, suc, ℤ, pos, negsuc, List, [], ◌∷◌, ◌-ℤ◌, ◌+ℤ◌, ◌≤ℤ◌, ◌<ℤ◌, true, false, Bool, Option, Some, None, ◌⊎◌, inl, inr, refl, sym, ap, ap₂, ◌∙◌, arith}
 use Rattle.std.proofs.lemmas.Int.{ints}
 use Rattle.std.proofs.lemmas.Bool.{le-ltb}
 use Rattle.be_geom.specs.declared.point.Point.{Point}
 use Rattle.be_geom.specs.Places.{at_pixel}
 use Rattle.be_bitmap.specs.Pictures.{Picture, bitmap_pixel}
 use Rattle.be_color.specs.declared.colors.Color.{Color}
+use Rattle.be_color.specs.declared.colors.Color.TheVariants.{Clear}
 use Rattle.be_color.specs.declared.patterns.Pattern.{Pattern}
 use Rattle.be_color.specs.Pattern.{place_in_pattern, pattern_bit}
 use Rattle.be_color.specs.Pixel.{picked}
+use Rattle.be_region.specs.declared.corner.Corner.{Corner}
 use Rattle.be_shape.specs.declared.Raster.{Raster}
 use Rattle.be_shape.specs.Rasters.{raster_has}
-use Rattle.be_shape.specs.Runs.{HasNoneFrom, IsNextRun, HasNoPixel, AreRows}
+use Rattle.be_shape.specs.Runs.{HasNoPixel, AreRows}
 use Rattle.be_span.specs.declared.brush.Source.{Source}
-use Rattle.be_span.specs.declared.brush.Source.TheVariants.{Bits, One}
+use Rattle.be_span.specs.declared.brush.Source.TheVariants.{Bits, Mask}
 use Rattle.be_span.specs.Slices as slices
+use Rattle.be_span.specs.Slices.{color_or_clear, mask_bit, painted}
 use Rattle.be_state.specs.declared.State.{State}
-use Rattle.be_paint.specs.Inks.{shape, text, image, text_has, source_at}
-use Rattle.be_paint.specs.Laying.{IsInkRun, IsRowRun, HasNoSource, HasNoneOutside, brush_of}
-use Rattle.be_paint.specs.Stretches.{IsAhead}
+use Rattle.be_paint.specs.Inks.{shape, text, image, text_has, source_at, laid_on_cell}
+use Rattle.be_span.specs.declared.Cell.{Cell}
+use Rattle.be_paint.specs.Laying.{HasNoneWithin, IsInkRun, IsLaidBy, IsRowRun, HasNoSource, HasNoneOutside, brush_of, color_in, run_cell}
 use Rattle.be_paint.specs.declared.pixel.Pixel.{Pixel}
+use Rattle.be_paint.proofs.BitLemmas.{mask_none}
 use Rattle.be_paint.proofs.GlyphLemmas.{row_above, row_below, text_none}
+
+-- ---- cells
+
+laid_by : (s : State) (source : Option Source) (k : ℕ) (c : Cell) → laid_on_cell s c (color_in s source k) ≡ run_cell s source k c
+laid_by s (Some source) k c = refl
+laid_by s None k c = refl
+
+-- what has the colours of a run makes of the cells what the run makes of them
+pub laid_alike : (s : State) (color : Option Color) (source : Option Source) (k : ℕ) → color ≡ color_in s source k → IsLaidBy s color source k
+laid_alike s color source k e c = ap (laid_on_cell s c) e ∙ laid_by s source k c
 
 -- ---- shapes
 
@@ -35,44 +49,32 @@ shape_on raster pattern s u v x y k byte row e =
     ap (λ b. if b then Some (picked s.mode (pattern_bit pattern.rows (u +ℤ pos k) v) s.high s.low) else None) e
     ∙ ap (λ (r : ℕ). Some (picked s.mode (slices.row_bit r (u +ℤ pos k)) s.high s.low)) (sym row)
 
--- no more of it in the row
-pub shape_none : (raster : Raster) (pattern : Pattern) (s : State) (local p : Pixel) (last : ℤ) → p.x ≤ℤ last → HasNoneFrom raster p.y p.x → IsInkRun (shape raster pattern) s local p None last
-shape_none raster pattern s local p last ahead none = record {
-  forward = ahead;
-  each = λ k to. shape_off raster pattern s (local.x +ℤ pos k) local.y (p.x +ℤ pos k) p.y (none (p.x +ℤ pos k) (omega (arith, ints)));
+-- where it is at all pixels of a row
+pub shape_within : (raster : Raster) (pattern : Pattern) (s : State) (local p : Pixel) (last : ℤ) (byte : ℕ) → p.x ≤ℤ last → ((x : ℤ) → p.x ≤ℤ x → x ≤ℤ last → raster_has raster x p.y ≡ true) → byte ≡ slice_index pattern.rows (place_in_pattern local.y) → IsInkRun (shape raster pattern) s local p (Some (Bits byte local.x)) last
+shape_within raster pattern s local p last byte forward there row = record {
+  forward = forward;
+  each = λ k to. laid_alike s _ (Some (Bits byte local.x)) k (shape_on raster pattern s local.x local.y (p.x +ℤ pos k) p.y k byte row (there (p.x +ℤ pos k) (omega (arith, ints)) to));
 }
-
--- up to the column before its next run
-pub shape_gap : (raster : Raster) (pattern : Pattern) (s : State) (local p : Pixel) (first last end : ℤ) → IsNextRun raster p.y p.x first last → p.x ≤ℤ end → end <ℤ first → IsInkRun (shape raster pattern) s local p None end
-shape_gap raster pattern s local p first last end run ahead before = record {
-  forward = ahead;
-  each = λ k to. shape_off raster pattern s (local.x +ℤ pos k) local.y (p.x +ℤ pos k) p.y (run.passed (p.x +ℤ pos k) (omega (arith, ints)) (omega (arith, ints)));
-}
-
--- in a run
-pub shape_within : (raster : Raster) (pattern : Pattern) (s : State) (local p : Pixel) (first last : ℤ) (byte : ℕ) → IsNextRun raster p.y p.x first last → first ≤ℤ p.x → byte ≡ slice_index pattern.rows (place_in_pattern local.y) → IsInkRun (shape raster pattern) s local p (Some (Bits byte local.x)) last
-shape_within raster pattern s local p first last byte run begun row =
-    let ahead = run.ahead in
-    let forward = run.forward in
-    record {
-      forward = omega (arith, ints);
-      each = λ k to. shape_on raster pattern s local.x local.y (p.x +ℤ pos k) p.y k byte row (run.within (p.x +ℤ pos k) (omega (arith, ints)) (omega (arith, ints)));
-    }
 
 -- ---- texts
 
-pub text_on : (codes : List ℕ) (s : State) (local p : Pixel) (last : ℤ) → IsAhead (λ z. text_has codes s.pen.x s.pen.y z p.y) p.x last → text_has codes s.pen.x s.pen.y p.x p.y ≡ true → IsInkRun (text codes) s local p (Some (One s.high)) last
+-- the mask's colour, or a cell that stays
+cell_marked : (s : State) (b : Bool) (c : Cell) → laid_on_cell s c (if b then Some s.high else None) ≡ painted (brush_of s) (if b then s.high else Clear) c
+cell_marked s true c = refl
+cell_marked s false c = refl
+
+pub text_marked : (codes : List ℕ) (s : State) (local p : Pixel) (bits : ℕ) (last : ℤ) → p.x ≤ℤ last → ((k : ℕ) → (p.x +ℤ pos k) ≤ℤ last → mask_bit bits k ≡ text_has codes s.pen.x s.pen.y (p.x +ℤ pos k) p.y) → IsInkRun (text codes) s local p (Some (Mask bits s.high)) last
 unfolding source_at
-text_on codes s local p last run e = record {
-  forward = run.forward;
-  each = λ k to. ap (λ b. if b then Some s.high else None) (run.same (p.x +ℤ pos k) (omega (arith, ints)) to ∙ e);
+text_marked codes s local p bits last ahead each = record {
+  forward = ahead;
+  each = λ k to c. ap (λ b. laid_on_cell s c (if b then Some s.high else None)) (sym (each k to)) ∙ cell_marked s (mask_bit bits k) c;
 }
 
-pub text_off : (codes : List ℕ) (s : State) (local p : Pixel) (last : ℤ) → IsAhead (λ z. text_has codes s.pen.x s.pen.y z p.y) p.x last → text_has codes s.pen.x s.pen.y p.x p.y ≡ false → IsInkRun (text codes) s local p None last
+pub text_bare_run : (codes : List ℕ) (s : State) (local p : Pixel) (bits : ℕ) (last : ℤ) → bits ≡ 0 → p.x ≤ℤ last → ((k : ℕ) → (p.x +ℤ pos k) ≤ℤ last → mask_bit bits k ≡ text_has codes s.pen.x s.pen.y (p.x +ℤ pos k) p.y) → IsInkRun (text codes) s local p None last
 unfolding source_at
-text_off codes s local p last run e = record {
-  forward = run.forward;
-  each = λ k to. ap (λ b. if b then Some s.high else None) (run.same (p.x +ℤ pos k) (omega (arith, ints)) to ∙ e);
+text_bare_run codes s local p bits last none ahead each = record {
+  forward = ahead;
+  each = λ k to. laid_alike s _ None k (ap (λ b. if b then Some s.high else None) (sym (each k to) ∙ ap (λ m. mask_bit m k) none ∙ mask_none k));
 }
 
 -- ---- pictures
@@ -86,7 +88,7 @@ pub image_left : (b : Picture) (corner : Point) (s : State) (local p : Pixel) (l
 unfolding source_at
 image_left b corner s local p last ahead before = record {
   forward = ahead;
-  each = λ k to. left_of b (p.x +ℤ pos k -ℤ corner.x) (p.y -ℤ corner.y) (omega (arith, ints));
+  each = λ k to. laid_alike s _ None k (left_of b (p.x +ℤ pos k -ℤ corner.x) (p.y -ℤ corner.y) (omega (arith, ints)));
 }
 
 above_of : (b : Picture) (z y : ℤ) → y <ℤ pos 0 → bitmap_pixel b z y ≡ None
@@ -111,14 +113,14 @@ pub image_above : (b : Picture) (corner : Point) (s : State) (local p : Pixel) (
 unfolding source_at
 image_above b corner s local p last ahead above = record {
   forward = ahead;
-  each = λ k to. above_of b (p.x +ℤ pos k -ℤ corner.x) (p.y -ℤ corner.y) above;
+  each = λ k to. laid_alike s _ None k (above_of b (p.x +ℤ pos k -ℤ corner.x) (p.y -ℤ corner.y) above);
 }
 
 pub image_below : (b : Picture) (corner : Point) (s : State) (local p : Pixel) (last : ℤ) → p.x ≤ℤ last → pos b.height ≤ℤ (p.y -ℤ corner.y) → IsInkRun (image b corner) s local p None last
 unfolding source_at
 image_below b corner s local p last ahead below = record {
   forward = ahead;
-  each = λ k to. below_of b (p.x +ℤ pos k -ℤ corner.x) (p.y -ℤ corner.y) below;
+  each = λ k to. laid_alike s _ None k (below_of b (p.x +ℤ pos k -ℤ corner.x) (p.y -ℤ corner.y) below);
 }
 
 shifted : (x corner : ℤ) (column k : ℕ) → pos column ≡ x -ℤ corner → x +ℤ pos k -ℤ corner ≡ pos (column + k)
@@ -129,8 +131,44 @@ pub image_row : (b : Picture) (corner : Point) (s : State) (local p : Pixel) (pi
 unfolding source_at
 image_row b corner s local p pixels column row source last are e f run = record {
   forward = run.forward;
-  each = λ k to. ap₂ (bitmap_pixel b) (shifted p.x corner.x column k e) (sym f) ∙ sym (are k) ∙ run.each k s to;
+  each = λ k to. laid_alike s _ source k (ap₂ (bitmap_pixel b) (shifted p.x corner.x column k e) (sym f) ∙ sym (are k) ∙ run.each k s to);
 }
+
+-- each pixel of a list is there
+pub pixel_there : (pixels : List Color) (k : ℕ) → k < length pixels → slice_get pixels k ≡ Some (color_or_clear (slice_get pixels k))
+pixel_there [] k less = absurd (omega arith)
+pixel_there (color ∷ pixels) zero less = refl
+pixel_there (color ∷ pixels) (suc k) less = pixel_there pixels k (omega arith)
+
+-- ---- blocks
+
+-- a shape that isn't in the first row of a block, where all rows are like that one
+pub shape_bare : (raster : Raster) (pattern : Pattern) (s : State) (at : Pixel) (corner : Corner) → ((x : ℤ) → at.x ≤ℤ x → x ≤ℤ corner.right → raster_has raster x at.y ≡ false) → ((x z : ℤ) → at.y ≤ℤ z → z ≤ℤ corner.bottom → raster_has raster x z ≡ raster_has raster x at.y) → HasNoneWithin (shape raster pattern) s at corner
+shape_bare raster pattern s at corner none alike u v x y left right top bottom = shape_off raster pattern s u v x y (alike x y top bottom ∙ none x left right)
+
+pub text_bare : (codes : List ℕ) (s : State) (at : Pixel) (corner : Corner) → ((z y : ℤ) → at.x ≤ℤ z → text_has codes s.pen.x s.pen.y z y ≡ false) → HasNoneWithin (text codes) s at corner
+unfolding source_at
+text_bare codes s at corner none u v x y left right top bottom = ap (λ b. if b then Some s.high else None) (none x y left)
+
+never_both_first : (a b : Bool) → a ≡ false → (a && b) ≡ false
+never_both_first true b e = cc
+never_both_first false b e = refl
+
+right_of : (b : Picture) (z y : ℤ) → pos b.width ≤ℤ z → bitmap_pixel b z y ≡ None
+unfolding bitmap_pixel
+right_of b (negsuc n) y h = absurd (omega (arith, ints))
+right_of b (pos n) (negsuc m) h = refl
+right_of b (pos n) (pos m) h =
+    let e : nat_lt n b.width ≡ false = le-ltb n b.width (omega (arith, ints)) in
+    ap (λ t. if t then slice_get b.colors (m * b.width + n) else None) (never_both_first (nat_lt n b.width) (nat_lt m b.height) e)
+
+pub image_before : (b : Picture) (corner : Point) (s : State) (at : Pixel) (end : Corner) → end.right <ℤ corner.x → HasNoneWithin (image b corner) s at end
+unfolding source_at
+image_before b corner s at end before u v x y left right top bottom = left_of b (x -ℤ corner.x) (y -ℤ corner.y) (omega (arith, ints))
+
+pub image_behind : (b : Picture) (corner : Point) (s : State) (at : Pixel) (end : Corner) → (corner.x +ℤ pos b.width) ≤ℤ at.x → HasNoneWithin (image b corner) s at end
+unfolding source_at
+image_behind b corner s at end behind u v x y left right top bottom = right_of b (x -ℤ corner.x) (y -ℤ corner.y) (omega (arith, ints))
 
 -- ---- rows
 

@@ -1,4 +1,5 @@
 pub mod StretchLemmas
+pub mod PatchLemmas
 pub mod PlaceLemmas
 pub mod ReachLemmas
 pub mod AreaLemmas
@@ -6,7 +7,9 @@ pub mod RowLemmas
 pub mod ExposingLemmas
 pub mod MovingLemmas
 pub mod InkLemmas
+pub mod BitLemmas
 pub mod GlyphLemmas
 pub mod DrawingLemmas
 pub mod PaintLemmas
+pub mod WithinLemmas
 pub mod SeenLemmas

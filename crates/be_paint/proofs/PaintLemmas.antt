@@ -1,21 +1,21 @@
 -- Cells painted run by run and row by row.
-use Rattle.std.specs.Prelude.{unsigned_abs, option_map, if◌then◌else◌}
+use Rattle.std.specs.Prelude.{unsigned_abs, option_map, not}
 use Rattle.std.proofs.Common.{◌≡◌, ◌⊎◌, ℕ, ℤ, pos, ◌+ℤ◌, ◌-ℤ◌, ◌≤ℤ◌, ◌<ℤ◌, Bool, true, false, ◌&&◌, List, Option, None, inl, inr, refl, sym, ap, subst, ◌∙◌, arith}
-use Rattle.std.proofs.lemmas.Int.{ints, by_lt_z}
+use Rattle.std.specs.Int.{int_min, int_max}
+use Rattle.std.proofs.lemmas.Int.{ints, clamps, by_lt_z}
 use Rattle.be_geom.specs.declared.rect.Rect.{Rect}
 use Rattle.be_geom.specs.Points.{between}
 use Rattle.be_geom.specs.Rects.{rect_has}
 use Rattle.be_geom.proofs.Between.{between_tells}
+use Rattle.be_region.specs.Frames.{IsFrame}
 use Rattle.be_region.specs.Regions.{region_has}
 use Rattle.be_span.specs.declared.Cell.{Cell}
 use Rattle.be_span.specs.declared.brush.Source.{Source}
 use Rattle.be_span.specs.Spans.{Spans, cell_in}
 use Rattle.be_state.specs.declared.State.{State}
 use Rattle.be_paint.specs.Laying.{drawn_cell, run_cell, source_in, IsRunOf}
-use Rattle.be_paint.specs.Inks.{laid_on_cell}
-use Rattle.be_paint.specs.Seen.{may_draw}
 use Rattle.be_paint.specs.declared.drawing.Drawing.{Drawing}
-use Rattle.be_paint.proofs.DrawingLemmas.{not_owned}
+use Rattle.be_paint.proofs.DrawingLemmas.{not_owned, bare_cell}
 use Rattle.be_paint.proofs.RowLemmas.{abs_is, same_map, kept_map}
 
 -- ---- numbers
@@ -56,15 +56,9 @@ rest_next left y last z w (inr (inr behind)) = inr (inr (omega (arith, ints)))
 pub stays_outside : (rects : List Rect) (d : Drawing) (x y : ℤ) (o : Option Cell) → region_has rects x y ≡ false → o ≡ option_map (drawn_cell rects d x y) o
 stays_outside rects d x y o e = kept_map (drawn_cell rects d x y) (λ c. not_owned rects d x y c e) o
 
-same_both : (b : Bool) (c : Cell) → (if b then c else c) ≡ c
-same_both true c = refl
-same_both false c = refl
-
 -- a pixel on which the ink lays nothing stays
 pub stays_bare : (rects : List Rect) (d : Drawing) (x y : ℤ) (o : Option Cell) → source_in d x y ≡ None → o ≡ option_map (drawn_cell rects d x y) o
-stays_bare rects d x y o e =
-    let b = may_draw rects d.reach.now d.view x y in
-    kept_map (drawn_cell rects d x y) (λ c. ap (λ s. if b then laid_on_cell d.reach.now.states.now.top.state c s else c) e ∙ same_both b c) o
+stays_bare rects d x y o e = kept_map (drawn_cell rects d x y) (λ c. bare_cell rects d x y c e) o
 
 outside_edges : (b : Bool) → (b ≡ true → ⊥) → b ≡ false
 outside_edges true h = absurd (h refl)
@@ -93,7 +87,7 @@ beside_none f x (inr h) a b = absurd (omega (arith, ints))
 edges : (low z high : ℤ) → between low z high ≡ true → (low ≤ℤ z) × (z ≤ℤ high)
 edges low z high e = edges_in low z high e (between_tells low z high)
 
-inside_edges : (f : Rect) (x y : ℤ) → rect_has f x y ≡ true → ((f.left ≤ℤ x) × (x ≤ℤ f.right)) × ((f.top ≤ℤ y) × (y ≤ℤ f.bottom))
+pub inside_edges : (f : Rect) (x y : ℤ) → rect_has f x y ≡ true → ((f.left ≤ℤ x) × (x ≤ℤ f.right)) × ((f.top ≤ℤ y) × (y ≤ℤ f.bottom))
 inside_edges f x y e = (edges f.left x f.right (first_holds (between f.left x f.right) (between f.top y f.bottom) e), edges f.top y f.bottom (second_holds (between f.left x f.right) (between f.top y f.bottom) e))
 
 -- beside the frame a pixel stays
@@ -101,24 +95,36 @@ pub stays_beside : (rects : List Rect) (d : Drawing) (f : Rect) (x y : ℤ) (o :
 stays_beside rects d f x y o holds out =
     stays_outside rects d x y o (outside_frame rects f x y holds (λ e. let i = inside_edges f x y e in out i.0.0 i.0.1 i.1.0 i.1.1))
 
-pub row_done : (old now new : Spans) (d : Drawing) (f : Rect) (y : ℤ) → now.rects ≡ old.rects → ((x y : ℤ) → region_has old.rects x y ≡ true → rect_has f x y ≡ true) → ((x z : ℤ) → z <ℤ y → cell_in now x z ≡ option_map (drawn_cell old.rects d x z) (cell_in old x z)) → ((x z : ℤ) → y ≤ℤ z → cell_in now x z ≡ cell_in old x z) → ((x : ℤ) → f.left ≤ℤ x → x ≤ℤ f.right → cell_in new x y ≡ option_map (drawn_cell now.rects d x y) (cell_in now x y)) → ((z w : ℤ) → (w ≡ y → ⊥) ⊎ (z <ℤ f.left) ⊎ (f.right <ℤ z) → cell_in new z w ≡ cell_in now z w) → (x z : ℤ) → z ≤ℤ y → cell_in new x z ≡ option_map (drawn_cell old.rects d x z) (cell_in old x z)
-row_done old now new d f y same holds done rest painted others x z to =
-    by_lt_z z y
-    (λ above. others x z (inl (λ (e : z ≡ y). absurd (omega (arith, ints)))) ∙ done x z above)
-    (λ below.
-    let at : y ≡ z = omega (arith, ints) in
-    let Q : ℤ → Type 0 = λ a. cell_in new x a ≡ option_map (drawn_cell old.rects d x a) (cell_in old x a) in
-    let beside : (x <ℤ f.left) ⊎ (f.right <ℤ x) → cell_in new x y ≡ option_map (drawn_cell old.rects d x y) (cell_in old x y) = λ h.
-    others x y (inr h) ∙ rest x y (omega (arith, ints))
-    ∙ stays_beside old.rects d f x y (cell_in old x y) holds (λ a b m n. beside_none f x h a b) in
-    subst Q at
-    (by_lt_z x f.left
-    (λ left. beside (inl left))
-    (λ from. by_lt_z f.right x
-    (λ right. beside (inr right))
-    (λ up. painted x from up
-    ∙ ap (λ (rs : List Rect). option_map (drawn_cell rs d x y) (cell_in now x y)) same
-    ∙ ap (option_map (drawn_cell old.rects d x y)) (rest x y (omega (arith, ints)))))))
+-- outside the frame and the rows of the ink a pixel stays
+pub stays_out : (rects : List Rect) (d : Drawing) (f : Rect) (first last top bottom x y : ℤ) (o : Option Cell) → ((x y : ℤ) → region_has rects x y ≡ true → rect_has f x y ≡ true) → ((x y : ℤ) → (y <ℤ first) ⊎ (last <ℤ y) → source_in d x y ≡ None) → top ≡ int_max f.top first → bottom ≡ int_min f.bottom last → (x <ℤ f.left) ⊎ (f.right <ℤ x) ⊎ (y <ℤ top) ⊎ (bottom <ℤ y) → o ≡ option_map (drawn_cell rects d x y) o
+stays_out rects d f first last top bottom x y o holds none t b (inl left) = stays_beside rects d f x y o holds (λ i j m n. absurd (omega (arith, ints)))
+stays_out rects d f first last top bottom x y o holds none t b (inr (inl right)) = stays_beside rects d f x y o holds (λ i j m n. absurd (omega (arith, ints)))
+stays_out rects d f first last top bottom x y o holds none t b (inr (inr (inl above))) =
+    by_lt_z y f.top
+    (λ over. stays_beside rects d f x y o holds (λ i j m n. absurd (omega (arith, ints))))
+    (λ within. stays_bare rects d x y o (none x y (inl (omega (arith, ints, clamps)))))
+stays_out rects d f first last top bottom x y o holds none t b (inr (inr (inr below))) =
+    by_lt_z f.bottom y
+    (λ past. stays_beside rects d f x y o holds (λ i j m n. absurd (omega (arith, ints))))
+    (λ within. stays_bare rects d x y o (none x y (inr (omega (arith, ints, clamps)))))
 
-pub row_rest : (old now new : Spans) (f : Rect) (y : ℤ) → ((x z : ℤ) → y ≤ℤ z → cell_in now x z ≡ cell_in old x z) → ((z w : ℤ) → (w ≡ y → ⊥) ⊎ (z <ℤ f.left) ⊎ (f.right <ℤ z) → cell_in new z w ≡ cell_in now z w) → (x z : ℤ) → y <ℤ z → cell_in new x z ≡ cell_in old x z
-row_rest old now new f y rest others x z below = others x z (inl (λ (e : z ≡ y). absurd (omega (arith, ints)))) ∙ rest x z (omega (arith, ints))
+-- where no row is in both, each pixel is above or below
+pub no_row : (top bottom y : ℤ) → bottom <ℤ top → (y <ℤ top) ⊎ (bottom <ℤ y)
+no_row top bottom y h = by_lt_z y top (λ above. inl above) (λ below. inr (omega (arith, ints)))
+
+-- a frame has a column and a row
+pub frame_across : (rects : List Rect) (f : Rect) → IsFrame f rects → f.left ≤ℤ f.right
+frame_across rects f frame = let i = inside_edges f f.left frame.left.0 (frame.holds f.left frame.left.0 frame.left.1) in i.0.1
+
+pub by_three : (goal a b c : Type 0) → (a → goal) → (b → goal) → (c → goal) → a ⊎ b ⊎ c → goal
+by_three goal a b c f g h (inl x) = f x
+by_three goal a b c f g h (inr (inl x)) = g x
+by_three goal a b c f g h (inr (inr x)) = h x
+
+pub is_no : (b : Bool) → not b ≡ true → b ≡ false
+is_no true e = cc
+is_no false e = refl
+
+pub is_yes : (b : Bool) → not b ≡ false → b ≡ true
+is_yes true e = refl
+is_yes false e = cc

@@ -1,8 +1,10 @@
 -- What a run of an ink is, and what it makes of the cells of a row (this project's own).
-use Rattle.std.specs.Prelude.{◌≡◌, ℕ, ℤ, pos, ◌+ℤ◌, ◌-ℤ◌, ◌≤ℤ◌, ◌<ℤ◌, ◌⊎◌, false, List, Option, Some, None, option_map, slice_get, if◌then◌else◌}
+use Rattle.std.specs.Prelude.{◌≡◌, ℕ, ℤ, pos, ◌+ℤ◌, ◌-ℤ◌, ◌≤ℤ◌, ◌<ℤ◌, ◌⊎◌, true, false, List, Option, Some, None, option_map, slice_get, if◌then◌else◌}
 use Rattle.be_geom.specs.Places.{at_pixel}
 use Rattle.be_geom.specs.declared.rect.Rect.{Rect}
+use Rattle.be_region.specs.declared.corner.Corner.{Corner}
 use Rattle.be_color.specs.declared.colors.Color.{Color}
+use Rattle.be_shape.specs.Rasters.{raster_has}
 use Rattle.be_span.specs.declared.Cell.{Cell}
 use Rattle.be_span.specs.declared.brush.Brush.{Brush}
 use Rattle.be_span.specs.declared.brush.Source.{Source}
@@ -11,9 +13,12 @@ use Rattle.be_state.specs.declared.State.{State}
 use Rattle.be_paint.specs.Inks as inks
 use Rattle.be_paint.specs.Inks.{source_at, laid_on_cell}
 use Rattle.be_paint.specs.Seen.{may_draw}
+use Rattle.be_paint.specs.Stretches.{IsBeyond, IsWithin}
 use Rattle.be_paint.specs.declared.ink.Ink.{Ink}
 use Rattle.be_paint.specs.declared.ink.Ink.TheVariants.{Shape, Text, Image}
 use Rattle.be_paint.specs.declared.drawing.Drawing.{Drawing}
+use Rattle.be_paint.specs.declared.drawing.Known.{Known}
+use Rattle.be_span.specs.Spans.{SpanAt, Spans, cell_in}
 use Rattle.be_paint.specs.declared.pixel.Pixel.{Pixel}
 
 -- what an ink of the code stands for
@@ -36,11 +41,20 @@ brush_of s = record { mode = s.mode; high = s.high; low = s.low }
 abbrev pub color_in : State → Option Source → ℕ → Option Color
 color_in s source k = option_map (λ some. slices.source_at (brush_of s) some k) source
 
--- From a pixel on, given in the window's and in drawing coordinates, up to the last drawing column the ink has these
--- colours.
+-- the k-th cell of a run
+abbrev pub run_cell : State → Option Source → ℕ → Cell → Cell
+run_cell s (Some source) k c = slices.painted (brush_of s) (slices.source_at (brush_of s) source k) c
+run_cell s None k c = c
+
+-- what a colour makes of a cell is what the k-th cell of a run becomes
+abbrev pub IsLaidBy : State → Option Color → Option Source → ℕ → Type 0
+IsLaidBy s color source k = (c : Cell) → laid_on_cell s c color ≡ run_cell s source k c
+
+-- From a pixel on, given in the window's and in drawing coordinates, up to the last drawing column the ink makes of the
+-- cells what this run makes of them.
 pub record IsInkRun (ink : inks.Ink) (s : State) (local p : Pixel) (source : Option Source) (last : ℤ) : Type 0 where
   pub forward : p.x ≤ℤ last
-  pub each : (k : ℕ) → (p.x +ℤ pos k) ≤ℤ last → source_at ink s (at_pixel (local.x +ℤ pos k) local.y) (at_pixel (p.x +ℤ pos k) p.y) ≡ color_in s source k
+  pub each : (k : ℕ) → (p.x +ℤ pos k) ≤ℤ last → IsLaidBy s (source_at ink s (at_pixel (local.x +ℤ pos k) local.y) (at_pixel (p.x +ℤ pos k) p.y)) source k
 
 -- ---- rows of an ink
 
@@ -52,6 +66,25 @@ HasNoSource ink s = (u v x y : ℤ) → source_at ink s (at_pixel u v) (at_pixel
 abbrev pub HasNoneOutside : inks.Ink → State → ℤ → ℤ → Type 0
 HasNoneOutside ink s first last = (u v x y : ℤ) → (y <ℤ first) ⊎ (last <ℤ y) → source_at ink s (at_pixel u v) (at_pixel x y) ≡ None
 
+-- it lays nothing on the pixels of a block, to the right of one of drawing and down
+abbrev pub HasNoneWithin : inks.Ink → State → Pixel → Corner → Type 0
+HasNoneWithin ink s at corner =
+    (u v x y : ℤ) → at.x ≤ℤ x → x ≤ℤ corner.right → at.y ≤ℤ y → y ≤ℤ corner.bottom → source_at ink s (at_pixel u v) (at_pixel x y) ≡ None
+
+-- a shape has the pixel of drawing; of a text and of a picture nothing is said
+abbrev pub IsThere : inks.Ink → ℤ → ℤ → Type 0
+IsThere (inks.shape raster pattern) x y = raster_has raster x y ≡ true
+IsThere (inks.text codes) x y = Unit {0}
+IsThere (inks.image picture corner) x y = Unit {0}
+
+-- it is so at each pixel of a block
+abbrev pub AreThere : inks.Ink → Pixel → Corner → Type 0
+AreThere ink at corner = (x y : ℤ) → at.x ≤ℤ x → x ≤ℤ corner.right → at.y ≤ℤ y → y ≤ℤ corner.bottom → IsThere ink x y
+
+-- a corner is neither left of a pixel nor above it
+abbrev pub IsBehind : Pixel → Corner → Type 0
+IsBehind at corner = (at.x ≤ℤ corner.right) × (at.y ≤ℤ corner.bottom)
+
 -- ---- a drawing on the screen
 
 -- what the ink of a drawing lays on a pixel of the screen
@@ -61,11 +94,9 @@ source_in d x y =
     let top = y -ℤ d.reach.now.window.y in
     source_at (ink_of d.ink.now) d.reach.now.states.now.top.state (at_pixel left top) (at_pixel (left -ℤ d.view.x -ℤ d.base.x) (top -ℤ d.view.y -ℤ d.base.y))
 
--- what the ink lays on a pixel of the screen is the colour of the k-th column, if the ink is there
+-- what the ink makes of a pixel of the screen is what the k-th cell of a run becomes
 abbrev pub IsDrawnBy : Drawing → ℤ → ℤ → Option Source → ℕ → Type 0
-IsDrawnBy d x y source k =
-    let s = d.reach.now.states.now.top.state in
-    source_in d x y ≡ color_in s source k
+IsDrawnBy d x y source k = IsLaidBy d.reach.now.states.now.top.state (source_in d x y) source k
 
 -- ---- cells
 
@@ -73,11 +104,6 @@ IsDrawnBy d x y source k =
 abbrev pub drawn_cell : List Rect → Drawing → ℤ → ℤ → Cell → Cell
 drawn_cell rects d x y c =
     if may_draw rects d.reach.now d.view x y then laid_on_cell d.reach.now.states.now.top.state c (source_in d x y) else c
-
--- the k-th cell of a run
-abbrev pub run_cell : State → Option Source → ℕ → Cell → Cell
-run_cell s (Some source) k c = slices.painted (brush_of s) (slices.source_at (brush_of s) source k) c
-run_cell s None k c = c
 
 -- from column x on, up to the last one, the drawing makes of each cell what the run makes of it
 pub record IsRunOf (rects : List Rect) (d : Drawing) (x y : ℤ) (source : Option Source) (end last : ℤ) : Type 0 where
@@ -89,3 +115,37 @@ pub record IsRunOf (rects : List Rect) (d : Drawing) (x y : ℤ) (source : Optio
 pub record IsRowRun (pixels : List Color) (x : ℤ) (source : Option Source) (last : ℤ) : Type 0 where
   pub forward : x ≤ℤ last
   pub each : (k : ℕ) → (s : State) → (x +ℤ pos k) ≤ℤ last → slice_get pixels k ≡ color_in s source k
+
+-- ---- blocks
+
+-- the view may draw on each pixel from the first to the last
+abbrev pub AreFree : List Rect → Drawing → Pixel → Pixel → Type 0
+AreFree rects d first last = (x y : ℤ) → IsWithin first last x y → may_draw rects d.reach.now d.view x y ≡ true
+
+-- the shape of a drawing has a pixel of the screen
+abbrev pub IsInked : Drawing → ℤ → ℤ → Type 0
+IsInked d x y = IsThere (ink_of d.ink.now) (x -ℤ d.reach.now.window.x -ℤ d.view.x -ℤ d.base.x) (y -ℤ d.reach.now.window.y -ℤ d.view.y -ℤ d.base.y)
+
+-- it has each pixel from the first to the last
+abbrev pub AreInked : Drawing → Pixel → Pixel → Type 0
+AreInked d first last = (x y : ℤ) → IsWithin first last x y → IsInked d x y
+
+-- drawing leaves each of them
+abbrev pub AreLeft : List Rect → Drawing → Pixel → Pixel → Type 0
+AreLeft rects d first last = (x y : ℤ) → IsWithin first last x y → (c : Cell) → drawn_cell rects d x y c ≡ c
+
+-- it draws on each of them, and all others stay
+pub record IsDrawnWithin (d : Drawing) (old new : Spans) (first last : Pixel) : Type 0 where
+  pub inside : (x y : ℤ) → IsWithin first last x y → cell_in new x y ≡ option_map (drawn_cell old.rects d x y) (cell_in old x y)
+  pub beside : (x y : ℤ) → (IsWithin first last x y → ⊥) → cell_in new x y ≡ cell_in old x y
+
+-- on what is known the view may draw, and it goes no further than the drawing
+abbrev pub IsKnown : List Rect → Drawing → Known → Type 0
+IsKnown rects d known = AreFree rects d known.first known.last × IsBeyond known.last d.far
+
+-- the pixels from one to another lie in a rectangle of the buffer's region
+pub record IsInSpan (span : SpanAt) (at last : Pixel) : Type 0 where
+  pub from_left : span.rect.left ≤ℤ at.x
+  pub to_right : last.x ≤ℤ span.rect.right
+  pub from_top : span.rect.top ≤ℤ at.y
+  pub to_bottom : last.y ≤ℤ span.rect.bottom

@@ -1,11 +1,11 @@
-ghost use Rattle.std.specs.Prelude.{◌≡◌, ℕ, ℤ, pos, ◌<◌, ◌+ℤ◌, ◌-ℤ◌, ◌*ℤ◌, ◌≤ℤ◌, false, MatchOption};
+ghost use Rattle.std.specs.Prelude.{◌≡◌, ℕ, ℤ, pos, ◌<◌, ◌+ℤ◌, ◌-ℤ◌, ◌*ℤ◌, ◌≤ℤ◌, ◌<ℤ◌, true, false, MatchOption};
+ghost use Rattle.be_font.specs.Runs.{row_bit};
+ghost use Rattle.be_span.specs.Slices.{mask_bit};
 ghost use Rattle.be_views.specs.Places.{IsNear};
-ghost use Rattle.be_paint.specs.Inks.{text_has, glyph_covers, pen_behind};
-ghost use Rattle.be_paint.specs.Stretches.{IsAhead};
+ghost use Rattle.be_paint.specs.Inks.{text_has};
 ghost use Rattle.be_paint.specs.Laying.{HasNoGlyph};
 
 use crate::pixel::Pixel;
-use be_font::next_run;
 use be_geom::Point;
 
 /// Where no column follows.
@@ -17,28 +17,47 @@ const ASCENT: i32 = 6;
 /// How many rows a glyph has.
 const HEIGHT: i32 = 7;
 
-/// How many columns.
-const WIDTH: i32 = 5;
-
 /// From one glyph's pen to the next one's.
 const ADVANCE: i32 = 6;
 
 /// Where the pen stops.
 const LAST_PEN: i32 = 32767;
 
-/// Whether a glyph of the text covers a pixel, in drawing coordinates, and the last column up to which that stays so at
-/// least. It takes a few steps, and a few for each glyph where the pen stopped.
-pub(crate) fn covered(codes: &[u8], pen: Point, at: Pixel) -> (bool, i32)
+/// The last of the pixels that have a bit.
+const LAST_BIT: i32 = 63;
+
+/// Which of up to 64 pixels of a row, from one of drawing on, glyphs cover, the first one by the highest bit; and the last
+/// column of which that is told. It takes a few steps for each glyph among them, and for each one where the pen stopped.
+pub(crate) fn bits_at(codes: &[u8], pen: Point, at: Pixel) -> (u64, i32)
     requires across { IsNear 60 at.x }
     requires down { IsNear 60 at.y }
-    ensures answer { result.0 ≡ text_has codes.now pen.x pen.y at.x at.y }
-    ensures run { IsAhead (λ z. text_has codes.now pen.x pen.y z at.y) at.x result.1 }
+    ensures forward { at.x ≤ℤ result.1 }
+    ensures each { (k : ℕ) → (at.x +ℤ pos k) ≤ℤ result.1
+        → mask_bit result.0 k ≡ text_has codes.now pen.x pen.y (at.x +ℤ pos k) at.y }
 {
+    let Some(row) = row_of(pen.y, at.y) else {
+        return (0, LAST_COLUMN);
+    };
     let (count, x) = glyphs_before(pen.x, at.x);
     if codes.len() < count {
-        return (false, LAST_COLUMN);
+        return (0, LAST_COLUMN);
     }
-    covered_from(&codes[count..], Point { x, y: pen.y }, at)
+    (bits_of(&codes[count..], x, row, at.x), at.x + LAST_BIT)
+}
+
+/// Whether all glyphs end before a column.
+pub(crate) fn is_past(codes: &[u8], pen: Point, x: i32) -> bool
+    requires { IsNear 60 x }
+    ensures { result ≡ true → (z y : ℤ) → x ≤ℤ z → text_has codes.now pen.x pen.y z y ≡ false }
+{
+    let (count, _) = glyphs_before(pen.x, x);
+    codes.len() < count
+}
+
+/// The last column that a glyph can have, or a later one.
+pub(crate) fn end_of(codes: &[u8], pen: Point) -> i32 {
+    let columns = codes.len().saturating_mul(6).min(65536) as i32;
+    i32::from(pen.x) + columns
 }
 
 /// How many glyphs from the pen on end before a column, and the pen behind them.
@@ -63,30 +82,41 @@ fn columns_before(pen: i16, x: i32) -> u16
     if last < pen { 0 } else { (last - pen) as u16 }
 }
 
-/// The same as `covered`, by the glyphs in turn up to the first one that begins behind the column.
-fn covered_from(codes: &[u8], pen: Point, at: Pixel) -> (bool, i32)
-    requires across { IsNear 60 at.x }
-    requires down { IsNear 60 at.y }
-    ensures answer { result.0 ≡ text_has codes.now pen.x pen.y at.x at.y }
-    ensures run { IsAhead (λ z. text_has codes.now pen.x pen.y z at.y) at.x result.1 }
+/// Which of the 64 pixels of a row from a column on glyphs cover, the first one by the highest bit. It goes through the
+/// glyphs in turn up to the first one that begins behind the pixels.
+fn bits_of(codes: &[u8], pen: i16, row: u8, x: i32) -> u64
+    requires near { IsNear 60 x }
+    ensures { (pen_y y : ℤ) → y -ℤ pen_y +ℤ pos 6 ≡ pos row → (k : ℕ) → k < 64
+        → mask_bit result k ≡ text_has codes.now pen pen_y (x +ℤ pos k) y }
 {
-    let Some(row) = row_of(pen.y, at.y) else {
-        return (false, LAST_COLUMN);
-    };
-    let mut left = i32::from(pen.x);
-    let mut last = LAST_COLUMN;
+    let mut left = i32::from(pen);
+    let mut bits = 0;
     for code in codes {
-        let (has, end) = glyph_run(*code, at.x - left, row);
-        last = last.min(end.saturating_add(left));
-        if has {
-            return (true, last);
+        if x + LAST_BIT < left {
+            return bits;
         }
+        bits |= placed(be_font::row(*code, row), left - x);
         left = (left + ADVANCE).min(LAST_PEN);
-        if at.x < left {
-            return (false, (left - 1).min(last));
-        }
     }
-    (false, last)
+    bits
+}
+
+/// The eight pixels of a byte among 64, the first one at a place: those outside are cut off.
+fn placed(byte: u8, left: i32) -> u64
+    ensures inside { (k column : ℕ) → k < 64 → pos k ≡ left +ℤ pos column
+        → mask_bit result k ≡ row_bit byte column }
+    ensures before { (k : ℕ) → pos k <ℤ left → mask_bit result k ≡ false }
+{
+    let bits = u64::from(byte) << 56;
+    if left < -7 {
+        0
+    } else if left < 0 {
+        bits << -left
+    } else if left <= LAST_BIT {
+        bits >> left
+    } else {
+        0
+    }
 }
 
 /// A row of drawing as a row of the glyphs whose pen is at a height. None where they have no bits.
@@ -102,23 +132,4 @@ fn row_of(pen: i16, y: i32) -> Option<u8>
         return None;
     }
     Some(row as u8)
-}
-
-/// Whether a glyph covers a column of a row, both from its left top, and the last column up to which that stays so at
-/// least.
-fn glyph_run(code: u8, column: i32, row: u8) -> (bool, i32)
-    ensures answer { result.0 ≡ glyph_covers code column (pos row) }
-    ensures run { IsAhead (λ z. glyph_covers code z (pos row)) column result.1 }
-{
-    if WIDTH <= column {
-        return (false, LAST_COLUMN);
-    }
-    let Some((first, last)) = next_run(code, row, column.max(0) as u8) else {
-        return (false, LAST_COLUMN);
-    };
-    if column == i32::from(first) {
-        (true, i32::from(last))
-    } else {
-        (false, i32::from(first) - 1)
-    }
 }

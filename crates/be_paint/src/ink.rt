@@ -1,22 +1,31 @@
-ghost use Rattle.std.specs.Prelude.{◌≡◌, ◌<◌, ◌≤◌, ℕ, Some, pos, ◌+ℤ◌, ◌-ℤ◌, length, slice_get, slice_index, MatchOption, IfSome};
+ghost use Rattle.std.specs.Prelude.{◌≡◌, ◌<◌, ◌≤◌, ◌≤ℤ◌, true, false, ℕ, ℤ, Some, pos, ◌+ℤ◌, ◌-ℤ◌, length, slice_get, slice_index, MatchOption, IfSome};
 ghost use Rattle.be_color.specs.Pattern.{place_in_pattern};
 ghost use Rattle.be_views.specs.Places.{IsNear};
 ghost use Rattle.be_paint.specs.Inks.{shape, text, image};
 ghost use Rattle.be_state.specs.declared.State as states;
 ghost use Rattle.be_color.specs.declared.patterns.Pattern as patterns;
-ghost use Rattle.be_paint.specs.Laying.{IsInkRun, IsRowRun, HasNoSource, HasNoneOutside, ink_of};
+ghost use Rattle.be_shape.specs.declared.Raster as rasters;
+ghost use Rattle.be_shape.specs.Rasters.{raster_has};
+ghost use Rattle.be_paint.specs.Laying.{AreThere, IsBehind, IsInkRun, IsThere, IsRowRun, HasNoSource, HasNoneOutside, HasNoneWithin, ink_of};
 
-use crate::glyphs::covered;
+use crate::glyphs::{bits_at, end_of, is_past};
 use crate::pixel::Pixel;
 use be_bitmap::Bitmap;
 use be_color::{Color, Pattern};
 use be_geom::Point;
+use be_region::Corner;
 use be_shape::Raster;
 use be_span::Source;
 use be_state::State;
 
 /// Where no column follows.
 const LAST_COLUMN: i32 = 2147483647;
+
+/// Where neither a column nor a row follows.
+const FARTHEST: Corner = Corner {
+    right: LAST_COLUMN,
+    bottom: LAST_COLUMN,
+};
 
 /// The rows of a glyph above the pen's.
 const ASCENT: i32 = 6;
@@ -34,16 +43,41 @@ pub enum Ink<'a> {
 
 impl Ink<'_> {
     /// With what pixels are painted from one on, given in window and in drawing coordinates, and up to which drawing
-    /// column. None where the ink isn't there.
-    pub(crate) fn run_at(&self, state: &State, local: Pixel, at: Pixel) -> (Option<Source>, i32)
+    /// column. A shape is at all of them up to column `end`. None where the ink isn't there.
+    pub(crate) fn run_at(
+        &self,
+        state: &State,
+        local: Pixel,
+        at: Pixel,
+        end: i32,
+    ) -> (Option<Source<'_>>, i32)
         requires across { IsNear 60 at.x }
         requires down { IsNear 60 at.y }
+        requires forward { at.x ≤ℤ end }
+        requires there { (x : ℤ) → at.x ≤ℤ x → x ≤ℤ end → IsThere (ink_of self.now) x at.y }
         ensures { IsInkRun (ink_of self.now) state.now local at result.0 result.1 }
     {
         match self {
-            Ink::Shape(raster, pattern) => shape_run(raster, *pattern, local, at),
+            Ink::Shape(_, pattern) => pattern_run(*pattern, local, end),
             Ink::Text(codes) => text_run(codes, state, local, at),
             Ink::Image(bitmap, corner) => image_run(bitmap, *corner, local, at),
+        }
+    }
+
+    /// Whether the ink may be at a pixel of drawing, and a corner: where it may not, it is at none of the pixels up to it.
+    /// Where a shape may be, it is at all of them.
+    pub(crate) fn block_at(&self, state: &State, at: Pixel) -> (bool, Corner)
+        requires across { IsNear 60 at.x }
+        requires down { IsNear 60 at.y }
+        ensures behind { IsBehind at result.1 }
+        ensures none { result.0 ≡ false
+            → HasNoneWithin (ink_of self.now) state.now at result.1 }
+        ensures there { result.0 ≡ true → AreThere (ink_of self.now) at result.1 }
+    {
+        match self {
+            Ink::Shape(raster, _) => shape_block(raster, at),
+            Ink::Text(codes) => text_block(codes, state, at),
+            Ink::Image(bitmap, corner) => image_block(bitmap, *corner, at),
         }
     }
 
@@ -61,24 +95,106 @@ impl Ink<'_> {
     }
 }
 
-/// With what the pixels of a shape are painted from a pixel on, given in window and in drawing coordinates, and up to
-/// which drawing column. None where the shape isn't there.
-fn shape_run(raster: &Raster, pattern: Pattern, local: Pixel, at: Pixel) -> (Option<Source>, i32)
-    ensures { (s : states.State) → IsInkRun (shape raster.now pattern) s local at result.0 result.1 }
+/// With what the pixels of a shape are painted from one of the window on, where it is at all pixels up to a drawing
+/// column.
+fn pattern_run<'a>(pattern: Pattern, local: Pixel, end: i32) -> (Option<Source<'a>>, i32)
+    ensures { (raster : rasters.Raster) (s : states.State) (at : Pixel) → at.x ≤ℤ end
+        → ((x : ℤ) → at.x ≤ℤ x → x ≤ℤ end → raster_has raster x at.y ≡ true)
+        → IsInkRun (shape raster pattern) s local at result.0 result.1 }
 {
-    let Some((first, last)) = raster.next_run(at.y, at.x) else {
-        return (None, LAST_COLUMN);
-    };
-    if at.x < first {
-        return (None, first - 1);
-    }
     let byte = row_of(pattern, local.y);
     (
         Some(Source::Bits {
             byte,
             column: local.x,
         }),
-        last,
+        end,
+    )
+}
+
+/// Whether a shape is at a pixel of drawing, and a corner up to which it is at all pixels, or at none.
+fn shape_block(raster: &Raster, at: Pixel) -> (bool, Corner)
+    ensures behind { IsBehind at result.1 }
+    ensures none { result.0 ≡ false → (pattern : patterns.Pattern) (s : states.State)
+        → HasNoneWithin (shape raster.now pattern) s at result.1 }
+    ensures there { result.0 ≡ true → (pattern : patterns.Pattern)
+        → AreThere (shape raster.now pattern) at result.1 }
+{
+    let bottom = raster.alike(at.y);
+    let Some((first, last)) = raster.next_run(at.y, at.x) else {
+        return (
+            false,
+            Corner {
+                right: LAST_COLUMN,
+                bottom,
+            },
+        );
+    };
+    if at.x < first {
+        return (
+            false,
+            Corner {
+                right: first - 1,
+                bottom,
+            },
+        );
+    }
+    (
+        true,
+        Corner {
+            right: last,
+            bottom,
+        },
+    )
+}
+
+/// The same of a text.
+fn text_block(codes: &[u8], state: &State, at: Pixel) -> (bool, Corner)
+    requires across { IsNear 60 at.x }
+    requires down { IsNear 60 at.y }
+    ensures behind { IsBehind at result.1 }
+    ensures none { result.0 ≡ false → HasNoneWithin (text codes.now) state.now at result.1 }
+{
+    if is_past(codes, state.pen, at.x) {
+        return (false, FARTHEST);
+    }
+    (
+        true,
+        Corner {
+            right: end_of(codes, state.pen).max(at.x),
+            bottom: LAST_COLUMN,
+        },
+    )
+}
+
+/// The same of a picture.
+fn image_block(bitmap: &Bitmap, corner: Point, at: Pixel) -> (bool, Corner)
+    requires across { IsNear 60 at.x }
+    requires down { IsNear 60 at.y }
+    ensures behind { IsBehind at result.1 }
+    ensures none { result.0 ≡ false → (s : states.State)
+        → HasNoneWithin (image bitmap.now corner) s at result.1 }
+{
+    let left = i32::from(corner.x);
+    let behind = left + i32::from(bitmap.width());
+    if behind <= at.x {
+        return (false, FARTHEST);
+    }
+    if at.x < left {
+        return (
+            false,
+            Corner {
+                right: left - 1,
+                bottom: LAST_COLUMN,
+            },
+        );
+    }
+    (
+        true,
+        Corner {
+            right: behind - 1,
+            bottom: LAST_COLUMN,
+        },
     )
 }
 
@@ -91,21 +207,26 @@ fn row_of(pattern: Pattern, y: i32) -> u8
 }
 
 /// The same of a text.
-fn text_run(codes: &[u8], state: &State, local: Pixel, at: Pixel) -> (Option<Source>, i32)
+fn text_run<'a>(
+    codes: &'a [u8],
+    state: &State,
+    local: Pixel,
+    at: Pixel,
+) -> (Option<Source<'a>>, i32)
     requires across { IsNear 60 at.x }
     requires down { IsNear 60 at.y }
     ensures { IsInkRun (text codes.now) state.now local at result.0 result.1 }
 {
-    let (has, last) = covered(codes, state.pen, at);
-    if has {
-        (Some(Source::One(state.high)), last)
-    } else {
-        (None, last)
+    let (bits, last) = bits_at(codes, state.pen, at);
+    if bits == 0 {
+        return (None, last);
     }
+    let color = state.high;
+    (Some(Source::Mask { bits, color }), last)
 }
 
 /// The same of a picture.
-fn image_run(bitmap: &Bitmap, corner: Point, local: Pixel, at: Pixel) -> (Option<Source>, i32)
+fn image_run(bitmap: &Bitmap, corner: Point, local: Pixel, at: Pixel) -> (Option<Source<'_>>, i32)
     requires across { IsNear 60 at.x }
     requires down { IsNear 60 at.y }
     ensures { (s : states.State) → IsInkRun (image bitmap.now corner) s local at result.0 result.1 }
@@ -126,18 +247,15 @@ fn image_run(bitmap: &Bitmap, corner: Point, local: Pixel, at: Pixel) -> (Option
 
 /// With what the pixels of a row of a picture are painted from its first one on, which lies at a column, and up to
 /// which column.
-fn row_run(pixels: &[Color], x: i32) -> (Option<Source>, i32)
+fn row_run(pixels: &[Color], x: i32) -> (Option<Source<'_>>, i32)
     requires across { IsNear 60 x }
     requires few { length pixels.now ≤ 65535 }
     ensures { IsRowRun pixels.now x result.0 result.1 }
 {
-    match pixels.first() {
-        Some(color) => {
-            let count = count_of(pixels, *color);
-            (Some(Source::One(*color)), last_of(x, count))
-        }
-        None => (None, LAST_COLUMN),
+    if pixels.is_empty() {
+        return (None, LAST_COLUMN);
     }
+    (Some(Source::Colors(pixels)), last_of(x, pixels.len()))
 }
 
 /// The last of so many columns.
@@ -148,19 +266,6 @@ fn last_of(first: i32, count: usize) -> i32
     ensures { result ≡ first +ℤ pos count -ℤ pos 1 }
 {
     first + (count as i32 - 1)
-}
-
-/// How many pixels at the front have a colour.
-fn count_of(pixels: &[Color], color: Color) -> usize
-    ensures within { result ≤ length pixels.now }
-    ensures same { (k : ℕ) → k < result → slice_get pixels.now k ≡ Some color }
-    ensures some { slice_get pixels.now 0 ≡ Some color → 0 < result }
-{
-    let mut count = 0;
-    while count < pixels.len() && pixels[count] == color {
-        count += 1;
-    }
-    count
 }
 
 /// The rows of a shape. None where it has no pixel.

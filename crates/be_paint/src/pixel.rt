@@ -1,4 +1,8 @@
 ghost use Rattle.std.specs.Prelude.{◌≡◌, ℤ, negsuc, pos, ◌+ℤ◌, ◌-ℤ◌, ◌≤ℤ◌, ◌⊎◌};
+ghost use Rattle.be_paint.specs.Seen.{IsOrigin};
+ghost use Rattle.be_paint.specs.Stretches.{IsBeyond, IsInRange};
+
+use be_region::Corner;
 
 /// A pixel, or where one kind of coordinates begins in another.
 #[derive(Clone, Copy)]
@@ -23,6 +27,37 @@ pub(crate) fn last_column(last: i32, offset: i32, end: i32) -> i32
         last + offset
     } else {
         end
+    }
+}
+
+/// The last pixel on the screen, neither right of `end` nor below it, of what lasts up to a corner of coordinates that
+/// begin at `offset` on the screen.
+pub(crate) fn last_pixel(corner: Corner, offset: Pixel, end: Pixel) -> Pixel
+    requires offset { IsOrigin offset }
+    requires across { negsuc 98303 ≤ℤ (corner.right +ℤ offset.x) }
+    requires down { negsuc 98303 ≤ℤ (corner.bottom +ℤ offset.y) }
+    requires end { IsInRange end }
+    ensures within { IsBeyond result end }
+    ensures lasts { result.x ≤ℤ (corner.right +ℤ offset.x) }
+    ensures lasts_down { result.y ≤ℤ (corner.bottom +ℤ offset.y) }
+    ensures column { (result.x ≡ end.x) ⊎ (result.x ≡ corner.right +ℤ offset.x) }
+    ensures row { (result.y ≡ end.y) ⊎ (result.y ≡ corner.bottom +ℤ offset.y) }
+{
+    Pixel {
+        x: last_column(corner.right, offset.x, end.x),
+        y: last_column(corner.bottom, offset.y, end.y),
+    }
+}
+
+/// The last column of the one or the other, whichever comes first, and the last row.
+pub(crate) fn nearer(one: Pixel, other: Pixel) -> Pixel
+    ensures one { IsBeyond result one }
+    ensures other { IsBeyond result other }
+    ensures both { (p : Pixel) → IsBeyond p one → IsBeyond p other → IsBeyond p result }
+{
+    Pixel {
+        x: one.x.min(other.x),
+        y: one.y.min(other.y),
     }
 }
 

@@ -1,17 +1,20 @@
-ghost use Rattle.std.specs.Prelude.{◌≡◌, ℤ, pos, negsuc, ◌-ℤ◌, ◌≤ℤ◌, None, IfNone, IfSome};
+ghost use Rattle.std.specs.Prelude.{◌≡◌, ℤ, pos, negsuc, ◌+ℤ◌, ◌-ℤ◌, ◌≤ℤ◌, None, IfNone, IfSome};
 ghost use Rattle.be_geom.specs.Numbers.{is_number};
 ghost use Rattle.be_state.specs.Stacks.{allows};
 ghost use Rattle.be_views.specs.Places.{IsNear};
 ghost use Rattle.be_views.specs.Trees.{place_of};
 ghost use Rattle.be_paint.specs.Seen.{view_on, is_own, is_allowed, is_open, may_draw, IsPlace, IsOrigin, IsSite};
-ghost use Rattle.be_paint.specs.Stretches.{IsStretch, IsCoordinate};
+ghost use Rattle.be_paint.specs.Stretches.{IsStretch, IsPatch, IsBeyond, IsInRange, IsCoordinate};
 
-use crate::pixel::{Pixel, last_column};
+use crate::pixel::{Pixel, last_column, last_pixel};
 use crate::place::place_of;
 use be_geom::Point;
 use be_region::Region;
 use be_state::StateStack;
 use be_views::ViewTree;
+
+/// Where the screen's own coordinates begin.
+const HERE: Pixel = Pixel { x: 0, y: 0 };
 
 /// Where a view may draw.
 #[derive(Clone, Copy)]
@@ -79,6 +82,118 @@ impl Reach<'_> {
             return (false, last);
         }
         self.session_run(x, y, last)
+    }
+
+    /// Whether the view may draw on a pixel of the screen, and a last pixel, neither right of `end` nor below it, up to
+    /// which that stays so for all pixels that are neither left of the first one nor above it.
+    pub(crate) fn block_at(
+        &self,
+        owned: &Region,
+        place: Pixel,
+        at: Pixel,
+        end: Pixel,
+    ) -> (bool, Pixel)
+        requires place { IsPlace place }
+        requires from { IsInRange at }
+        requires forward { IsBeyond at end }
+        requires to { IsInRange end }
+        ensures answer { result.0 ≡ may_draw owned.now self.now place at.x at.y }
+        ensures block { IsPatch (may_draw owned.now self.now place) at end result.1 }
+    {
+        let (own, last) = self.own_block(owned, at, end);
+        if !own {
+            return (false, last);
+        }
+        let (allowed, last) = self.clip_block(place, at, last);
+        if !allowed {
+            return (false, last);
+        }
+        self.session_block(at, last)
+    }
+
+    /// The same of whether the window owns a pixel and the view is at it.
+    fn own_block(&self, owned: &Region, at: Pixel, end: Pixel) -> (bool, Pixel)
+        requires from { IsInRange at }
+        requires forward { IsBeyond at end }
+        requires to { IsInRange end }
+        ensures answer { result.0 ≡ is_own owned.now self.now at.x at.y }
+        ensures block { IsPatch (is_own owned.now self.now) at end result.1 }
+    {
+        let (has, corner) = owned.block_at(at.x, at.y);
+        let last = last_pixel(corner, HERE, end);
+        if !has {
+            return (false, last);
+        }
+        let (view, last) = self.view_block(at, last);
+        (is_number(view, self.view), last)
+    }
+
+    /// The same of the number of the view that is at the pixel.
+    fn view_block(&self, at: Pixel, end: Pixel) -> (Option<u16>, Pixel)
+        requires from { IsInRange at }
+        requires forward { IsBeyond at end }
+        requires to { IsInRange end }
+        ensures answer { result.0 ≡ view_on self.now at.x at.y }
+        ensures block { IsPatch (view_on self.now) at end result.1 }
+    {
+        let offset = self.left_top();
+        let (view, corner) = self.tree.block_at(at.x - offset.x, at.y - offset.y);
+        (view, last_pixel(corner, offset, end))
+    }
+
+    /// The same of all clips.
+    fn clip_block(&self, place: Pixel, at: Pixel, end: Pixel) -> (bool, Pixel)
+        requires place { IsPlace place }
+        requires from { IsInRange at }
+        requires forward { IsBeyond at end }
+        requires to { IsInRange end }
+        ensures answer { result.0 ≡ is_allowed self.now place at.x at.y }
+        ensures block { IsPatch (is_allowed self.now place) at end result.1 }
+    {
+        let offset = self.view_top(place);
+        let (allowed, corner) = self.states.block_at(at.x - offset.x, at.y - offset.y);
+        (allowed, last_pixel(corner, offset, end))
+    }
+
+    /// The same of the session.
+    fn session_block(&self, at: Pixel, end: Pixel) -> (bool, Pixel)
+        requires from { IsInRange at }
+        requires forward { IsBeyond at end }
+        requires to { IsInRange end }
+        ensures answer { result.0 ≡ is_open self.now at.x at.y }
+        ensures block { IsPatch (is_open self.now) at end result.1 }
+    {
+        let Some(session) = self.session else {
+            return (true, end);
+        };
+        let offset = self.left_top();
+        let (has, corner) = session.block_at(at.x - offset.x, at.y - offset.y);
+        (has, last_pixel(corner, offset, end))
+    }
+
+    /// The window's left top, in screen coordinates.
+    fn left_top(&self) -> Pixel
+        ensures across { result.x ≡ self.now.window.x }
+        ensures down { result.y ≡ self.now.window.y }
+        ensures near { IsNear 1 result.x × IsNear 1 result.y }
+    {
+        Pixel {
+            x: i32::from(self.window.x),
+            y: i32::from(self.window.y),
+        }
+    }
+
+    /// The view's left top, in screen coordinates, where it is at a place in the window.
+    fn view_top(&self, place: Pixel) -> Pixel
+        requires place { IsPlace place }
+        ensures across { result.x ≡ self.now.window.x +ℤ place.x }
+        ensures down { result.y ≡ self.now.window.y +ℤ place.y }
+        ensures near { IsNear 33 result.x × IsNear 33 result.y }
+    {
+        Pixel {
+            x: i32::from(self.window.x) + place.x,
+            y: i32::from(self.window.y) + place.y,
+        }
     }
 
     /// Whether the window owns a pixel and the view is at it, and so on.

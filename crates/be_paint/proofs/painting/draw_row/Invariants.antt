@@ -7,11 +7,11 @@ use Rattle.be_paint.proofs.painting.draw_row.Given as goal
 
 abbrev pub invariant-runs : goal.invariant-runs
 invariant-runs l = record {
-  from : l.fn.left ≤ℤ l.x;
+  from : l.fn.at.x ≤ℤ l.x;
   to : l.x ≤ℤ pos 32768;
   region : l.spans.rects ≡ l.fn.spans.rects;
-  done : (z : ℤ) → l.fn.left ≤ℤ z → z <ℤ l.x → cell_in l.spans z l.fn.y ≡ option_map (drawn_cell l.fn.spans.rects l.fn.drawing z l.fn.y) (cell_in l.fn.spans z l.fn.y);
-  rest : (z w : ℤ) → (w ≡ l.fn.y → ⊥) ⊎ (z <ℤ l.fn.left) ⊎ (l.x ≤ℤ z) → cell_in l.spans z w ≡ cell_in l.fn.spans z w;
+  done : (z : ℤ) → l.fn.at.x ≤ℤ z → z <ℤ l.x → cell_in l.spans z l.fn.at.y ≡ option_map (drawn_cell l.fn.spans.rects l.fn.drawing z l.fn.at.y) (cell_in l.fn.spans z l.fn.at.y);
+  rest : (z w : ℤ) → (w ≡ l.fn.at.y → ⊥) ⊎ (z <ℤ l.fn.at.x) ⊎ (l.x ≤ℤ z) → cell_in l.spans z w ≡ cell_in l.fn.spans z w;
   beyond : (z w : ℤ) → l.fn.right <ℤ z → cell_in l.spans z w ≡ cell_in l.fn.spans z w;
   marks : count_by (λ c. c.dirty) l.spans.cells ≡ count_by (λ c. c.dirty) l.fn.spans.cells;
 }
