@@ -1,7 +1,7 @@
 -- The spans that are made for a pane are those after the change.
-use Rattle.std.specs.Prelude.{ℤ, slice_get, Contains}
+use Rattle.std.specs.Prelude.{ℤ, slice_get, Contains, if◌then◌else◌}
 use Rattle.std.proofs.Common.{◌≡◌, ℕ, zero, suc, ◌<◌, ◌+◌, true, List, [], ◌∷◌, ◌++◌, Result, Ok, length, Option, Some, None, cond, inl, inr, refl, sym, ap, ◌∙◌, subst, arith}
-use Rattle.std.proofs.lemmas.Bool.{cases_eq, cases_lt}
+use Rattle.std.proofs.lemmas.Bool.{cases_eq, cases_lt, ne_eqb}
 use Rattle.std.proofs.lemmas.List.{length_push}
 use Rattle.std.specs.Option.{option_map}
 use Rattle.std.proofs.lemmas.Option.{same_Some, slice_get_read, slice_get_within}
@@ -20,13 +20,14 @@ use Rattle.be_stack.specs.Visible.{IsVisible}
 use Rattle.be_stack.specs.Windows.{Windows}
 use Rattle.be_stack.specs.declared.window.Window.{Window}
 use Rattle.be_views.specs.Trees.{Tree, left_top}
-use Rattle.be_desk.specs.Changes.{Desk, owns, desk_after, or_exposed}
+use Rattle.be_desk.specs.Changes.{Desk, owns, desk_after, motion_of, or_exposed}
 use Rattle.be_desk.specs.Desks.{IsAsked, IsTaken}
 use Rattle.be_desk.specs.Plans.{IsPaneOf, ArePanesOf, AreChanged, IsPlanOf, IsCarried, then_spans}
 use Rattle.be_desk.specs.Renewals.{AreColored, AreUnder, brought_by, color_at, is_kept_by, renewed_cell}
 use Rattle.be_desk.specs.declared.renewal.Motion.{Motion}
 use Rattle.be_desk.specs.declared.renewal.Motion.TheVariants.{Still}
-use Rattle.be_desk.specs.Renewed.{AreChangedTo, IsChange, IsRenewalIn}
+use Rattle.be_desk.specs.Affected.{OwnsTheSame, OthersStay}
+use Rattle.be_desk.specs.Renewed.{AreChangedTo, IsChange, IsRenewalIn, motion_by}
 use Rattle.be_desk.specs.declared.renewal.Renewal.{Renewal}
 use Rattle.be_desk.proofs.ChangedLemmas.{renewed_is_changed}
 use Rattle.be_desk.proofs.DeskLemmas.{IsAfter, TreesAfter, is_after}
@@ -128,6 +129,22 @@ kept_spans before after w change panes r region is listed renewal visible still 
           let was = screen.windows at.0 r.pane.now at.1 x y (sym (of_pane.pixels x y) ∙ here) in
           was ∙ ap (λ (c : Cell). Some c) (sym (renewed_is_changed before after w change colors r old cells x y of_pane renewal (screen.windows at.0 r.pane.now at.1) colored looks owned ∙ kept_by_still r x y (cells x y) still here was));
     }
+
+-- a window that isn't the changed one stays where it is
+still_other : (after : Desk) (w : ℕ) (change : Change) (r : Renewal) → IsRenewalIn after w change r → (r.pane.now.window ≡ w → ⊥) → r.motion ≡ Still
+still_other after w change r renewal other =
+    renewal.motion ∙ ap (λ b. if b then motion_by (motion_of change) r.pane.now.place r.place else Still) (ne_eqb r.pane.now.window w other)
+
+-- so where it owns the same pixels its pane is as it was
+pub apart_spans : (before after : Desk) (w : ℕ) (change : Change) (panes : List Pane) (r : Renewal) → IsChange before after w change panes → Contains panes r.pane.now → IsRenewalIn after w change r → (r.pane.now.window ≡ w → ⊥) → OwnsTheSame before.windows after.windows r.pane.now.window → AreChanged before after w change panes r.pane.now r.pane.now.spans
+apart_spans before after w change panes r is listed renewal other same =
+    let at = pane_at panes r.pane.now listed in
+    let of_pane = is.panes_of at.0 r.pane.now at.1 in
+    kept_spans before after w change panes r r.pane.now.spans.rects is listed renewal (λ x y. of_pane.pixels x y ∙ same x y) (still_other after w change r renewal other) (λ x y. refl)
+
+-- no change of a window moves the others
+pub others_of : (before after : Desk) (w : ℕ) (change : Change) (panes : List Pane) → IsChange before after w change panes → OthersStay before.windows after.windows w
+others_of before after w change panes is = others_stay before.windows after.windows w change (is_after before after w change is.taken).windows
 
 -- ---- the spans of all panes
 

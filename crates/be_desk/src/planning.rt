@@ -11,7 +11,7 @@ ghost use Rattle.be_desk.specs.Renewed.{AreChangedTo, IsChange, IsRenewalIn, mot
 ghost use Rattle.be_desk.specs.Renewals.{IsNearBy};
 ghost use Rattle.be_desk.specs.declared.renewal.Motion.TheVariants.{Still, Moving};
 
-use crate::altered::has_same_pixels;
+use crate::altered::{has_same_pixels, is_apart};
 use crate::desk::Desk;
 use crate::fault::PlanFault;
 use crate::next::{Next, next_of};
@@ -25,8 +25,8 @@ use be_views::ViewTree;
 use std::alloc::Global;
 
 /// Makes ready a change of window `w`. The panes are those of the windows that `affected` names, and
-/// more may be among them. It costs the rectangles of their windows, before and after, and the
-/// pixels of those that win or lose some, are moved or resized.
+/// more may be among them. It costs the rectangles of those whose frames meet `w`'s, and the pixels of
+/// those that win or lose some, are moved or resized.
 pub fn plan(
     alloc: Global,
     desk: &Desk,
@@ -97,6 +97,9 @@ fn new_spans(
         w change.now panes.now pane.now (then_spans spans pane.now)) }
 {
     let renewal = renewal_of(desk, next, pane, w, change);
+    if is_apart(&desk.stack, &next.stack, w, pane.window) {
+        return Ok(None);
+    }
     let region = next.stack.visible(pane.window)?;
     if is_still(renewal.motion) && has_same_pixels(&region, pane.spans.region()) {
         return Ok(None);
