@@ -14,14 +14,14 @@ pub enum Kind {
     Move,
     /// It gets a pixel wider and higher, and loses it.
     Size,
-    /// It is hidden and shown, and no other window lies over or under it.
+    /// The first one alone is hidden and shown, and no other window lies over or under it.
     Apart,
 }
 
 fn layout_of(kind: Kind) -> Layout {
     match kind {
         Kind::Show | Kind::Front | Kind::Move | Kind::Size => Layout::Stairs,
-        Kind::Apart => Layout::Grid,
+        Kind::Apart => Layout::Aside,
     }
 }
 
@@ -34,12 +34,20 @@ fn changes_of(kind: Kind) -> &'static [Change] {
     }
 }
 
+/// How many windows are gone round.
+fn changed(kind: Kind, windows: u8) -> u8 {
+    match kind {
+        Kind::Show | Kind::Front | Kind::Move | Kind::Size => windows,
+        Kind::Apart => windows.min(1),
+    }
+}
+
 /// Goes round the windows so often, and gives how many changes were made.
 pub fn rounds(alloc: Global, kind: Kind, windows: u8, count: u32) -> Result<u64, Hindrance> {
     let mut screen = shown(alloc, layout_of(kind), windows)?;
     let mut made = 0u64;
     for _round in 0..count {
-        for w in 0..windows {
+        for w in 0..changed(kind, windows) {
             for change in changes_of(kind) {
                 screen.change(alloc, u16::from(w), change)?;
                 made = made.saturating_add(1);
