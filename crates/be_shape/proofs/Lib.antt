@@ -5,5 +5,6 @@ pub mod RowLemmas
 pub mod WayLemmas
 pub mod SweepLemmas
 pub mod LineLemmas
+pub mod SteepLemmas
 pub mod FrameLemmas
 pub mod RasterLemmas

@@ -1,5 +1,5 @@
 -- The share of a distance: it begins at 0, ends at the whole, and rises by 0 or 1 with each point.
-use Rattle.std.proofs.Common.{◌≡◌, ℕ, zero, suc, ◌+◌, ◌-◌, ◌*◌, ◌/◌, ◌<◌, ◌≤◌, ◌↔◌, inl, inr, arith, refl, ap}
+use Rattle.std.proofs.Common.{◌≡◌, ℕ, zero, suc, ◌+◌, ◌-◌, ◌*◌, ◌/◌, ◌<◌, ◌≤◌, ◌↔◌, inl, inr, arith, refl, sym, ap}
 use Rattle.std.specs.Int.{div_ceil}
 use Rattle.std.proofs.Math.Nat.{le-div_iff_mul-le, mul-le-mul_right}
 use Rattle.std.proofs.lemmas.Grind.{div_ceil_times}
@@ -144,3 +144,24 @@ share_whole n d near =
       | inl some ↦ share_last n d some
       | inr none ↦ let e : n ≡ 0 = omega arith in let f : d ≡ 0 = omega arith in rw (e, f) refl
     ]
+
+-- ---- along the longer way
+
+share_even : (i n : ℕ) → 0 < n → share i n n ≡ i
+share_even i n h =
+    let r = reached_not i n n (i + 1) h (omega arith) in
+    let s : i ≤ share i n n = (far_iff i n n i h).1 (omega arith) in
+    omega arith
+
+pub share_along : (i n d : ℕ) → i ≤ n → n ≡ d → share i n d ≡ i
+share_along i n d k e =
+    elim (cases_lt 0 n) [
+      | inl some ↦ rw (sym e) (share_even i n some)
+      | inr none ↦ let f : n ≡ 0 = omega arith in let g : i ≡ 0 = omega arith in rw (f, g) refl
+    ]
+
+pub first_along : (i n d far : ℕ) → n ≡ d → 1 ≤ far → far ≤ d → (far ≤ share i n d) ↔ (far ≤ i)
+first_along i n d far e beyond inside =
+    let s : share i n n ≡ i = share_even i n (omega arith) in
+    let t : share i n d ≡ i = rw (sym e) s in
+    rw t (λ h. h, λ h. h)

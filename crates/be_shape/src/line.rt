@@ -1,4 +1,4 @@
-ghost use Rattle.std.specs.Prelude.{◌≡◌, ℕ, ℤ, pos, ◌≤◌, ◌+ℤ◌, ◌-ℤ◌, ◌*ℤ◌, ◌≤ℤ◌, unsigned_abs};
+ghost use Rattle.std.specs.Prelude.{◌≡◌, ℕ, ℤ, pos, ◌≤◌, ◌+ℤ◌, ◌-ℤ◌, ◌*ℤ◌, ◌≤ℤ◌, unsigned_abs, true, ◌↔◌};
 ghost use Rattle.std.specs.Int.{int_signum};
 ghost use Rattle.be_geom.specs.Points.{between};
 ghost use Rattle.be_shape.specs.Rasters.{pen_covers, steps_of, line_at, line_has};
@@ -14,6 +14,9 @@ pub(crate) fn row_of(from: Point, to: Point, pen: PenSize, y: i32) -> Row
     ensures sound { IsRow result }
     ensures pixels { (x : ℤ) → row_has result x ≡ line_has from to pen x y }
 {
+    if pen.pixels() == 1 && is_steep(from, to) {
+        return steep_row(from, to, y);
+    }
     let steps = steps_of(from, to);
     let (nearest, farthest) = reach(pen, from.y, to.y, y);
     let distance = u64::from(to.y.abs_diff(from.y));
@@ -24,6 +27,32 @@ pub(crate) fn row_of(from: Point, to: Point, pen: PenSize, y: i32) -> Row
         )),
         None => Row::Empty,
     }
+}
+
+/// Whether a line goes at least as far down or up as across.
+fn is_steep(from: Point, to: Point) -> bool
+    ensures { (result ≡ true) ↔ (unsigned_abs (to.x -ℤ from.x) ≤ unsigned_abs (to.y -ℤ from.y)) }
+{
+    to.x.abs_diff(from.x) <= to.y.abs_diff(from.y)
+}
+
+/// The same of a steep line and a pen of one pixel: each row has one point.
+fn steep_row(from: Point, to: Point, y: i32) -> Row
+    requires steep { unsigned_abs (to.x -ℤ from.x) ≤ unsigned_abs (to.y -ℤ from.y) }
+    ensures sound { IsRow result }
+    ensures pixels { (x : ℤ) → row_has result x ≡ line_has from to 1 x y }
+{
+    let steps = u64::from(to.y.abs_diff(from.y));
+    let way = if from.y <= to.y {
+        i64::from(y) - i64::from(from.y)
+    } else {
+        i64::from(from.y) - i64::from(y)
+    };
+    if way < 0 || (steps as i64) < way {
+        return Row::Empty;
+    }
+    let x = i32::from(point_at(way as u64, steps, from.x, to.x));
+    Row::One(Span { first: x, last: x })
 }
 
 /// The rows of a line.

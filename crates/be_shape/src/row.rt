@@ -11,14 +11,14 @@ pub(crate) const LAST_ROW: i32 = 2147483647;
 
 /// Columns of a row without a gap, or rows without one; both ends belong to it.
 #[derive(Clone, Copy, Debug, PartialEq, Eq)]
-pub(crate) struct Span {
-    pub(crate) first: i32,
-    pub(crate) last: i32,
+pub struct Span {
+    pub first: i32,
+    pub last: i32,
 }
 
 /// The columns of one row that a shape has.
 #[derive(Clone, Copy, Debug, PartialEq, Eq)]
-pub(crate) enum Row {
+pub enum Row {
     /// None at all.
     Empty,
     /// One run.

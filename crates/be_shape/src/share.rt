@@ -2,7 +2,8 @@ ghost use Rattle.std.specs.Prelude.{◌≡◌, ◌≤◌, ◌≤ℤ◌, ◌↔�
 ghost use Rattle.be_shape.specs.Rasters.{share};
 ghost use Rattle.be_shape.specs.Lines.{ArePointsWithin, HasNoPointWithin};
 
-/// How far point `i` of a line of so many steps is along a distance, rounded to the nearest.
+/// How far point `i` of a line of so many steps is along a distance, rounded to the nearest. Along the
+/// longer way that is `i`.
 pub(crate) fn share(i: u64, steps: u64, distance: u64) -> u64
     requires of_steps { i ≤ steps }
     requires few { steps ≤ 65535 }
@@ -10,8 +11,8 @@ pub(crate) fn share(i: u64, steps: u64, distance: u64) -> u64
     ensures value { result ≡ share i steps distance }
     ensures bound { result ≤ distance }
 {
-    if steps == 0 {
-        0
+    if steps == distance {
+        i
     } else {
         (2 * i * distance + steps) / (2 * steps)
     }
@@ -71,7 +72,7 @@ fn last_to(steps: u64, distance: u64, farthest: i64) -> u64
     }
 }
 
-/// The first point that is so far along a distance.
+/// The first point that is so far along a distance. Along the longer way no division is needed.
 fn first_at(steps: u64, distance: u64, far: u64) -> u64
     requires few { steps ≤ 65535 }
     requires near { distance ≤ steps }
@@ -80,5 +81,9 @@ fn first_at(steps: u64, distance: u64, far: u64) -> u64
     ensures first { (i : ℕ) → (far ≤ share i steps distance) ↔ (result ≤ i) }
     ensures bound { (1 ≤ result) × (result ≤ steps) }
 {
-    (steps * (2 * far - 1)).div_ceil(2 * distance)
+    if steps == distance {
+        far
+    } else {
+        (steps * (2 * far - 1)).div_ceil(2 * distance)
+    }
 }

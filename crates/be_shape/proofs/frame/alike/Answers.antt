@@ -1,4 +1,4 @@
-use Rattle.std.proofs.Common.{ℤ, ◌≤ℤ◌, SFits, w16, w32, sym, ◌∙◌, arith, rules}
+use Rattle.std.proofs.Common.{SFits, w16, w32, sym, ◌∙◌, arith, rules}
 use Rattle.std.proofs.lemmas.Int.{to_z-of_z, ints, clamps}
 use Rattle.be_shape.proofs.FrameLemmas.{frame_alike}
 use Rattle.be_shape.proofs.frame.alike.Goals as goal
