@@ -1,7 +1,7 @@
 -- The views that lie in one directly, and the way down to the last that holds a pixel.
 use Rattle.std.specs.Prelude.{find, reverse, option_map}
 use Rattle.std.proofs.lemmas.Option.{none-some, same_Some}
-use Rattle.std.proofs.Common.{◌≡◌, ℕ, ◌+◌, ◌-◌, ◌<◌, zero, suc, ℤ, ◌-ℤ◌, ◌≤ℤ◌, Bool, true, false, ◌&&◌, cond, List, [], ◌∷◌, ◌++◌, Option, Some, None, IfSome, length, get_or, take, arith, refl, sym, ap, ◌∙◌}
+use Rattle.std.proofs.Common.{◌≡◌, ℕ, ◌+◌, ◌-◌, ◌<◌, ◌≤◌, zero, suc, ℤ, ◌-ℤ◌, ◌≤ℤ◌, Bool, true, false, ◌&&◌, cond, List, [], ◌∷◌, ◌++◌, Option, Some, None, length, get_or, take, arith, refl, sym, ap, ◌∙◌}
 use Rattle.std.proofs.lemmas.Int.{ints}
 use Rattle.std.proofs.lemmas.Bool.{and_parts}
 use Rattle.std.proofs.lemmas.List.{take_more, length-take, reverse-append, append-nil}
@@ -52,28 +52,30 @@ child_more tree i v x y d h =
 abbrev pub framed : ℕ × View → ℕ × Rect
 framed child = (child.0, child.1.frame)
 
--- what is known of the last child found so far
-pub record IsLast (tree : Tree) (i v : ℕ) (x y : ℤ) (last : Option (ℕ × Rect)) : Type 0 where
-  pub child : last ≡ option_map framed (last_child_at (take i tree) v x y)
-  pub there : IfSome last (λ child. child.0 < length tree)
-  pub holds : IfSome last (λ child. rect_has child.1 x y ≡ true)
-
 read_more : (tree : Tree) (i v : ℕ) (x y : ℤ) (view : View) (b : Bool) → i < length tree → view ≡ get_or tree i view → (is_number v view.parent && rect_has view.frame x y) ≡ b → last_child_at (take (i + 1) tree) v x y ≡ cond b (Some (i, view)) (last_child_at (take i tree) v x y)
 read_more tree i v x y view b h read is = child_more tree i v x y view h ∙ ap (λ w. cond (is_number v w.parent && rect_has w.frame x y) (Some (i, w)) (last_child_at (take i tree) v x y)) (sym read) ∙ ap (λ c. cond c (Some (i, view)) (last_child_at (take i tree) v x y)) is
 
-pub keeps_last : (tree : Tree) (i v : ℕ) (x y : ℤ) (last : Option (ℕ × Rect)) (view : View) → i < length tree → view ≡ get_or tree i view → (is_number v view.parent && rect_has view.frame x y) ≡ false → IsLast tree i v x y last → IsLast tree (i + 1) v x y last
-keeps_last tree i v x y last view h read out l = record {
-  child = l.child ∙ ap (option_map framed) (sym (read_more tree i v x y view false h read out));
-  there = l.there;
-  holds = l.holds;
-}
+-- ---- from the last view down
 
-pub takes_last : (tree : Tree) (i v : ℕ) (x y : ℤ) (view : View) → i < length tree → view ≡ get_or tree i view → (is_number v view.parent && rect_has view.frame x y) ≡ true → IsLast tree (i + 1) v x y (Some (i, view.frame))
-takes_last tree i v x y view h read inside = record {
-  child = ap (option_map framed) (sym (read_more tree i v x y view true h read inside));
-  there = h;
-  holds = (and_parts (is_number v view.parent) (rect_has view.frame x y) inside).1;
-}
+last_of_first : (tree : Tree) (k v : ℕ) (x y : ℤ) (view : View) (b : Bool) → 0 < k → k ≤ length tree → view ≡ get_or tree (k - 1) view → (is_number v view.parent && rect_has view.frame x y) ≡ b → last_child_at (take k tree) v x y ≡ cond b (Some (k - 1, view)) (last_child_at (take (k - 1) tree) v x y)
+last_of_first tree k v x y view b some h read is =
+    let e : k ≡ k - 1 + 1 = omega arith in
+    ap (λ n. last_child_at (take n tree) v x y) e ∙ read_more tree (k - 1) v x y view b (omega arith) read is
+
+-- a view that isn't such a child
+pub passes_child : (tree : Tree) (k v : ℕ) (x y : ℤ) (view : View) → 0 < k → k ≤ length tree → view ≡ get_or tree (k - 1) view → (is_number v view.parent && rect_has view.frame x y) ≡ false → last_child_at tree v x y ≡ last_child_at (take k tree) v x y → last_child_at tree v x y ≡ last_child_at (take (k - 1) tree) v x y
+passes_child tree k v x y view some h read out before = before ∙ last_of_first tree k v x y view false some h read out
+
+-- and the first one that is
+pub meets_child : (tree : Tree) (k v : ℕ) (x y : ℤ) (view : View) → 0 < k → k ≤ length tree → view ≡ get_or tree (k - 1) view → (is_number v view.parent && rect_has view.frame x y) ≡ true → last_child_at tree v x y ≡ last_child_at (take k tree) v x y → Some (k - 1, view.frame) ≡ option_map framed (last_child_at tree v x y)
+meets_child tree k v x y view some h read inside before =
+    ap (option_map framed) (sym (before ∙ last_of_first tree k v x y view true some h read inside))
+
+pub both_are : (p q b c : Bool) → p ≡ b → q ≡ c → (p && q) ≡ (b && c)
+both_are p q b c e f = rw (e, f) refl
+
+pub first_is_not : (p q : Bool) → p ≡ false → (p && q) ≡ false
+first_is_not p q e = rw e refl
 
 -- ---- the way down
 

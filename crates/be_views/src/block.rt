@@ -110,7 +110,7 @@ fn corner_above(corner: Corner, frame: Rect) -> Corner
 }
 
 /// A last column and a last row up to which no pixel is in one of these views that lies in view
-/// `v`, `end` at most.
+/// `v`, `end` at most. Once that is the pixel alone, the other views aren't asked.
 fn gap_block(views: &[View], v: u16, place: (i32, i32), end: Corner) -> Corner
     requires across { place.0 ≤ℤ end.right }
     requires down { place.1 ≤ℤ end.bottom }
@@ -120,6 +120,9 @@ fn gap_block(views: &[View], v: u16, place: (i32, i32), end: Corner) -> Corner
 {
     let mut last = end;
     for view in views {
+        if last.right == place.0 && last.bottom == place.1 {
+            return last;
+        }
         if lies_in(view.parent, v) {
             last = frame_gap_block(view.frame, place, last);
         }

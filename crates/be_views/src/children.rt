@@ -15,20 +15,13 @@ pub(crate) fn last_child_at(views: &[View], v: u16, x: i32, y: i32) -> Option<(u
     ensures there { IfSome result (λ child. child.0 < length views.now) }
     ensures holds { IfSome result (λ child. rect_has child.1 x y ≡ true) }
 {
-    let mut last = None;
-    for (k, view) in views.iter().enumerate() {
-        if is_child_at(*view, v, x, y) {
-            last = Some((k, view.frame));
+    for k in (0..views.len()).rev() {
+        let view = &views[k];
+        if lies_in(view.parent, v) && has_pixel(view.frame, x, y) {
+            return Some((k, view.frame));
         }
     }
-    last
-}
-
-/// Whether a view lies in view `v` directly, and its frame holds the pixel.
-fn is_child_at(view: View, v: u16, x: i32, y: i32) -> bool
-    ensures { result ≡ (is_number v view.parent && rect_has view.frame x y) }
-{
-    lies_in(view.parent, v) && has_pixel(view.frame, x, y)
+    None
 }
 
 pub(crate) fn lies_in(parent: Option<u16>, v: u16) -> bool

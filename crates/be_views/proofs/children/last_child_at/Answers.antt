@@ -1,11 +1,29 @@
-use Rattle.std.proofs.Common.{get_or, sym, ap, ◌∙◌}
-use Rattle.be_views.proofs.ChildLemmas.{keeps_last, takes_last}
+use Rattle.std.proofs.Common.{SFits, w32, get_or, ◌-◌, ◌≤◌, ◌<◌, length, true, false, sym, ap, ◌∙◌, arith}
+use Rattle.std.proofs.lemmas.Int.{to_z-of_z}
+use Rattle.be_views.proofs.ChildLemmas.{passes_child, meets_child, both_are, first_is_not}
 use Rattle.be_views.proofs.children.last_child_at.Goals as goal
-use Rattle.be_views.proofs.children.last_child_at.Goals.{then-is_child_at, else-is_child_at}
+use Rattle.be_views.proofs.children.last_child_at.Goals.{else-lies_in-via-then-lies_in+else-has_pixel, else-lies_in-via-else-lies_in}
+
+pub returns-then-has_pixel-clause-child : goal.returns-then-has_pixel-clause-child
+returns-then-has_pixel-clause-child c =
+    let x : SFits w32 c.args.x = c.ranges.x in
+    let y : SFits w32 c.args.y = c.ranges.y in
+    let k = c.loop-k.k in
+    let read = c.view.view_is ∙ c.index-views-k.is ∙ ap (get_or c.args.views.now (k - 1)) (sym c.view.view_is) in
+    let some : 0 < k = omega arith in
+    let within : k ≤ length c.args.views.now = c.loop-k.auto.k in
+    meets_child c.args.views.now k c.args.v c.args.x c.args.y _ some within read (both_are _ _ true true (sym c.lies_in.ensures ∙ c.if-lies_in.true) (sym (simp to_z-of_z at c.has_pixel.ensures) ∙ c.if-has_pixel.true)) (simp to_z-of_z at c.loop-k.invariant)
 
 pub loop-k-preserved : goal.loop-k-preserved
 loop-k-preserved c =
-    let x = c.ranges.x in
-    let y = c.ranges.y in
-    let read = c.view.view_is ∙ c.index-views-k.is ∙ ap (get_or c.args.views.now c.loop-k.k) (sym c.view.view_is) in
-    elim c.if-is_child_at.branch [ then-is_child_at w ↦ rw w.last-is (takes_last c.args.views.now c.loop-k.k c.args.v _ _ _ c.loop-k-test.true read (sym c.is_child_at.ensures ∙ w.if-is_child_at.true)) | else-is_child_at w ↦ rw w.last-is (keeps_last c.args.views.now c.loop-k.k c.args.v _ _ c.loop-k.last _ c.loop-k-test.true read (sym c.is_child_at.ensures ∙ w.if-is_child_at.false) c.loop-k.invariant) ]
+    let x : SFits w32 c.args.x = c.ranges.x in
+    let y : SFits w32 c.args.y = c.ranges.y in
+    let k = c.loop-k.k in
+    let read = c.view.view_is ∙ c.index-views-k.is ∙ ap (get_or c.args.views.now (k - 1)) (sym c.view.view_is) in
+    let some : 0 < k = omega arith in
+    let within : k ≤ length c.args.views.now = c.loop-k.auto.k in
+    let so_far = simp to_z-of_z at c.loop-k.invariant in
+    elim c.else-lies_in.branch [
+      | else-lies_in-via-then-lies_in+else-has_pixel w ↦ simp to_z-of_z (passes_child c.args.views.now k c.args.v c.args.x c.args.y _ some within read (both_are _ _ true false (sym c.lies_in.ensures ∙ w.if-lies_in.true) (sym (simp to_z-of_z at w.has_pixel.ensures) ∙ w.if-has_pixel.false)) so_far)
+      | else-lies_in-via-else-lies_in w ↦ simp to_z-of_z (passes_child c.args.views.now k c.args.v c.args.x c.args.y _ some within read (first_is_not _ _ (sym c.lies_in.ensures ∙ w.if-lies_in.false)) so_far)
+    ]
