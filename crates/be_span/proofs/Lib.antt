@@ -8,3 +8,4 @@ pub mod MarkLemmas
 pub mod GatherLemmas
 pub mod ExposeLemmas
 pub mod CopyLemmas
+pub mod BlockLemmas

@@ -27,6 +27,15 @@ pub record IsSpanOf (rs : List Rect) (span : SpanAt) : Type 0 where
   pub there : slice_get rs place ≡ Some span.rect
   pub starts : span.start ≡ pixels_of (take place rs)
 
+-- one rectangle has pixels, all of them in another
+pub record IsInside (inner outer : Rect) : Type 0 where
+  pub left : outer.left ≤ℤ inner.left
+  pub across : inner.left ≤ℤ inner.right
+  pub right : inner.right ≤ℤ outer.right
+  pub top : outer.top ≤ℤ inner.top
+  pub down : inner.top ≤ℤ inner.bottom
+  pub bottom : inner.bottom ≤ℤ outer.bottom
+
 -- what is kept of a region's cells: how many come before those of each rectangle, and how many are dirty; the region's
 -- rectangles are bands, so that each pixel is in one at most
 pub record AreRows (rs : List Rect) (starts : List ℕ) (cells : List Cell) (dirty : ℕ) : Type 0 where

@@ -1,9 +1,9 @@
 -- What painting makes of cells side by side (the rules of colours are those of single pixels).
-use Rattle.std.specs.Prelude.{ℕ, ℤ, pos, ◌+ℤ◌, ◌-◌, ◌%◌, ◌==◌, Bool, ◌&&◌, nat_lt, if◌then◌else◌, Option, Some, None, slice_get}
+use Rattle.std.specs.Prelude.{ℕ, ℤ, pos, ◌+ℤ◌, ◌-◌, ◌%◌, ◌==◌, Bool, ◌&&◌, nat_lt, if◌then◌else◌, List, Option, Some, None, slice_get}
 use Rattle.std.specs.Int.{bit_at}
 use Rattle.be_color.specs.declared.colors.Color.{Color}
 use Rattle.be_color.specs.declared.colors.Color.TheVariants.{Clear}
-use Rattle.be_color.specs.Pattern.{place_in_pattern}
+use Rattle.be_color.specs.Pattern.{place_in_pattern, pattern_bit}
 use Rattle.be_color.specs.Pixel.{picked, blended}
 use Rattle.be_span.specs.declared.Cell.{Cell}
 use Rattle.be_span.specs.declared.brush.Brush.{Brush}
@@ -29,6 +29,10 @@ source_at brush (One color) k = color
 source_at brush (Bits byte column) k = picked brush.mode (row_bit byte (column +ℤ pos k)) brush.high brush.low
 source_at brush (Colors colors) k = color_or_clear (slice_get colors.now k)
 source_at brush (Mask bits color) k = if mask_bit bits k then color else Clear
+
+-- the colour that the bit of a pattern's rows picks at a column and a row
+abbrev pub pattern_color : Brush → List ℕ → ℤ → ℤ → Color
+pattern_color brush rows x y = picked brush.mode (pattern_bit rows x y) brush.high brush.low
 
 -- a cell on which a colour was painted; its mark stays
 abbrev pub painted : Brush → Color → Cell → Cell

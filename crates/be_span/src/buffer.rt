@@ -1,22 +1,25 @@
-ghost use Rattle.std.specs.Prelude.{◌≡◌, ◌<◌, ◌↔◌, ℕ, ℤ, pos, ◌+ℤ◌, ◌≤ℤ◌, true, false, None, Some, IfOk, IfNone, IfSome, IsSome, IsTrue, All, length, slice_get, count_by, if◌then◌else◌};
+ghost use Rattle.std.specs.Prelude.{◌≡◌, ◌<◌, ◌↔◌, ℕ, ℤ, pos, ◌+ℤ◌, ◌-ℤ◌, ◌≤ℤ◌, true, false, None, Some, IfOk, IfNone, IfSome, IsSome, IsTrue, All, length, slice_get, count_by, if◌then◌else◌};
 ghost use Rattle.std.specs.Option.{option_map};
 ghost use Rattle.be_geom.specs.Rects.{rect_has};
 ghost use Rattle.be_region.specs.Regions.{region_has};
 ghost use Rattle.be_region.specs.Bands.{AreBands};
 ghost use Rattle.be_span.specs.Cells.{unmarked, exposed_cell, colored_as};
 ghost use Rattle.be_span.specs.Spans.{cell_in, is_dirty, black_cell, clean_cell, pixels_of};
-ghost use Rattle.be_span.specs.Runs.{AreRows, HasRun, IsBeside, IsSpanOf};
-ghost use Rattle.be_span.specs.Slices.{source_at, painted};
+ghost use Rattle.be_span.specs.Runs.{AreRows, HasRun, IsBeside, IsInside, IsSpanOf};
+ghost use Rattle.be_span.specs.Slices.{source_at, painted, pattern_color};
+ghost use Rattle.be_color.specs.declared.colors.Color.TheVariants.{Solid};
 
-use crate::Cell;
 use crate::brush::{Brush, Source};
 use crate::copy::copy_part;
 use crate::expose::expose_part;
 use crate::places::{cell_at, run_from, span_from, starts_of};
-use crate::rows::{dirty_among, dirty_of, overwrite, paint_part, unmark_all};
+use crate::rows::{
+    dirty_among, dirty_of, overwrite, paint_cell, paint_part, paint_same_part, unmark_all,
+};
 use crate::span::Span;
-use be_color::{Color, Rgb};
-use be_geom::NoMemory;
+use crate::{Cell, block};
+use be_color::{Color, Pattern, Rgb, pick};
+use be_geom::{NoMemory, Point, Rect};
 use be_region::Region;
 use std::alloc::Global;
 use std::marker::Model;
@@ -266,6 +269,88 @@ impl SpanBuf {
         let cells = &mut self.cells;
         let start = cell_at(span.rect, span.start, x, y);
         paint_part(cells, start, count, brush, source);
+    }
+
+    /// Paints the pixels of a rectangle, all of them in this span, each with the colour that its bit
+    /// of the pattern picks. The pattern is laid over the screen from `origin` on. Their marks stay.
+    /// It takes no search, and where the pattern is of one colour, one choice of the mode.
+    pub fn paint_block(
+        &mut self,
+        span: Span,
+        rect: Rect,
+        brush: Brush,
+        pattern: &Pattern,
+        origin: Point,
+    )
+        requires span { IsSpanOf self.old.rects span }
+        requires inside { IsInside rect span.rect }
+        ensures region { self.new.rects ≡ self.old.rects }
+        ensures painted { (x y : ℤ) → rect_has rect x y ≡ true → cell_in self.new x y
+            ≡ option_map (painted brush
+            (pattern_color brush pattern.now.rows (x -ℤ origin.x) (y -ℤ origin.y)))
+            (cell_in self.old x y) }
+        ensures others { (x y : ℤ) → rect_has rect x y ≡ false
+            → cell_in self.new x y ≡ cell_in self.old x y }
+        ensures marks { count_by (λ c. c.dirty) self.new.cells
+            ≡ count_by (λ c. c.dirty) self.old.cells }
+    {
+        match block::solid_bit(pattern) {
+            Some(bit) => {
+                let color = pick(brush.mode, bit, brush.high, brush.low);
+                block::paint_alike(self, span, rect, brush, color);
+            }
+            None => block::paint_rows(self, span, rect, brush, pattern, origin),
+        }
+    }
+
+    /// Paints the `count` pixels from (x, y) on to the right, all of them in this span, with the same
+    /// colour. Each caller has a loop of its own, for its mode.
+    #[inline(always)]
+    pub(crate) fn paint_same(
+        &mut self,
+        span: Span,
+        x: i32,
+        y: i32,
+        count: usize,
+        brush: Brush,
+        source: Rgb,
+    )
+        requires span { IsSpanOf self.old.rects span }
+        requires left { span.rect.left ≤ℤ x }
+        requires right { (x +ℤ pos count) ≤ℤ (span.rect.right +ℤ pos 1) }
+        requires top { span.rect.top ≤ℤ y }
+        requires bottom { y ≤ℤ span.rect.bottom }
+        ensures region { self.new.rects ≡ self.old.rects }
+        ensures painted { (k : ℕ) → k < count → cell_in self.new (x +ℤ pos k) y
+            ≡ option_map (painted brush (Solid source)) (cell_in self.old (x +ℤ pos k) y) }
+        ensures others { (z w : ℤ) → IsBeside x y count z w
+            → cell_in self.new z w ≡ cell_in self.old z w }
+        ensures marks { count_by (λ c. c.dirty) self.new.cells
+            ≡ count_by (λ c. c.dirty) self.old.cells }
+    {
+        let cells = &mut self.cells;
+        let first = cell_at(span.rect, span.start, x, y);
+        paint_same_part(cells, first, count, brush, source);
+    }
+
+    /// Paints a pixel of this span. Its mark stays. It takes no search.
+    pub fn paint_pixel(&mut self, span: Span, x: i32, y: i32, brush: Brush, color: Color)
+        requires span { IsSpanOf self.old.rects span }
+        requires left { span.rect.left ≤ℤ x }
+        requires right { x ≤ℤ span.rect.right }
+        requires top { span.rect.top ≤ℤ y }
+        requires bottom { y ≤ℤ span.rect.bottom }
+        ensures region { self.new.rects ≡ self.old.rects }
+        ensures painted { cell_in self.new x y
+            ≡ option_map (painted brush color) (cell_in self.old x y) }
+        ensures others { (z w : ℤ) → IsBeside x y 1 z w
+            → cell_in self.new z w ≡ cell_in self.old z w }
+        ensures marks { count_by (λ c. c.dirty) self.new.cells
+            ≡ count_by (λ c. c.dirty) self.old.cells }
+    {
+        let cells = &mut self.cells;
+        let place = cell_at(span.rect, span.start, x, y);
+        paint_cell(cells, place, brush, color);
     }
 
     /// Exposes the `count` pixels from (x, y) on to the right: each gets the colour, or keeps its own

@@ -1,11 +1,13 @@
 ghost use Rattle.std.specs.Prelude.{◌≡◌, ◌<◌, ◌≤◌, ◌+◌, ◌⊎◌, ℕ, length, map, slice_get, count_by};
 ghost use Rattle.std.specs.Option.{option_map};
 ghost use Rattle.be_span.specs.Cells.{unmarked};
+ghost use Rattle.be_color.specs.declared.colors.Color.TheVariants.{Solid};
 ghost use Rattle.be_span.specs.Slices.{source_at, painted};
 
 use crate::Cell;
 use crate::brush::{Brush, Source};
-use crate::slices::paint_cells;
+use crate::slices::{paint_cells, paint_each};
+use be_color::{Color, Rgb, blend};
 
 /// Writes over the cells from `start` on, by a row of which `more` are dirty. How many of all are
 /// dirty is told and given back.
@@ -49,6 +51,46 @@ pub(crate) fn paint_part(
     ensures marks { count_by (λ c. c.dirty) cells.new ≡ count_by (λ c. c.dirty) cells.old }
 {
     paint_cells(&mut cells[start..start + count], brush, source);
+}
+
+/// Paints `count` cells from `start` on with the same colour. Each caller has a loop of its own, for
+/// its mode.
+#[inline(always)]
+pub(crate) fn paint_same_part(
+    cells: &mut [Cell],
+    start: usize,
+    count: usize,
+    brush: Brush,
+    source: Rgb,
+)
+    requires { start + count ≤ length cells.old }
+    ensures len { length cells.new ≡ length cells.old }
+    ensures inside { (k : ℕ) → k < count → slice_get cells.new (start + k)
+        ≡ option_map (painted brush (Solid source)) (slice_get cells.old (start + k)) }
+    ensures others { (q : ℕ) → (q < start) ⊎ (start + count ≤ q)
+        → slice_get cells.new q ≡ slice_get cells.old q }
+    ensures marks { count_by (λ c. c.dirty) cells.new ≡ count_by (λ c. c.dirty) cells.old }
+{
+    let Brush { mode, high, low } = brush;
+    paint_each(&mut cells[start..start + count], mode, source, high, low);
+}
+
+/// Paints one cell.
+pub(crate) fn paint_cell(cells: &mut [Cell], place: usize, brush: Brush, color: Color)
+    requires { place < length cells.old }
+    ensures len { length cells.new ≡ length cells.old }
+    ensures inside { slice_get cells.new place
+        ≡ option_map (painted brush color) (slice_get cells.old place) }
+    ensures others { (q : ℕ) → (q < place) ⊎ (place + 1 ≤ q)
+        → slice_get cells.new q ≡ slice_get cells.old q }
+    ensures marks { count_by (λ c. c.dirty) cells.new ≡ count_by (λ c. c.dirty) cells.old }
+{
+    let cell = cells[place];
+    let rgb = blend(brush.mode, color, cell.rgb, brush.high, brush.low);
+    cells[place] = Cell {
+        rgb,
+        dirty: cell.dirty,
+    };
 }
 
 /// How many of some cells are dirty, where so many of all are: if none is, no cell is looked at.

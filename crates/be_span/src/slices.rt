@@ -65,7 +65,7 @@ fn paint_one(cells: &mut [Cell], brush: Brush, source: Color)
 
 /// The same in a mode. Each caller has a loop of its own, for its mode.
 #[inline(always)]
-fn paint_each(cells: &mut [Cell], mode: Mode, source: Rgb, high: Color, low: Color)
+pub(crate) fn paint_each(cells: &mut [Cell], mode: Mode, source: Rgb, high: Color, low: Color)
     ensures { cells.new
         ≡ map (painted record { mode = mode; high = high; low = low } (Solid source)) cells.old }
 {
