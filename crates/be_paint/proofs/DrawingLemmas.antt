@@ -1,20 +1,29 @@
 -- What a drawing makes of the cells along a row.
 use Rattle.std.specs.Prelude.{if◌then◌else◌}
-use Rattle.std.proofs.Common.{◌≡◌, ◌⊎◌, inl, inr, ◌<ℤ◌, ℕ, ℤ, pos, ◌+ℤ◌, ◌-ℤ◌, ◌≤ℤ◌, true, false, Bool, List, Option, None, refl, sym, subst, ap, ◌∙◌, arith}
+use Rattle.std.proofs.Common.{◌≡◌, ◌⊎◌, inl, inr, ◌<ℤ◌, ℕ, ℤ, pos, ◌+ℤ◌, ◌-ℤ◌, ◌≤ℤ◌, true, false, ◌&&◌, Bool, List, Option, None, refl, sym, subst, ap, ◌∙◌, arith}
 use Rattle.std.proofs.lemmas.Int.{ints}
+use Rattle.std.proofs.lemmas.Bool.{and_parts}
 use Rattle.be_geom.specs.Places.{at_pixel}
 use Rattle.be_geom.specs.declared.rect.Rect.{Rect}
-use Rattle.be_region.specs.declared.corner.Corner.{Corner}
 use Rattle.be_region.specs.Regions.{region_has}
+use Rattle.be_shape.specs.Rasters.{raster_has}
+use Rattle.be_shape.specs.Rows.{row_has}
+use Rattle.be_shape.specs.declared.Raster.{Raster}
+use Rattle.be_shape.specs.declared.row.Row.{Row}
+use Rattle.be_span.specs.Runs.{IsSpanOf}
+use Rattle.be_span.specs.Spans.{SpanAt}
 use Rattle.be_span.specs.declared.Cell.{Cell}
 use Rattle.be_span.specs.declared.brush.Source.{Source}
 use Rattle.be_paint.specs.Inks.{source_at, laid_on_cell}
-use Rattle.be_paint.specs.Seen.{may_draw}
-use Rattle.be_paint.specs.Stretches.{IsWithin}
-use Rattle.be_paint.specs.Laying.{AreInked, AreThere, HasNoneOutside, HasNoneWithin, IsInked, IsThere, ink_of, source_in, drawn_cell, AreLeft, IsInkRun, IsDrawnBy, IsRunOf}
+use Rattle.be_paint.specs.Seen.{is_own, is_allowed, is_open, may_draw}
+use Rattle.be_paint.specs.Stretches.{IsBeyond, IsPatch, IsWithin}
+use Rattle.be_paint.specs.Laying.{HasNoneOutside, IsBand, IsInSpan, IsInked, IsOwnPart, IsFreePart, IsShapeOf, IsThere, across_in, down_in, ink_of, source_in, drawn_cell, AreLeft, IsInkRun, IsDrawnBy, IsRunOf}
 use Rattle.be_paint.specs.declared.drawing.Drawing.{Drawing}
+use Rattle.be_paint.specs.declared.drawing.Part.{Part}
 use Rattle.be_paint.specs.declared.pixel.Pixel.{Pixel}
+use Rattle.be_paint.proofs.PatchLemmas.{all_same, nearer_within}
 use Rattle.be_paint.proofs.ReachLemmas.{not_in}
+use Rattle.be_paint.proofs.StretchLemmas.{both_true}
 
 -- a run of the ink, seen on the screen
 pub drawn_by : (d : Drawing) (x y : ℤ) (local p : Pixel) (source : Option Source) (last : ℤ) (k : ℕ) → local.x ≡ x -ℤ d.reach.now.window.x → local.y ≡ y -ℤ d.reach.now.window.y → p.x ≡ local.x -ℤ d.view.x -ℤ d.base.x → p.y ≡ local.y -ℤ d.view.y -ℤ d.base.y → IsInkRun (ink_of d.ink.now) d.reach.now.states.now.top.state local p source last → (p.x +ℤ pos k) ≤ℤ last → IsDrawnBy d (x +ℤ pos k) y source k
@@ -40,7 +49,7 @@ drawn_by d x y local p source last k lx ly px py run to =
 not_free : (rects : List Rect) (d : Drawing) (x y : ℤ) (c : Cell) → may_draw rects d.reach.now d.view x y ≡ false → drawn_cell rects d x y c ≡ c
 not_free rects d x y c e = ap (λ b. if b then laid_on_cell d.reach.now.states.now.top.state c (source_in d x y) else c) e
 
-free : (rects : List Rect) (d : Drawing) (x y : ℤ) (c : Cell) → may_draw rects d.reach.now d.view x y ≡ true → drawn_cell rects d x y c ≡ laid_on_cell d.reach.now.states.now.top.state c (source_in d x y)
+pub free : (rects : List Rect) (d : Drawing) (x y : ℤ) (c : Cell) → may_draw rects d.reach.now d.view x y ≡ true → drawn_cell rects d x y c ≡ laid_on_cell d.reach.now.states.now.top.state c (source_in d x y)
 free rects d x y c e = ap (λ b. if b then laid_on_cell d.reach.now.states.now.top.state c (source_in d x y) else c) e
 
 -- no view draws on a pixel that the window doesn't own
@@ -77,26 +86,6 @@ left_where_not rects d first last out x y in_it c = not_free rects d x y c (out 
 pub left_where_bare : (rects : List Rect) (d : Drawing) (first last : Pixel) → ((x y : ℤ) → IsWithin first last x y → source_in d x y ≡ None) → AreLeft rects d first last
 left_where_bare rects d first last none x y in_it c = bare_cell rects d x y c (none x y in_it)
 
--- no ink in the drawing coordinates of a block
-pub bare_block : (d : Drawing) (at p last : Pixel) (corner : Corner) (x y : ℤ) → HasNoneWithin (ink_of d.ink.now) d.reach.now.states.now.top.state p corner → p.x ≡ at.x -ℤ d.reach.now.window.x -ℤ d.view.x -ℤ d.base.x → p.y ≡ at.y -ℤ d.reach.now.window.y -ℤ d.view.y -ℤ d.base.y → last.x ≤ℤ (corner.right +ℤ (d.reach.now.window.x +ℤ d.view.x +ℤ d.base.x)) → last.y ≤ℤ (corner.bottom +ℤ (d.reach.now.window.y +ℤ d.view.y +ℤ d.base.y)) → IsWithin at last x y → source_in d x y ≡ None
-bare_block d at p last corner x y none px py right bottom in_it =
-    let a = in_it.from_left in
-    let b = in_it.to_right in
-    let c = in_it.from_top in
-    let e = in_it.to_bottom in
-    let left : ℤ = x -ℤ d.reach.now.window.x in
-    let top : ℤ = y -ℤ d.reach.now.window.y in
-    none left top (left -ℤ d.view.x -ℤ d.base.x) (top -ℤ d.view.y -ℤ d.base.y) (omega (arith, ints)) (omega (arith, ints)) (omega (arith, ints)) (omega (arith, ints))
-
--- the ink in the drawing coordinates of a block
-pub inked_block : (d : Drawing) (at p last : Pixel) (corner : Corner) → AreThere (ink_of d.ink.now) p corner → p.x ≡ at.x -ℤ d.reach.now.window.x -ℤ d.view.x -ℤ d.base.x → p.y ≡ at.y -ℤ d.reach.now.window.y -ℤ d.view.y -ℤ d.base.y → last.x ≤ℤ (corner.right +ℤ (d.reach.now.window.x +ℤ d.view.x +ℤ d.base.x)) → last.y ≤ℤ (corner.bottom +ℤ (d.reach.now.window.y +ℤ d.view.y +ℤ d.base.y)) → AreInked d at last
-inked_block d at p last corner there px py right bottom x y in_it =
-    let a = in_it.from_left in
-    let b = in_it.to_right in
-    let c = in_it.from_top in
-    let e = in_it.to_bottom in
-    there (x -ℤ d.reach.now.window.x -ℤ d.view.x -ℤ d.base.x) (y -ℤ d.reach.now.window.y -ℤ d.view.y -ℤ d.base.y) (omega (arith, ints)) (omega (arith, ints)) (omega (arith, ints)) (omega (arith, ints))
-
 -- the ink at the pixels of a row, in drawing coordinates
 pub inked_row : (d : Drawing) (x y end p q last : ℤ) → ((z : ℤ) → x ≤ℤ z → z ≤ℤ end → IsInked d z y) → p ≡ x -ℤ d.reach.now.window.x -ℤ d.view.x -ℤ d.base.x → q ≡ y -ℤ d.reach.now.window.y -ℤ d.view.y -ℤ d.base.y → last ≡ end -ℤ (d.reach.now.window.x +ℤ d.view.x +ℤ d.base.x) → (z : ℤ) → p ≤ℤ z → z ≤ℤ last → IsThere (ink_of d.ink.now) z q
 inked_row d x y end p q last inked px qy e z from to =
@@ -104,6 +93,74 @@ inked_row d x y end p q last inked px qy e z from to =
     let at : z +ℤ first -ℤ d.reach.now.window.x -ℤ d.view.x -ℤ d.base.x ≡ z = omega (arith, ints) in
     subst (λ (w : ℤ). IsThere (ink_of d.ink.now) z w) (sym qy)
     (subst (λ (w : ℤ). IsThere (ink_of d.ink.now) w (y -ℤ d.reach.now.window.y -ℤ d.view.y -ℤ d.base.y)) at (inked (z +ℤ first) (omega (arith, ints)) (omega (arith, ints))))
+
+-- ---- parts
+
+-- the pixels of a part from one of them on
+from_within : (first at last : Pixel) (x y : ℤ) → IsBeyond first at → IsWithin at last x y → IsWithin first last x y
+from_within first at last x y (right, down) h =
+    let a = h.from_left in
+    let c = h.from_top in
+    record { from_left = omega (arith, ints); to_right = h.to_right; from_top = omega (arith, ints); to_bottom = h.to_bottom }
+
+from_inside : (span : SpanAt) (first at last : Pixel) → IsBeyond first at → IsInSpan span first last → IsInSpan span at last
+from_inside span first at last (right, down) h =
+    let a = h.from_left in
+    let c = h.from_top in
+    record { from_left = omega (arith, ints); to_right = h.to_right; from_top = omega (arith, ints); to_bottom = h.to_bottom }
+
+pub own_from : (rects : List Rect) (d : Drawing) (part : Part) (at : Pixel) → IsOwnPart rects d part → IsBeyond part.first at → IsOwnPart rects d record { first = at; last = part.last; span = part.span }
+own_from rects d part at h beyond = record {
+  own = λ x y in_it. h.own x y (from_within part.first at part.last x y beyond in_it);
+  span = h.span;
+  inside = from_inside part.span part.first at part.last beyond h.inside;
+}
+
+pub free_from : (rects : List Rect) (d : Drawing) (part : Part) (at : Pixel) → IsFreePart rects d part → IsBeyond part.first at → IsFreePart rects d record { first = at; last = part.last; span = part.span }
+free_from rects d part at h beyond = record {
+  free = λ x y in_it. h.free x y (from_within part.first at part.last x y beyond in_it);
+  span = h.span;
+  inside = from_inside part.span part.first at part.last beyond h.inside;
+}
+
+-- a part of a patch on which the answer is yes
+pub own_part : (rects : List Rect) (d : Drawing) (at end mid last : Pixel) (span : SpanAt) → IsPatch (is_own rects d.reach.now) at end mid → is_own rects d.reach.now at.x at.y ≡ true → IsBeyond last mid → IsSpanOf rects span → IsInSpan span at last → IsOwnPart rects d record { first = at; last = last; span = span }
+own_part rects d at end mid last span patch first nearer of inside = record {
+  own = λ x y in_it. all_same (is_own rects d.reach.now) at end mid true patch first x y (nearer_within at mid last x y nearer in_it);
+  span = of;
+  inside = inside;
+}
+
+-- what is its own, and on which every clip and the session let it draw
+pub free_part : (rects : List Rect) (d : Drawing) (at mid last : Pixel) (span : SpanAt) → IsOwnPart rects d record { first = at; last = mid; span = span } → IsPatch (λ x y. is_allowed d.reach.now d.view x y && is_open d.reach.now x y) at mid last → (is_allowed d.reach.now d.view at.x at.y && is_open d.reach.now at.x at.y) ≡ true → IsFreePart rects d record { first = at; last = last; span = span }
+free_part rects d at mid last span part patch first = record {
+  free = λ x y in_it.
+      let both = and_parts (is_allowed d.reach.now d.view x y) (is_open d.reach.now x y) (all_same (λ z w. is_allowed d.reach.now d.view z w && is_open d.reach.now z w) at mid last true patch first x y in_it) in
+      all_three (is_own rects d.reach.now x y) (is_allowed d.reach.now d.view x y) (is_open d.reach.now x y) (part.own x y (nearer_within at mid last x y patch.within in_it)) both.0 both.1;
+  span = part.span;
+  inside =
+      let within = patch.within in
+      let across = within.0 in
+      let down = within.1 in
+      let right = part.inside.to_right in
+      let bottom = part.inside.to_bottom in
+      record { from_left = part.inside.from_left; to_right = omega (arith, ints); from_top = part.inside.from_top; to_bottom = omega (arith, ints) };
+}
+  where
+    all_three : (a b c : Bool) → a ≡ true → b ≡ true → c ≡ true → (a && b && c) ≡ true
+    all_three a b c e f g = both_true (a && b) c (both_true a b e ∙ f) ∙ g
+
+-- ---- shapes
+
+-- a row of a shape, and those below it that are like it
+pub band_of : (d : Drawing) (raster : Raster) (row : Row) (top y alike last : ℤ) → IsShapeOf raster d → top ≡ d.reach.now.window.y +ℤ d.view.y +ℤ d.base.y → ((x : ℤ) → row_has row x ≡ raster_has raster x (y -ℤ top)) → ((x z : ℤ) → (y -ℤ top) ≤ℤ z → z ≤ℤ alike → raster_has raster x z ≡ raster_has raster x (y -ℤ top)) → last ≤ℤ (alike +ℤ top) → IsBand d row y last
+band_of d raster row top y alike last shape place pixels same lasts = record {
+  none = λ x w from to e. shape.none x w (here x w from to ∙ e);
+  there = λ x w from to e. shape.there x w (here x w from to ∙ e);
+}
+  where
+    here : (x w : ℤ) → y ≤ℤ w → w ≤ℤ last → raster_has raster (across_in d x) (down_in d w) ≡ row_has row (across_in d x)
+    here x w from to = same (across_in d x) (down_in d w) (omega (arith, ints)) (omega (arith, ints)) ∙ sym (pixels (across_in d x))
 
 -- ---- rows
 

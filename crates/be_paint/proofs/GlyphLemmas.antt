@@ -5,6 +5,7 @@ use Rattle.std.proofs.Math.Seq.{drop-cons}
 use Rattle.std.proofs.lemmas.List.{drop_all, take_all, length-drop}
 use Rattle.std.proofs.lemmas.Int.{ints, clamps}
 use Rattle.be_font.specs.Glyphs.{glyph_bit}
+use Rattle.std.specs.Int.{int_min}
 use Rattle.std.specs.Int.Bits.{bit_or}
 use Rattle.be_font.specs.Runs.{row_bit}
 use Rattle.be_font.proofs.RowLemmas.{glyph_bit-column_past, glyph_bit-row_past}
@@ -98,6 +99,13 @@ pub text_past : (codes : List ℕ) (m : ℕ) (left x pen_y z y : ℤ) → x ≡ 
 text_past codes m left x pen_y z y at most before few =
     text_before m codes left pen_y z y (omega (arith, ints)) (λ some. let b = before some in omega (arith, ints))
     ∙ ap (λ l. text_has l (left +ℤ pos 6 *ℤ pos m) pen_y z y) (drop_all m codes (omega arith))
+
+-- all glyphs end before the column, or it is behind the last one that a glyph can have
+pub text_ended : (codes : List ℕ) (left pen_y z y : ℤ) → left ≤ℤ pos 32767 → int_min (left +ℤ pos 6 *ℤ pos (length codes)) (pos 32772) ≤ℤ z → text_has codes left pen_y z y ≡ false
+text_ended [] left pen_y z y most h = refl
+text_ended (code ∷ codes) left pen_y z y most h =
+    ap (λ b. b || text_has codes (pen_behind left) pen_y z y) (covers_not_past code (y -ℤ pen_y +ℤ pos 6) (z -ℤ left) (omega (arith, ints, clamps)))
+    ∙ text_ended codes (pen_behind left) pen_y z y (omega (arith, ints, clamps)) (omega (arith, ints, clamps))
 
 -- ---- the bits of a row
 

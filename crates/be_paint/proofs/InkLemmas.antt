@@ -11,7 +11,6 @@ use Rattle.be_color.specs.declared.colors.Color.TheVariants.{Clear}
 use Rattle.be_color.specs.declared.patterns.Pattern.{Pattern}
 use Rattle.be_color.specs.Pattern.{place_in_pattern, pattern_bit}
 use Rattle.be_color.specs.Pixel.{picked}
-use Rattle.be_region.specs.declared.corner.Corner.{Corner}
 use Rattle.be_shape.specs.declared.Raster.{Raster}
 use Rattle.be_shape.specs.Rasters.{raster_has}
 use Rattle.be_shape.specs.Runs.{HasNoPixel, AreRows}
@@ -22,10 +21,10 @@ use Rattle.be_span.specs.Slices.{color_or_clear, mask_bit, painted}
 use Rattle.be_state.specs.declared.State.{State}
 use Rattle.be_paint.specs.Inks.{shape, text, image, text_has, source_at, laid_on_cell}
 use Rattle.be_span.specs.declared.Cell.{Cell}
-use Rattle.be_paint.specs.Laying.{HasNoneWithin, IsInkRun, IsLaidBy, IsRowRun, HasNoSource, HasNoneOutside, brush_of, color_in, run_cell}
+use Rattle.be_paint.specs.Laying.{IsInkRun, IsLaidBy, IsRowRun, HasNoSource, HasNoneBeside, HasNoneOutside, brush_of, color_in, run_cell}
 use Rattle.be_paint.specs.declared.pixel.Pixel.{Pixel}
 use Rattle.be_paint.proofs.BitLemmas.{mask_none}
-use Rattle.be_paint.proofs.GlyphLemmas.{row_above, row_below, text_none}
+use Rattle.be_paint.proofs.GlyphLemmas.{row_above, row_below, text_behind, text_none}
 
 -- ---- cells
 
@@ -39,7 +38,7 @@ laid_alike s color source k e c = ap (laid_on_cell s c) e ∙ laid_by s source k
 
 -- ---- shapes
 
-shape_off : (raster : Raster) (pattern : Pattern) (s : State) (u v x y : ℤ) → raster_has raster x y ≡ false → source_at (shape raster pattern) s (at_pixel u v) (at_pixel x y) ≡ None
+pub shape_off : (raster : Raster) (pattern : Pattern) (s : State) (u v x y : ℤ) → raster_has raster x y ≡ false → source_at (shape raster pattern) s (at_pixel u v) (at_pixel x y) ≡ None
 unfolding source_at
 shape_off raster pattern s u v x y e = ap (λ b. if b then Some (picked s.mode (pattern_bit pattern.rows u v) s.high s.low) else None) e
 
@@ -140,15 +139,7 @@ pixel_there [] k less = absurd (omega arith)
 pixel_there (color ∷ pixels) zero less = refl
 pixel_there (color ∷ pixels) (suc k) less = pixel_there pixels k (omega arith)
 
--- ---- blocks
-
--- a shape that isn't in the first row of a block, where all rows are like that one
-pub shape_bare : (raster : Raster) (pattern : Pattern) (s : State) (at : Pixel) (corner : Corner) → ((x : ℤ) → at.x ≤ℤ x → x ≤ℤ corner.right → raster_has raster x at.y ≡ false) → ((x z : ℤ) → at.y ≤ℤ z → z ≤ℤ corner.bottom → raster_has raster x z ≡ raster_has raster x at.y) → HasNoneWithin (shape raster pattern) s at corner
-shape_bare raster pattern s at corner none alike u v x y left right top bottom = shape_off raster pattern s u v x y (alike x y top bottom ∙ none x left right)
-
-pub text_bare : (codes : List ℕ) (s : State) (at : Pixel) (corner : Corner) → ((z y : ℤ) → at.x ≤ℤ z → text_has codes s.pen.x s.pen.y z y ≡ false) → HasNoneWithin (text codes) s at corner
-unfolding source_at
-text_bare codes s at corner none u v x y left right top bottom = ap (λ b. if b then Some s.high else None) (none x y left)
+-- ---- columns
 
 never_both_first : (a b : Bool) → a ≡ false → (a && b) ≡ false
 never_both_first true b e = cc
@@ -162,13 +153,21 @@ right_of b (pos n) (pos m) h =
     let e : nat_lt n b.width ≡ false = le-ltb n b.width (omega (arith, ints)) in
     ap (λ t. if t then slice_get b.colors (m * b.width + n) else None) (never_both_first (nat_lt n b.width) (nat_lt m b.height) e)
 
-pub image_before : (b : Picture) (corner : Point) (s : State) (at : Pixel) (end : Corner) → end.right <ℤ corner.x → HasNoneWithin (image b corner) s at end
+pub image_beside : (b : Picture) (corner : Point) (s : State) (first last : ℤ) → first ≡ corner.x → last ≡ corner.x +ℤ pos b.width -ℤ pos 1 → HasNoneBeside (image b corner) s first last
 unfolding source_at
-image_before b corner s at end before u v x y left right top bottom = left_of b (x -ℤ corner.x) (y -ℤ corner.y) (omega (arith, ints))
+image_beside b corner s first last f l u v x y (inl before) = left_of b (x -ℤ corner.x) (y -ℤ corner.y) (omega (arith, ints))
+image_beside b corner s first last f l u v x y (inr behind) = right_of b (x -ℤ corner.x) (y -ℤ corner.y) (omega (arith, ints))
 
-pub image_behind : (b : Picture) (corner : Point) (s : State) (at : Pixel) (end : Corner) → (corner.x +ℤ pos b.width) ≤ℤ at.x → HasNoneWithin (image b corner) s at end
+off_columns : (codes : List ℕ) (pen_x pen_y first last x y : ℤ) → pen_x ≤ℤ pos 32767 → first ≡ pen_x → ((x y : ℤ) → last <ℤ x → text_has codes pen_x pen_y x y ≡ false) → (x <ℤ first) ⊎ (last <ℤ x) → text_has codes pen_x pen_y x y ≡ false
+off_columns codes pen_x pen_y first last x y most f end (inl before) = text_behind codes pen_x pen_y x y (omega (arith, ints)) most
+off_columns codes pen_x pen_y first last x y most f end (inr behind) = end x y behind
+
+-- from the pen's column to a text's end
+pub text_beside : (codes : List ℕ) (s : State) (pen : Point) (first last : ℤ) → s.pen ≡ pen → pen.x ≤ℤ pos 32767 → first ≡ pen.x → ((x y : ℤ) → last <ℤ x → text_has codes pen.x pen.y x y ≡ false) → HasNoneBeside (text codes) s first last
 unfolding source_at
-image_behind b corner s at end behind u v x y left right top bottom = right_of b (x -ℤ corner.x) (y -ℤ corner.y) (omega (arith, ints))
+text_beside codes s pen first last at most f end u v x y out =
+    ap (λ (p : Point). if text_has codes p.x p.y x y then Some s.high else None) at
+    ∙ ap (λ b. if b then Some s.high else None) (off_columns codes pen.x pen.y first last x y most f end out)
 
 -- ---- rows
 

@@ -13,3 +13,5 @@ pub mod DrawingLemmas
 pub mod PaintLemmas
 pub mod WithinLemmas
 pub mod SeenLemmas
+pub mod PatternLemmas
+pub mod BandLemmas

@@ -60,7 +60,7 @@ stays_outside rects d x y o e = kept_map (drawn_cell rects d x y) (λ c. not_own
 pub stays_bare : (rects : List Rect) (d : Drawing) (x y : ℤ) (o : Option Cell) → source_in d x y ≡ None → o ≡ option_map (drawn_cell rects d x y) o
 stays_bare rects d x y o e = kept_map (drawn_cell rects d x y) (λ c. bare_cell rects d x y c e) o
 
-outside_edges : (b : Bool) → (b ≡ true → ⊥) → b ≡ false
+pub outside_edges : (b : Bool) → (b ≡ true → ⊥) → b ≡ false
 outside_edges true h = absurd (h refl)
 outside_edges false h = refl
 
@@ -84,7 +84,7 @@ beside_none : (f : Rect) (x : ℤ) → (x <ℤ f.left) ⊎ (f.right <ℤ x) → 
 beside_none f x (inl h) a b = absurd (omega (arith, ints))
 beside_none f x (inr h) a b = absurd (omega (arith, ints))
 
-edges : (low z high : ℤ) → between low z high ≡ true → (low ≤ℤ z) × (z ≤ℤ high)
+pub edges : (low z high : ℤ) → between low z high ≡ true → (low ≤ℤ z) × (z ≤ℤ high)
 edges low z high e = edges_in low z high e (between_tells low z high)
 
 pub inside_edges : (f : Rect) (x y : ℤ) → rect_has f x y ≡ true → ((f.left ≤ℤ x) × (x ≤ℤ f.right)) × ((f.top ≤ℤ y) × (y ≤ℤ f.bottom))

@@ -12,9 +12,13 @@ use Rattle.be_paint.specs.declared.pixel.Pixel.{Pixel}
 pub not_in : (rects : List Rect) (given : Reach) (place : Pixel) (x y : ℤ) → region_has rects x y ≡ false → may_draw rects given place x y ≡ false
 not_in rects given place x y e = ap (λ b. b && is_number given.view (view_on given x y) && is_allowed given place x y && is_open given x y) e
 
+-- the window's region has the pixels that are its own
+pub own_has : (rects : List Rect) (given : Reach) (x y : ℤ) → is_own rects given x y ≡ true → region_has rects x y ≡ true
+own_has rects given x y e = (and_parts (region_has rects x y) (is_number given.view (view_on given x y)) e).0
+
 -- what it may draw on is its own
 pub is_drawn : (rects : List Rect) (given : Reach) (place : Pixel) (x y : ℤ) → may_draw rects given place x y ≡ true → region_has rects x y ≡ true
 is_drawn rects given place x y e =
     let both = and_parts (is_own rects given x y && is_allowed given place x y) (is_open given x y) e in
     let own = and_parts (is_own rects given x y) (is_allowed given place x y) both.0 in
-    (and_parts (region_has rects x y) (is_number given.view (view_on given x y)) own.0).0
+    own_has rects given x y own.0

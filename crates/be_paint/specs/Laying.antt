@@ -1,10 +1,13 @@
 -- What a run of an ink is, and what it makes of the cells of a row (this project's own).
-use Rattle.std.specs.Prelude.{◌≡◌, ℕ, ℤ, pos, ◌+ℤ◌, ◌-ℤ◌, ◌≤ℤ◌, ◌<ℤ◌, ◌⊎◌, true, false, List, Option, Some, None, option_map, slice_get, if◌then◌else◌}
+use Rattle.std.specs.Prelude.{◌≡◌, ℕ, ℤ, pos, ◌+ℤ◌, ◌-ℤ◌, ◌≤ℤ◌, ◌<ℤ◌, ◌⊎◌, true, false, List, Option, Some, None, option_map, slice_get, IfSome, if◌then◌else◌}
 use Rattle.be_geom.specs.Places.{at_pixel}
 use Rattle.be_geom.specs.declared.rect.Rect.{Rect}
-use Rattle.be_region.specs.declared.corner.Corner.{Corner}
 use Rattle.be_color.specs.declared.colors.Color.{Color}
 use Rattle.be_shape.specs.Rasters.{raster_has}
+use Rattle.be_shape.specs.Rows.{row_has, span_has}
+use Rattle.be_shape.specs.declared.Raster.{Raster}
+use Rattle.be_shape.specs.declared.row.Row.{Row}
+use Rattle.be_shape.specs.declared.row.Span.{Span}
 use Rattle.be_span.specs.declared.Cell.{Cell}
 use Rattle.be_span.specs.declared.brush.Brush.{Brush}
 use Rattle.be_span.specs.declared.brush.Source.{Source}
@@ -12,12 +15,14 @@ use Rattle.be_span.specs.Slices as slices
 use Rattle.be_state.specs.declared.State.{State}
 use Rattle.be_paint.specs.Inks as inks
 use Rattle.be_paint.specs.Inks.{source_at, laid_on_cell}
-use Rattle.be_paint.specs.Seen.{may_draw}
-use Rattle.be_paint.specs.Stretches.{IsBeyond, IsWithin}
+use Rattle.be_paint.specs.Seen.{is_own, may_draw}
+use Rattle.be_paint.specs.Stretches.{IsWithin}
 use Rattle.be_paint.specs.declared.ink.Ink.{Ink}
 use Rattle.be_paint.specs.declared.ink.Ink.TheVariants.{Shape, Text, Image}
 use Rattle.be_paint.specs.declared.drawing.Drawing.{Drawing}
 use Rattle.be_paint.specs.declared.drawing.Known.{Known}
+use Rattle.be_paint.specs.declared.drawing.Part.{Part}
+use Rattle.be_span.specs.Runs.{IsSpanOf}
 use Rattle.be_span.specs.Spans.{SpanAt, Spans, cell_in}
 use Rattle.be_paint.specs.declared.pixel.Pixel.{Pixel}
 
@@ -66,24 +71,15 @@ HasNoSource ink s = (u v x y : ℤ) → source_at ink s (at_pixel u v) (at_pixel
 abbrev pub HasNoneOutside : inks.Ink → State → ℤ → ℤ → Type 0
 HasNoneOutside ink s first last = (u v x y : ℤ) → (y <ℤ first) ⊎ (last <ℤ y) → source_at ink s (at_pixel u v) (at_pixel x y) ≡ None
 
--- it lays nothing on the pixels of a block, to the right of one of drawing and down
-abbrev pub HasNoneWithin : inks.Ink → State → Pixel → Corner → Type 0
-HasNoneWithin ink s at corner =
-    (u v x y : ℤ) → at.x ≤ℤ x → x ≤ℤ corner.right → at.y ≤ℤ y → y ≤ℤ corner.bottom → source_at ink s (at_pixel u v) (at_pixel x y) ≡ None
+-- it lays nothing outside these columns of drawing
+abbrev pub HasNoneBeside : inks.Ink → State → ℤ → ℤ → Type 0
+HasNoneBeside ink s first last = (u v x y : ℤ) → (x <ℤ first) ⊎ (last <ℤ x) → source_at ink s (at_pixel u v) (at_pixel x y) ≡ None
 
 -- a shape has the pixel of drawing; of a text and of a picture nothing is said
 abbrev pub IsThere : inks.Ink → ℤ → ℤ → Type 0
 IsThere (inks.shape raster pattern) x y = raster_has raster x y ≡ true
 IsThere (inks.text codes) x y = Unit {0}
 IsThere (inks.image picture corner) x y = Unit {0}
-
--- it is so at each pixel of a block
-abbrev pub AreThere : inks.Ink → Pixel → Corner → Type 0
-AreThere ink at corner = (x y : ℤ) → at.x ≤ℤ x → x ≤ℤ corner.right → at.y ≤ℤ y → y ≤ℤ corner.bottom → IsThere ink x y
-
--- a corner is neither left of a pixel nor above it
-abbrev pub IsBehind : Pixel → Corner → Type 0
-IsBehind at corner = (at.x ≤ℤ corner.right) × (at.y ≤ℤ corner.bottom)
 
 -- ---- a drawing on the screen
 
@@ -139,13 +135,59 @@ pub record IsDrawnWithin (d : Drawing) (old new : Spans) (first last : Pixel) : 
   pub inside : (x y : ℤ) → IsWithin first last x y → cell_in new x y ≡ option_map (drawn_cell old.rects d x y) (cell_in old x y)
   pub beside : (x y : ℤ) → (IsWithin first last x y → ⊥) → cell_in new x y ≡ cell_in old x y
 
--- on what is known the view may draw, and it goes no further than the drawing
-abbrev pub IsKnown : List Rect → Drawing → Known → Type 0
-IsKnown rects d known = AreFree rects d known.first known.last × IsBeyond known.last d.far
-
 -- the pixels from one to another lie in a rectangle of the buffer's region
 pub record IsInSpan (span : SpanAt) (at last : Pixel) : Type 0 where
   pub from_left : span.rect.left ≤ℤ at.x
   pub to_right : last.x ≤ℤ span.rect.right
   pub from_top : span.rect.top ≤ℤ at.y
   pub to_bottom : last.y ≤ℤ span.rect.bottom
+
+-- the window owns each pixel of a part, in one rectangle of its region, and the view is at it
+pub record IsOwnPart (rects : List Rect) (d : Drawing) (part : Part) : Type 0 where
+  pub own : (x y : ℤ) → IsWithin part.first part.last x y → is_own rects d.reach.now x y ≡ true
+  pub span : IsSpanOf rects part.span
+  pub inside : IsInSpan part.span part.first part.last
+
+-- the view may draw on each of them
+pub record IsFreePart (rects : List Rect) (d : Drawing) (part : Part) : Type 0 where
+  pub free : AreFree rects d part.first part.last
+  pub span : IsSpanOf rects part.span
+  pub inside : IsInSpan part.span part.first part.last
+
+-- what is known is so
+pub record IsKnown (rects : List Rect) (d : Drawing) (known : Known) : Type 0 where
+  pub own : IfSome known.own (IsOwnPart rects d)
+  pub free : IfSome known.free (IsFreePart rects d)
+
+-- ---- shapes
+
+-- a column and a row of the screen, from where drawing counts
+abbrev pub across_in : Drawing → ℤ → ℤ
+across_in d x = x -ℤ d.reach.now.window.x -ℤ d.view.x -ℤ d.base.x
+
+abbrev pub down_in : Drawing → ℤ → ℤ
+down_in d y = y -ℤ d.reach.now.window.y -ℤ d.view.y -ℤ d.base.y
+
+-- where a shape isn't, the ink lays nothing; where it is, the ink is there
+pub record IsShapeOf (raster : Raster) (d : Drawing) : Type 0 where
+  pub none : (x y : ℤ) → raster_has raster (across_in d x) (down_in d y) ≡ false → source_in d x y ≡ None
+  pub there : (x y : ℤ) → raster_has raster (across_in d x) (down_in d y) ≡ true → IsInked d x y
+
+-- it is so of the columns of a row, in each row of the screen from one to another
+pub record IsBand (d : Drawing) (row : Row) (top bottom : ℤ) : Type 0 where
+  pub none : (x y : ℤ) → top ≤ℤ y → y ≤ℤ bottom → row_has row (across_in d x) ≡ false → source_in d x y ≡ None
+  pub there : (x y : ℤ) → top ≤ℤ y → y ≤ℤ bottom → row_has row (across_in d x) ≡ true → IsInked d x y
+
+-- the ink is at the columns of a run, in each of these rows
+abbrev pub IsInkedRun : Drawing → Span → ℤ → ℤ → Type 0
+IsInkedRun d run top bottom = (x y : ℤ) → top ≤ℤ y → y ≤ℤ bottom → span_has run (across_in d x) ≡ true → IsInked d x y
+
+-- it draws on the pixels of a run that are in a block, and all others stay
+pub record IsRunDrawn (d : Drawing) (old new : Spans) (run : Span) (first last : Pixel) : Type 0 where
+  pub inside : (x y : ℤ) → IsWithin first last x y → span_has run (across_in d x) ≡ true → cell_in new x y ≡ option_map (drawn_cell old.rects d x y) (cell_in old x y)
+  pub beside : (x y : ℤ) → (IsWithin first last x y → span_has run (across_in d x) ≡ true → ⊥) → cell_in new x y ≡ cell_in old x y
+
+-- the ink lays on each pixel of a block the colour that its bit of a pattern picks
+abbrev pub IsPatternOf : Drawing → List ℕ → Pixel → Pixel → Type 0
+IsPatternOf d rows first last = (x y : ℤ) → IsWithin first last x y
+    → source_in d x y ≡ Some (slices.pattern_color (brush_of d.reach.now.states.now.top.state) rows (x -ℤ d.reach.now.window.x) (y -ℤ d.reach.now.window.y))

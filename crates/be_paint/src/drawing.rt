@@ -1,15 +1,15 @@
-ghost use Rattle.std.specs.Prelude.{◌≡◌, ℕ, ℤ, pos, negsuc, ◌+ℤ◌, ◌-ℤ◌, ◌≤ℤ◌, ◌<ℤ◌, ◌⊎◌, ◌↔◌, true, false, None, IsSome, MatchOption};
-ghost use Rattle.be_region.specs.Regions.{region_has};
+ghost use Rattle.std.specs.Prelude.{◌≡◌, ℕ, ℤ, pos, negsuc, ◌+ℤ◌, ◌-ℤ◌, ◌≤ℤ◌, ◌<ℤ◌, ◌⊎◌, true, None, Some, IfNone, IfSome, MatchOption};
+ghost use Rattle.be_shape.specs.Rows.{IsRow};
 ghost use Rattle.be_views.specs.Places.{IsNear};
-ghost use Rattle.be_paint.specs.Laying.{AreFree, AreInked, AreLeft, IsDrawnBy, IsInked, IsKnown, source_in};
-ghost use Rattle.be_paint.specs.Seen.{IsPlace, IsBase, IsOrigin};
-ghost use Rattle.be_paint.specs.Stretches.{IsBeyond, IsCoordinate, IsInRange, IsWithin};
+ghost use Rattle.be_paint.specs.Laying.{AreLeft, IsBand, IsDrawnBy, IsFreePart, IsInked, IsKnown, IsOwnPart, IsShapeOf, source_in};
+ghost use Rattle.be_paint.specs.Seen.{IsPlace, IsBase};
+ghost use Rattle.be_paint.specs.Stretches.{IsBeyond, IsCoordinate, IsInRange};
 
 use crate::ink::Ink;
-use crate::pixel::{Pixel, last_column, last_pixel, nearer};
+use crate::pixel::{Pixel, last_column, nearer};
 use crate::reach::Reach;
-use be_region::Region;
-use be_span::Source;
+use be_shape::{Raster, Row};
+use be_span::{Source, Span, SpanBuf};
 
 /// An ink where a view draws it, with what is found once and not for each run.
 #[derive(Clone, Copy)]
@@ -24,141 +24,131 @@ pub(crate) struct Drawing<'a> {
     pub far: Pixel,
 }
 
-/// Pixels from one on to the right and down, all of which are drawn on, or none.
+/// Pixels from a first to a last one, in one rectangle of the buffer's region.
 #[derive(Clone, Copy)]
-pub(crate) struct Block {
-    pub drawn: bool,
-    /// The last one.
-    pub last: Pixel,
-    pub known: Known,
-}
-
-/// Pixels from a first to a last one on which the view may draw. There are none where the last is before the first.
-#[derive(Clone, Copy)]
-pub(crate) struct Known {
+pub(crate) struct Part {
     pub first: Pixel,
     pub last: Pixel,
+    pub span: Span,
+}
+
+/// What the reach answered last, so that it isn't asked again.
+#[derive(Clone, Copy)]
+pub(crate) struct Known {
+    /// Pixels that the window owns and the view is at.
+    pub own: Option<Part>,
+    /// Pixels on which the view may draw.
+    pub free: Option<Part>,
+}
+
+impl Part {
+    /// Whether it has the pixels from one to another one that is neither left of it nor above it.
+    fn covers(self, at: Pixel, end: Pixel) -> bool
+        ensures { result ≡ true → IsBeyond self.first at × IsBeyond end self.last }
+    {
+        self.first.x <= at.x && self.first.y <= at.y && end.x <= self.last.x && end.y <= self.last.y
+    }
 }
 
 impl Known {
     pub(crate) fn nothing() -> Known
-        ensures none { (x y : ℤ) → IsWithin result.first result.last x y → ⊥ }
-        ensures last { (p : Pixel) → IsInRange p → IsBeyond result.last p }
+        ensures own { result.own ≡ None }
+        ensures free { result.free ≡ None }
     {
         Known {
-            first: Pixel { x: 0, y: 0 },
-            last: Pixel {
-                x: -32769,
-                y: -32769,
-            },
+            own: None,
+            free: None,
         }
-    }
-
-    fn has(self, at: Pixel) -> bool
-        ensures { result ≡ true → IsWithin self.first self.last at.x at.y }
-    {
-        is_between(self.first.x, at.x, self.last.x) && is_between(self.first.y, at.y, self.last.y)
     }
 }
 
 impl Drawing<'_> {
-    /// The pixels of the screen from one on, neither right of `end` nor below it, that are drawn on or left alike.
-    /// `owned` is what the window owns. Where the view may draw is asked only where the ink may be, and not where it is
-    /// known.
-    pub(crate) fn block_at(&self, owned: &Region, at: Pixel, end: Pixel, known: Known) -> Block
-        requires view { IsPlace self.now.view }
-        requires base { IsBase self.now.base }
-        requires far { IsInRange self.now.far }
-        requires from { IsInRange at }
-        requires forward { IsBeyond at end }
-        requires to { IsBeyond end self.now.far }
-        requires known { IsKnown owned.now self.now known }
-        ensures forward { IsBeyond at result.last }
-        ensures within { IsBeyond result.last end }
-        ensures drawn { result.drawn ≡ true → AreFree owned.now self.now at result.last }
-        ensures inked { result.drawn ≡ true → AreInked self.now at result.last }
-        ensures left { result.drawn ≡ false → AreLeft owned.now self.now at result.last }
-        ensures known { IsKnown owned.now self.now result.known }
-    {
-        let (there, last) = self.ink_block(at, end);
-        if !there {
-            return Block {
-                drawn: false,
-                last,
-                known,
-            };
-        }
-        let block = self.free_block(owned, at, known);
-        Block {
-            drawn: block.drawn,
-            last: nearer(last, block.last),
-            known: block.known,
-        }
-    }
-
-    /// The pixels from one on on which the view may draw, or on none of which it may.
-    fn free_block(&self, owned: &Region, at: Pixel, known: Known) -> Block
+    /// A last pixel up to which the view may draw on all pixels of the screen from one on, right and down, with the
+    /// rectangle of the buffer in which they are; or on none of them.
+    pub(crate) fn block_at(
+        &self,
+        spans: &SpanBuf,
+        at: Pixel,
+        known: &mut Known,
+    ) -> (Option<Span>, Pixel)
         requires view { IsPlace self.now.view }
         requires far { IsInRange self.now.far }
         requires from { IsInRange at }
         requires forward { IsBeyond at self.now.far }
-        requires known { IsKnown owned.now self.now known }
-        ensures forward { IsBeyond at result.last }
-        ensures drawn { result.drawn ≡ true → AreFree owned.now self.now at result.last }
-        ensures left { result.drawn ≡ false → AreLeft owned.now self.now at result.last }
-        ensures known { IsKnown owned.now self.now result.known }
-    {
-        if known.has(at) {
-            return Block {
-                drawn: true,
-                last: known.last,
-                known,
-            };
-        }
-        let (free, last) = self.reach.block_at(owned, self.view, at, self.far);
-        let known = if free {
-            Known { first: at, last }
-        } else {
-            known
-        };
-        Block {
-            drawn: free,
-            last,
-            known,
-        }
-    }
-
-    /// Whether the ink may be at a pixel of the screen, and a last pixel, neither right of `end` nor below it: where it
-    /// may not, it is nowhere up to there.
-    fn ink_block(&self, at: Pixel, end: Pixel) -> (bool, Pixel)
-        requires view { IsPlace self.now.view }
-        requires base { IsBase self.now.base }
-        requires from { IsInRange at }
-        requires forward { IsBeyond at end }
-        requires to { IsInRange end }
+        requires known { IsKnown spans.now.rects self.now known.old }
         ensures forward { IsBeyond at result.1 }
-        ensures within { IsBeyond result.1 end }
-        ensures none { result.0 ≡ false → (x y : ℤ) → IsWithin at result.1 x y
-            → source_in self.now x y ≡ None }
-        ensures there { result.0 ≡ true → AreInked self.now at result.1 }
+        ensures free { IfSome result.0 (λ span. IsFreePart spans.now.rects self.now
+            record { first = at; last = result.1; span = span }) }
+        ensures left { IfNone result.0 (AreLeft spans.now.rects self.now at result.1) }
+        ensures known { IsKnown spans.now.rects self.now known.new }
     {
-        let drawing = self.in_drawing(self.in_window(at.x, at.y));
-        let (there, corner) = self.ink.block_at(self.reach.states.top(), drawing);
-        (there, last_pixel(corner, self.origin(), end))
+        if let Some(free) = covering(known.free, at, at) {
+            return (Some(free.span), free.last);
+        }
+        let (own, last) = self.own_block(spans, at, known);
+        let Some(span) = own else {
+            return (None, last);
+        };
+        let (open, last) = self.reach.open_block(self.view, at, last);
+        if !open {
+            return (None, last);
+        }
+        known.free = Some(Part {
+            first: at,
+            last,
+            span,
+        });
+        (Some(span), last)
     }
 
-    /// The pixel of the screen from which drawing counts.
-    fn origin(&self) -> Pixel
+    /// The same of whether the window owns the pixels and the view is at them.
+    fn own_block(&self, spans: &SpanBuf, at: Pixel, known: &mut Known) -> (Option<Span>, Pixel)
+        requires far { IsInRange self.now.far }
+        requires from { IsInRange at }
+        requires forward { IsBeyond at self.now.far }
+        requires known { IsKnown spans.now.rects self.now known.old }
+        ensures forward { IsBeyond at result.1 }
+        ensures own { IfSome result.0 (λ span. IsOwnPart spans.now.rects self.now
+            record { first = at; last = result.1; span = span }) }
+        ensures left { IfNone result.0 (AreLeft spans.now.rects self.now at result.1) }
+        ensures known { IsKnown spans.now.rects self.now known.new }
+    {
+        if let Some(own) = covering(known.own, at, at) {
+            return (Some(own.span), own.last);
+        }
+        let (own, last) = self.reach.own_block(spans.region(), at, self.far);
+        if !own {
+            return (None, last);
+        }
+        let Some(span) = spans.span_at(at.x, at.y) else {
+            return (None, last);
+        };
+        let last = nearer(last, last_of(span));
+        known.own = Some(Part {
+            first: at,
+            last,
+            span,
+        });
+        (Some(span), last)
+    }
+
+    /// The columns of drawing that a shape has in a row of the screen, and the last row, `end` at most, down to which it
+    /// has the same.
+    pub(crate) fn band_at(&self, raster: &Raster, y: i32, end: i32) -> (Row, i32)
         requires view { IsPlace self.now.view }
         requires base { IsBase self.now.base }
-        ensures across { result.x ≡ self.now.reach.now.window.x +ℤ self.now.view.x +ℤ self.now.base.x }
-        ensures down { result.y ≡ self.now.reach.now.window.y +ℤ self.now.view.y +ℤ self.now.base.y }
-        ensures near { IsOrigin result }
+        requires from { IsCoordinate y }
+        requires forward { y ≤ℤ end }
+        requires to { IsCoordinate end }
+        requires shape { IsShapeOf raster.now self.now }
+        ensures sound { IsRow result.0 }
+        ensures forward { y ≤ℤ result.1 }
+        ensures within { result.1 ≤ℤ end }
+        ensures columns { IsBand self.now result.0 y result.1 }
     {
-        Pixel {
-            x: self.first_column(),
-            y: self.first_row(),
-        }
+        let top = self.first_row();
+        let row = raster.row(y - top);
+        (row, last_column(raster.alike(y - top), top, end))
     }
 
     /// With what the ink paints the pixels of a row from a pixel of the screen on, and up to which column, `end` at most.
@@ -214,7 +204,7 @@ impl Drawing<'_> {
     }
 
     /// The column of the screen from which drawing counts.
-    fn first_column(&self) -> i32
+    pub(crate) fn first_column(&self) -> i32
         requires view { IsPlace self.now.view }
         requires base { IsBase self.now.base }
         ensures column { result ≡ self.now.reach.now.window.x +ℤ self.now.view.x +ℤ self.now.base.x }
@@ -246,9 +236,22 @@ impl Drawing<'_> {
     }
 }
 
-/// Whether a number is neither before a first one nor behind a last one.
-fn is_between(first: i32, z: i32, last: i32) -> bool
-    ensures { result ≡ true ↔ (first ≤ℤ z) × (z ≤ℤ last) }
+/// A part, where it has the pixels from one to another one that is neither left of it nor above it.
+pub(crate) fn covering(part: Option<Part>, at: Pixel, end: Pixel) -> Option<Part>
+    ensures same { IfSome result (λ found. part ≡ Some found) }
+    ensures within { IfSome result (λ found. IsBeyond found.first at × IsBeyond end found.last) }
 {
-    first <= z && z <= last
+    part.filter(|part| part.covers(at, end))
+}
+
+/// The last column and the last row of a rectangle.
+fn last_of(span: Span) -> Pixel
+    ensures across { result.x ≡ span.rect.right }
+    ensures down { result.y ≡ span.rect.bottom }
+{
+    let rect = span.rect();
+    Pixel {
+        x: i32::from(rect.right),
+        y: i32::from(rect.bottom),
+    }
 }

@@ -1,4 +1,4 @@
-ghost use Rattle.std.specs.Prelude.{◌≡◌, ℕ, ℤ, pos, ◌<◌, ◌+ℤ◌, ◌-ℤ◌, ◌*ℤ◌, ◌≤ℤ◌, ◌<ℤ◌, true, false, MatchOption};
+ghost use Rattle.std.specs.Prelude.{◌≡◌, ℕ, ℤ, pos, ◌<◌, ◌+ℤ◌, ◌-ℤ◌, ◌*ℤ◌, ◌≤ℤ◌, ◌<ℤ◌, false, MatchOption};
 ghost use Rattle.be_font.specs.Runs.{row_bit};
 ghost use Rattle.be_span.specs.Slices.{mask_bit};
 ghost use Rattle.be_views.specs.Places.{IsNear};
@@ -23,6 +23,9 @@ const ADVANCE: i32 = 6;
 /// Where the pen stops.
 const LAST_PEN: i32 = 32767;
 
+/// More columns than there are from any pen to the end of a glyph where it stops.
+const MOST_COLUMNS: usize = 65544;
+
 /// The last of the pixels that have a bit.
 const LAST_BIT: i32 = 63;
 
@@ -45,18 +48,12 @@ pub(crate) fn bits_at(codes: &[u8], pen: Point, at: Pixel) -> (u64, i32)
     (bits_of(&codes[count..], x, row, at.x), at.x + LAST_BIT)
 }
 
-/// Whether all glyphs end before a column.
-pub(crate) fn is_past(codes: &[u8], pen: Point, x: i32) -> bool
-    requires { IsNear 60 x }
-    ensures { result ≡ true → (z y : ℤ) → x ≤ℤ z → text_has codes.now pen.x pen.y z y ≡ false }
+/// A column behind the last one that a glyph has. It stays near where the pen stops, however long the text is.
+pub(crate) fn end_of(codes: &[u8], pen: Point) -> i32
+    ensures end { (x y : ℤ) → result <ℤ x → text_has codes.now pen.x pen.y x y ≡ false }
+    ensures near { IsNear 4 result }
 {
-    let (count, _) = glyphs_before(pen.x, x);
-    codes.len() < count
-}
-
-/// The last column that a glyph can have, or a later one.
-pub(crate) fn end_of(codes: &[u8], pen: Point) -> i32 {
-    let columns = codes.len().saturating_mul(6).min(65536) as i32;
+    let columns = codes.len().saturating_mul(6).min(MOST_COLUMNS) as i32;
     i32::from(pen.x) + columns
 }
 

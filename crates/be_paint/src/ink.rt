@@ -1,4 +1,4 @@
-ghost use Rattle.std.specs.Prelude.{◌≡◌, ◌<◌, ◌≤◌, ◌≤ℤ◌, true, false, ℕ, ℤ, Some, pos, ◌+ℤ◌, ◌-ℤ◌, length, slice_get, slice_index, MatchOption, IfSome};
+ghost use Rattle.std.specs.Prelude.{◌≡◌, ◌<◌, ◌≤◌, ◌≤ℤ◌, true, ℤ, Some, pos, ◌+ℤ◌, ◌-ℤ◌, length, slice_index, MatchOption, IfSome};
 ghost use Rattle.be_color.specs.Pattern.{place_in_pattern};
 ghost use Rattle.be_views.specs.Places.{IsNear};
 ghost use Rattle.be_paint.specs.Inks.{shape, text, image};
@@ -6,26 +6,19 @@ ghost use Rattle.be_state.specs.declared.State as states;
 ghost use Rattle.be_color.specs.declared.patterns.Pattern as patterns;
 ghost use Rattle.be_shape.specs.declared.Raster as rasters;
 ghost use Rattle.be_shape.specs.Rasters.{raster_has};
-ghost use Rattle.be_paint.specs.Laying.{AreThere, IsBehind, IsInkRun, IsThere, IsRowRun, HasNoSource, HasNoneOutside, HasNoneWithin, ink_of};
+ghost use Rattle.be_paint.specs.Laying.{IsInkRun, IsThere, IsRowRun, HasNoSource, HasNoneBeside, HasNoneOutside, ink_of};
 
-use crate::glyphs::{bits_at, end_of, is_past};
+use crate::glyphs::{bits_at, end_of};
 use crate::pixel::Pixel;
 use be_bitmap::Bitmap;
 use be_color::{Color, Pattern};
 use be_geom::Point;
-use be_region::Corner;
 use be_shape::Raster;
 use be_span::Source;
 use be_state::State;
 
 /// Where no column follows.
 const LAST_COLUMN: i32 = 2147483647;
-
-/// Where neither a column nor a row follows.
-const FARTHEST: Corner = Corner {
-    right: LAST_COLUMN,
-    bottom: LAST_COLUMN,
-};
 
 /// The rows of a glyph above the pen's.
 const ASCENT: i32 = 6;
@@ -64,23 +57,6 @@ impl Ink<'_> {
         }
     }
 
-    /// Whether the ink may be at a pixel of drawing, and a corner: where it may not, it is at none of the pixels up to it.
-    /// Where a shape may be, it is at all of them.
-    pub(crate) fn block_at(&self, state: &State, at: Pixel) -> (bool, Corner)
-        requires across { IsNear 60 at.x }
-        requires down { IsNear 60 at.y }
-        ensures behind { IsBehind at result.1 }
-        ensures none { result.0 ≡ false
-            → HasNoneWithin (ink_of self.now) state.now at result.1 }
-        ensures there { result.0 ≡ true → AreThere (ink_of self.now) at result.1 }
-    {
-        match self {
-            Ink::Shape(raster, _) => shape_block(raster, at),
-            Ink::Text(codes) => text_block(codes, state, at),
-            Ink::Image(bitmap, corner) => image_block(bitmap, *corner, at),
-        }
-    }
-
     /// The first and the last row of drawing outside of which the ink is nowhere. None where it is nowhere at all.
     pub(crate) fn rows(&self, state: &State) -> Option<(i32, i32)>
         ensures rows { MatchOption result (HasNoSource (ink_of self.now) state.now)
@@ -109,92 +85,6 @@ fn pattern_run<'a>(pattern: Pattern, local: Pixel, end: i32) -> (Option<Source<'
             column: local.x,
         }),
         end,
-    )
-}
-
-/// Whether a shape is at a pixel of drawing, and a corner up to which it is at all pixels, or at none.
-fn shape_block(raster: &Raster, at: Pixel) -> (bool, Corner)
-    ensures behind { IsBehind at result.1 }
-    ensures none { result.0 ≡ false → (pattern : patterns.Pattern) (s : states.State)
-        → HasNoneWithin (shape raster.now pattern) s at result.1 }
-    ensures there { result.0 ≡ true → (pattern : patterns.Pattern)
-        → AreThere (shape raster.now pattern) at result.1 }
-{
-    let bottom = raster.alike(at.y);
-    let Some((first, last)) = raster.next_run(at.y, at.x) else {
-        return (
-            false,
-            Corner {
-                right: LAST_COLUMN,
-                bottom,
-            },
-        );
-    };
-    if at.x < first {
-        return (
-            false,
-            Corner {
-                right: first - 1,
-                bottom,
-            },
-        );
-    }
-    (
-        true,
-        Corner {
-            right: last,
-            bottom,
-        },
-    )
-}
-
-/// The same of a text.
-fn text_block(codes: &[u8], state: &State, at: Pixel) -> (bool, Corner)
-    requires across { IsNear 60 at.x }
-    requires down { IsNear 60 at.y }
-    ensures behind { IsBehind at result.1 }
-    ensures none { result.0 ≡ false → HasNoneWithin (text codes.now) state.now at result.1 }
-{
-    if is_past(codes, state.pen, at.x) {
-        return (false, FARTHEST);
-    }
-    (
-        true,
-        Corner {
-            right: end_of(codes, state.pen).max(at.x),
-            bottom: LAST_COLUMN,
-        },
-    )
-}
-
-/// The same of a picture.
-fn image_block(bitmap: &Bitmap, corner: Point, at: Pixel) -> (bool, Corner)
-    requires across { IsNear 60 at.x }
-    requires down { IsNear 60 at.y }
-    ensures behind { IsBehind at result.1 }
-    ensures none { result.0 ≡ false → (s : states.State)
-        → HasNoneWithin (image bitmap.now corner) s at result.1 }
-{
-    let left = i32::from(corner.x);
-    let behind = left + i32::from(bitmap.width());
-    if behind <= at.x {
-        return (false, FARTHEST);
-    }
-    if at.x < left {
-        return (
-            false,
-            Corner {
-                right: left - 1,
-                bottom: LAST_COLUMN,
-            },
-        );
-    }
-    (
-        true,
-        Corner {
-            right: behind - 1,
-            bottom: LAST_COLUMN,
-        },
     )
 }
 
@@ -295,4 +185,21 @@ fn image_rows(bitmap: &Bitmap, corner: Point) -> (i32, i32)
 {
     let first = i32::from(corner.y);
     (first, first + i32::from(bitmap.height()) - 1)
+}
+
+/// The columns of drawing outside of which no glyph of a text is.
+pub(crate) fn text_columns(codes: &[u8], pen: Point) -> (i32, i32)
+    ensures none { (s : states.State) → s.pen ≡ pen → HasNoneBeside (text codes.now) s result.0 result.1 }
+    ensures near { IsNear 60 result.0 × IsNear 60 result.1 }
+{
+    (i32::from(pen.x), end_of(codes, pen))
+}
+
+/// The columns of drawing outside of which a picture isn't.
+pub(crate) fn image_columns(bitmap: &Bitmap, corner: Point) -> (i32, i32)
+    ensures none { (s : states.State) → HasNoneBeside (image bitmap.now corner) s result.0 result.1 }
+    ensures near { IsNear 60 result.0 × IsNear 60 result.1 }
+{
+    let first = i32::from(corner.x);
+    (first, first + i32::from(bitmap.width()) - 1)
 }

@@ -6,16 +6,20 @@ ghost use Rattle.be_span.specs.Spans.{cell_in};
 ghost use Rattle.be_paint.specs.Reach as reaches;
 ghost use Rattle.be_paint.specs.Inks.{painted_cell};
 ghost use Rattle.be_region.specs.Frames.{IsFrame};
-ghost use Rattle.be_paint.specs.Laying.{ink_of, drawn_cell, run_cell, AreFree, AreInked, IsDrawnWithin, IsInked, IsInSpan, IsKnown};
+ghost use Rattle.be_shape.specs.Rows.{IsRow, IsSpan};
+ghost use Rattle.be_views.specs.Places.{IsNear};
+ghost use Rattle.be_paint.specs.Laying.{ink_of, drawn_cell, run_cell, AreFree, AreInked, HasNoneBeside, IsBand, IsDrawnWithin, IsInked, IsInkedRun, IsInSpan, IsKnown, IsPatternOf, IsRunDrawn, IsShapeOf, IsThere};
 ghost use Rattle.be_paint.specs.Seen.{may_draw, IsSeenAs, IsPlace, IsBase};
 ghost use Rattle.be_paint.specs.Stretches.{IsBeyond, IsCoordinate, IsInRange};
 
-use crate::drawing::{Block, Drawing, Known};
-use crate::ink::Ink;
+use crate::drawing::{Drawing, Known, covering};
+use crate::ink::{Ink, image_columns, text_columns};
 use crate::pixel::{Pixel, nearer};
 use crate::place::place_of;
 use crate::reach::Reach;
+use be_color::{Pattern, pick};
 use be_geom::Rect;
+use be_shape::{Raster, Row, Span as Columns};
 use be_span::{Brush, Source, Span, SpanBuf};
 use be_state::State;
 
@@ -77,107 +81,328 @@ fn draw(spans: &mut SpanBuf, drawing: &Drawing<'_>, frame: Rect)
             x: i32::from(frame.right),
             y: bottom,
         };
-        draw_area(spans, drawing, at, end, Known::nothing());
+        draw_within(spans, drawing, at, end);
     }
 }
 
-/// Draws on the pixels of the screen from one on to another, right and down, and gives what is known then. The calls
-/// within one another are as many as the blocks that lie side by side.
-fn draw_area(
-    spans: &mut SpanBuf,
-    drawing: &Drawing<'_>,
-    at: Pixel,
-    end: Pixel,
-    known: Known,
-) -> Known
+/// Draws on the pixels of the screen from one on to another, right and down.
+fn draw_within(spans: &mut SpanBuf, drawing: &Drawing<'_>, at: Pixel, end: Pixel)
     requires view { IsPlace drawing.now.view }
     requires base { IsBase drawing.now.base }
     requires far { IsInRange drawing.now.far }
     requires from { IsInRange at }
     requires forward { IsBeyond at end }
     requires to { IsBeyond end drawing.now.far }
-    requires known { IsKnown spans.old.rects drawing.now known }
     ensures region { spans.new.rects ≡ spans.old.rects }
     ensures cells { IsDrawnWithin drawing.now spans.old spans.new at end }
-    ensures known { IsKnown spans.old.rects drawing.now result }
+    ensures marks { count_by (λ c. c.dirty) spans.new.cells
+        ≡ count_by (λ c. c.dirty) spans.old.cells }
+{
+    let pen = drawing.reach.states.top().pen;
+    match drawing.ink {
+        Ink::Shape(raster, _) => draw_shape(spans, drawing, raster, at, end),
+        Ink::Text(codes) => draw_columns(spans, drawing, text_columns(codes, pen), at, end),
+        Ink::Image(bitmap, corner) => {
+            draw_columns(spans, drawing, image_columns(bitmap, *corner), at, end);
+        }
+    }
+}
+
+/// The same of a text or a picture that is nowhere outside these columns of drawing.
+fn draw_columns(
+    spans: &mut SpanBuf,
+    drawing: &Drawing<'_>,
+    columns: (i32, i32),
+    at: Pixel,
+    end: Pixel,
+)
+    requires view { IsPlace drawing.now.view }
+    requires base { IsBase drawing.now.base }
+    requires far { IsInRange drawing.now.far }
+    requires from { IsInRange at }
+    requires forward { IsBeyond at end }
+    requires to { IsBeyond end drawing.now.far }
+    requires near { IsNear 60 columns.0 × IsNear 60 columns.1 }
+    requires none { HasNoneBeside (ink_of drawing.now.ink.now)
+        drawing.now.reach.now.states.now.top.state columns.0 columns.1 }
+    requires there { (x y : ℤ) → IsThere (ink_of drawing.now.ink.now) x y }
+    ensures region { spans.new.rects ≡ spans.old.rects }
+    ensures cells { IsDrawnWithin drawing.now spans.old spans.new at end }
+    ensures marks { count_by (λ c. c.dirty) spans.new.cells
+        ≡ count_by (λ c. c.dirty) spans.old.cells }
+{
+    let left = drawing.first_column();
+    let first = at.x.max(columns.0 + left);
+    let last = end.x.min(columns.1 + left);
+    if first <= last {
+        let at = Pixel { x: first, y: at.y };
+        let end = Pixel { x: last, y: end.y };
+        let mut known = Known::nothing();
+        draw_area(spans, drawing, at, end, &mut known);
+    }
+}
+
+/// The same of a shape: its rows, those that are alike at once.
+fn draw_shape(spans: &mut SpanBuf, drawing: &Drawing<'_>, raster: &Raster, at: Pixel, end: Pixel)
+    requires view { IsPlace drawing.now.view }
+    requires base { IsBase drawing.now.base }
+    requires far { IsInRange drawing.now.far }
+    requires from { IsInRange at }
+    requires forward { IsBeyond at end }
+    requires to { IsBeyond end drawing.now.far }
+    requires shape { IsShapeOf raster.now drawing.now }
+    ensures region { spans.new.rects ≡ spans.old.rects }
+    ensures cells { IsDrawnWithin drawing.now spans.old spans.new at end }
+    ensures marks { count_by (λ c. c.dirty) spans.new.cells
+        ≡ count_by (λ c. c.dirty) spans.old.cells }
+{
+    let mut known = Known::nothing();
+    let mut y = at.y;
+    'bands: while y <= end.y {
+        let (row, bottom) = drawing.band_at(raster, y, end.y);
+        let from = Pixel { x: at.x, y };
+        let to = Pixel {
+            x: end.x,
+            y: bottom,
+        };
+        draw_band(spans, drawing, row, from, to, &mut known);
+        y = bottom + 1;
+    }
+}
+
+/// Draws the runs of rows of a shape that are alike.
+fn draw_band(
+    spans: &mut SpanBuf,
+    drawing: &Drawing<'_>,
+    row: Row,
+    at: Pixel,
+    end: Pixel,
+    known: &mut Known,
+)
+    requires view { IsPlace drawing.now.view }
+    requires base { IsBase drawing.now.base }
+    requires far { IsInRange drawing.now.far }
+    requires from { IsInRange at }
+    requires forward { IsBeyond at end }
+    requires to { IsBeyond end drawing.now.far }
+    requires row { IsRow row }
+    requires band { IsBand drawing.now row at.y end.y }
+    requires known { IsKnown spans.old.rects drawing.now known.old }
+    ensures region { spans.new.rects ≡ spans.old.rects }
+    ensures cells { IsDrawnWithin drawing.now spans.old spans.new at end }
+    ensures known { IsKnown spans.old.rects drawing.now known.new }
+    ensures marks { count_by (λ c. c.dirty) spans.new.cells
+        ≡ count_by (λ c. c.dirty) spans.old.cells }
+{
+    match row {
+        Row::Empty => {}
+        Row::One(run) => draw_run(spans, drawing, run, at, end, known),
+        Row::Two(left, right) => {
+            draw_run(spans, drawing, left, at, end, known);
+            draw_run(spans, drawing, right, at, end, known);
+        }
+    }
+}
+
+/// Draws a run of rows that are alike, given in columns of drawing.
+fn draw_run(
+    spans: &mut SpanBuf,
+    drawing: &Drawing<'_>,
+    run: Columns,
+    at: Pixel,
+    end: Pixel,
+    known: &mut Known,
+)
+    requires view { IsPlace drawing.now.view }
+    requires base { IsBase drawing.now.base }
+    requires far { IsInRange drawing.now.far }
+    requires from { IsInRange at }
+    requires forward { IsBeyond at end }
+    requires to { IsBeyond end drawing.now.far }
+    requires run { IsSpan run }
+    requires inked { IsInkedRun drawing.now run at.y end.y }
+    requires known { IsKnown spans.old.rects drawing.now known.old }
+    ensures region { spans.new.rects ≡ spans.old.rects }
+    ensures cells { IsRunDrawn drawing.now spans.old spans.new run at end }
+    ensures known { IsKnown spans.old.rects drawing.now known.new }
+    ensures marks { count_by (λ c. c.dirty) spans.new.cells
+        ≡ count_by (λ c. c.dirty) spans.old.cells }
+{
+    let left = drawing.first_column();
+    let first = at.x.max(run.first + left);
+    let last = end.x.min(run.last + left);
+    if first <= last {
+        let at = Pixel { x: first, y: at.y };
+        let end = Pixel { x: last, y: end.y };
+        draw_part(spans, drawing, at, end, known);
+    }
+}
+
+/// Draws on the pixels from one on to another, at all of which the ink is.
+fn draw_part(spans: &mut SpanBuf, drawing: &Drawing<'_>, at: Pixel, end: Pixel, known: &mut Known)
+    requires view { IsPlace drawing.now.view }
+    requires base { IsBase drawing.now.base }
+    requires far { IsInRange drawing.now.far }
+    requires from { IsInRange at }
+    requires forward { IsBeyond at end }
+    requires to { IsBeyond end drawing.now.far }
+    requires inked { AreInked drawing.now at end }
+    requires known { IsKnown spans.old.rects drawing.now known.old }
+    ensures region { spans.new.rects ≡ spans.old.rects }
+    ensures cells { IsDrawnWithin drawing.now spans.old spans.new at end }
+    ensures known { IsKnown spans.old.rects drawing.now known.new }
+    ensures marks { count_by (λ c. c.dirty) spans.new.cells
+        ≡ count_by (λ c. c.dirty) spans.old.cells }
+{
+    if let Some(free) = covering(known.free, at, end) {
+        draw_rows(spans, drawing, free.span, at, end);
+        return;
+    }
+    draw_area(spans, drawing, at, end, known);
+}
+
+/// The same where they may be in several blocks. The calls within one another are as many as the blocks that lie side by
+/// side.
+fn draw_area(spans: &mut SpanBuf, drawing: &Drawing<'_>, at: Pixel, end: Pixel, known: &mut Known)
+    requires view { IsPlace drawing.now.view }
+    requires base { IsBase drawing.now.base }
+    requires far { IsInRange drawing.now.far }
+    requires from { IsInRange at }
+    requires forward { IsBeyond at end }
+    requires to { IsBeyond end drawing.now.far }
+    requires inked { AreInked drawing.now at end }
+    requires known { IsKnown spans.old.rects drawing.now known.old }
+    ensures region { spans.new.rects ≡ spans.old.rects }
+    ensures cells { IsDrawnWithin drawing.now spans.old spans.new at end }
+    ensures known { IsKnown spans.old.rects drawing.now known.new }
     ensures marks { count_by (λ c. c.dirty) spans.new.cells
         ≡ count_by (λ c. c.dirty) spans.old.cells }
 {
     let mut y = at.y;
-    let mut known = known;
     'rows: while y <= end.y {
         let from = Pixel { x: at.x, y };
-        let block = draw_block(spans, drawing, from, end, known);
-        known = block.known;
-        if block.last.x < end.x {
-            let from = Pixel {
-                x: block.last.x + 1,
-                y,
-            };
+        let last = draw_block(spans, drawing, from, end, known);
+        if last.x < end.x {
+            let from = Pixel { x: last.x + 1, y };
             let to = Pixel {
                 x: end.x,
-                y: block.last.y,
+                y: last.y,
             };
-            known = draw_area(spans, drawing, from, to, known);
+            draw_area(spans, drawing, from, to, known);
         }
-        y = block.last.y + 1;
+        y = last.y + 1;
     }
-    known
 }
 
-/// Draws on the first block of these pixels.
+/// Draws on the first block of these pixels, and gives its last one.
 fn draw_block(
     spans: &mut SpanBuf,
     drawing: &Drawing<'_>,
     at: Pixel,
     end: Pixel,
-    known: Known,
-) -> Block
+    known: &mut Known,
+) -> Pixel
     requires view { IsPlace drawing.now.view }
     requires base { IsBase drawing.now.base }
     requires far { IsInRange drawing.now.far }
     requires from { IsInRange at }
     requires forward { IsBeyond at end }
     requires to { IsBeyond end drawing.now.far }
-    requires known { IsKnown spans.old.rects drawing.now known }
-    ensures forward { IsBeyond at result.last }
-    ensures within { IsBeyond result.last end }
+    requires inked { AreInked drawing.now at end }
+    requires known { IsKnown spans.old.rects drawing.now known.old }
+    ensures forward { IsBeyond at result }
+    ensures within { IsBeyond result end }
     ensures region { spans.new.rects ≡ spans.old.rects }
-    ensures cells { IsDrawnWithin drawing.now spans.old spans.new at result.last }
-    ensures known { IsKnown spans.old.rects drawing.now result.known }
+    ensures cells { IsDrawnWithin drawing.now spans.old spans.new at result }
+    ensures known { IsKnown spans.old.rects drawing.now known.new }
     ensures marks { count_by (λ c. c.dirty) spans.new.cells
         ≡ count_by (λ c. c.dirty) spans.old.cells }
 {
-    let block = drawing.block_at(spans.region(), at, end, known);
-    if !block.drawn {
-        return block;
+    let (span, last) = drawing.block_at(spans, at, known);
+    let last = nearer(last, end);
+    if let Some(span) = span {
+        draw_rows(spans, drawing, span, at, last);
     }
-    let Some(span) = spans.span_at(at.x, at.y) else {
-        return block;
-    };
-    let last = nearer(block.last, last_of(span));
-    draw_rows(spans, drawing, span, at, last);
-    Block {
-        drawn: true,
-        last,
-        known: block.known,
-    }
-}
-
-/// The last column and the last row of a rectangle.
-fn last_of(span: Span) -> Pixel
-    ensures across { result.x ≡ span.rect.right }
-    ensures down { result.y ≡ span.rect.bottom }
-{
-    let rect = span.rect();
-    Pixel {
-        x: i32::from(rect.right),
-        y: i32::from(rect.bottom),
-    }
+    last
 }
 
 /// Draws on the pixels from one on to another, on each of which the view may draw, all in one rectangle of the region.
 fn draw_rows(spans: &mut SpanBuf, drawing: &Drawing<'_>, span: Span, at: Pixel, last: Pixel)
+    requires view { IsPlace drawing.now.view }
+    requires base { IsBase drawing.now.base }
+    requires from { IsInRange at }
+    requires forward { IsBeyond at last }
+    requires to { IsInRange last }
+    requires free { AreFree spans.old.rects drawing.now at last }
+    requires inked { AreInked drawing.now at last }
+    requires span { IsSpanOf spans.old.rects span }
+    requires within { IsInSpan span at last }
+    ensures region { spans.new.rects ≡ spans.old.rects }
+    ensures cells { IsDrawnWithin drawing.now spans.old spans.new at last }
+    ensures marks { count_by (λ c. c.dirty) spans.new.cells
+        ≡ count_by (λ c. c.dirty) spans.old.cells }
+{
+    match drawing.ink {
+        Ink::Shape(_, pattern) => draw_pattern(spans, drawing, span, pattern, at, last),
+        Ink::Text(_) | Ink::Image(_, _) => draw_each(spans, drawing, span, at, last),
+    }
+}
+
+/// The same with the colours that a pattern picks.
+fn draw_pattern(
+    spans: &mut SpanBuf,
+    drawing: &Drawing<'_>,
+    span: Span,
+    pattern: &Pattern,
+    at: Pixel,
+    last: Pixel,
+)
+    requires view { IsPlace drawing.now.view }
+    requires base { IsBase drawing.now.base }
+    requires from { IsInRange at }
+    requires forward { IsBeyond at last }
+    requires to { IsInRange last }
+    requires free { AreFree spans.old.rects drawing.now at last }
+    requires pattern { IsPatternOf drawing.now pattern.now.rows at last }
+    requires span { IsSpanOf spans.old.rects span }
+    requires within { IsInSpan span at last }
+    ensures region { spans.new.rects ≡ spans.old.rects }
+    ensures cells { IsDrawnWithin drawing.now spans.old spans.new at last }
+    ensures marks { count_by (λ c. c.dirty) spans.new.cells
+        ≡ count_by (λ c. c.dirty) spans.old.cells }
+{
+    let state = drawing.reach.states.top();
+    let window = drawing.reach.window;
+    let brush = Brush {
+        mode: state.mode,
+        high: state.high,
+        low: state.low,
+    };
+    if at.x == last.x && at.y == last.y {
+        let bit = pattern.bit(at.x - i32::from(window.x), at.y - i32::from(window.y));
+        let color = pick(state.mode, bit, state.high, state.low);
+        spans.paint_pixel(span, at.x, at.y, brush, color);
+    } else {
+        spans.paint_block(span, rect_of(at, last), brush, pattern, window);
+    }
+}
+
+/// The rectangle from one pixel to another.
+fn rect_of(at: Pixel, last: Pixel) -> Rect
+    requires from { IsInRange at }
+    requires to { IsInRange last }
+    ensures { result ≡ record { left = at.x; top = at.y; right = last.x; bottom = last.y } }
+{
+    Rect {
+        left: at.x as i16,
+        top: at.y as i16,
+        right: last.x as i16,
+        bottom: last.y as i16,
+    }
+}
+
+/// The same row by row.
+fn draw_each(spans: &mut SpanBuf, drawing: &Drawing<'_>, span: Span, at: Pixel, last: Pixel)
     requires view { IsPlace drawing.now.view }
     requires base { IsBase drawing.now.base }
     requires from { IsInRange at }

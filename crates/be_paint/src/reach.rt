@@ -1,4 +1,4 @@
-ghost use Rattle.std.specs.Prelude.{◌≡◌, ℤ, pos, negsuc, ◌+ℤ◌, ◌-ℤ◌, ◌≤ℤ◌, None, IfNone, IfSome};
+ghost use Rattle.std.specs.Prelude.{◌≡◌, ℤ, pos, negsuc, ◌+ℤ◌, ◌-ℤ◌, ◌≤ℤ◌, ◌&&◌, None, IfNone, IfSome};
 ghost use Rattle.be_geom.specs.Numbers.{is_number};
 ghost use Rattle.be_state.specs.Stacks.{allows};
 ghost use Rattle.be_views.specs.Places.{IsNear};
@@ -84,35 +84,25 @@ impl Reach<'_> {
         self.session_run(x, y, last)
     }
 
-    /// Whether the view may draw on a pixel of the screen, and a last pixel, neither right of `end` nor below it, up to
-    /// which that stays so for all pixels that are neither left of the first one nor above it.
-    pub(crate) fn block_at(
-        &self,
-        owned: &Region,
-        place: Pixel,
-        at: Pixel,
-        end: Pixel,
-    ) -> (bool, Pixel)
+    /// Whether every clip and the session hold a pixel of the screen, and a last pixel, neither right of `end` nor below
+    /// it, up to which that stays so for all pixels that are neither left of the first one nor above it.
+    pub(crate) fn open_block(&self, place: Pixel, at: Pixel, end: Pixel) -> (bool, Pixel)
         requires place { IsPlace place }
         requires from { IsInRange at }
         requires forward { IsBeyond at end }
         requires to { IsInRange end }
-        ensures answer { result.0 ≡ may_draw owned.now self.now place at.x at.y }
-        ensures block { IsPatch (may_draw owned.now self.now place) at end result.1 }
+        ensures answer { result.0 ≡ (is_allowed self.now place at.x at.y && is_open self.now at.x at.y) }
+        ensures block { IsPatch (λ x y. is_allowed self.now place x y && is_open self.now x y) at end result.1 }
     {
-        let (own, last) = self.own_block(owned, at, end);
-        if !own {
-            return (false, last);
-        }
-        let (allowed, last) = self.clip_block(place, at, last);
+        let (allowed, last) = self.clip_block(place, at, end);
         if !allowed {
             return (false, last);
         }
         self.session_block(at, last)
     }
 
-    /// The same of whether the window owns a pixel and the view is at it.
-    fn own_block(&self, owned: &Region, at: Pixel, end: Pixel) -> (bool, Pixel)
+    /// The same of whether the window owns a pixel and the view is at it. `owned` is what it owns.
+    pub(crate) fn own_block(&self, owned: &Region, at: Pixel, end: Pixel) -> (bool, Pixel)
         requires from { IsInRange at }
         requires forward { IsBeyond at end }
         requires to { IsInRange end }

@@ -5,8 +5,8 @@ use Rattle.be_paint.proofs.PaintLemmas.{frame_across, stays_out, no_row}
 use Rattle.be_paint.proofs.WithinLemmas.{all_drawn}
 use Rattle.be_paint.proofs.painting.draw.Goals as goal
 
-pub draw_area-requires-clause-far : goal.draw_area-requires-clause-far
-draw_area-requires-clause-far c =
+pub draw_within-requires-clause-far : goal.draw_within-requires-clause-far
+draw_within-requires-clause-far c =
     let f = c.args.frame in
     let ft : SFits w32 f.top = search rules in
     let gt : SFits w16 f.top = search rules in
@@ -35,8 +35,8 @@ draw_area-requires-clause-far c =
     let deep = c.requires.far.1 in
     ((omega (arith, ints), omega (arith, ints)), (omega (arith, ints), omega (arith, ints)))
 
-pub draw_area-requires-clause-from : goal.draw_area-requires-clause-from
-draw_area-requires-clause-from c =
+pub draw_within-requires-clause-from : goal.draw_within-requires-clause-from
+draw_within-requires-clause-from c =
     let f = c.args.frame in
     let ft : SFits w32 f.top = search rules in
     let gt : SFits w16 f.top = search rules in
@@ -65,8 +65,8 @@ draw_area-requires-clause-from c =
     let deep = c.requires.far.1 in
     simp to_z-of_z ((omega (arith, ints), omega (arith, ints)), (omega (arith, ints, clamps), omega (arith, ints, clamps)))
 
-pub draw_area-requires-clause-forward : goal.draw_area-requires-clause-forward
-draw_area-requires-clause-forward c =
+pub draw_within-requires-clause-forward : goal.draw_within-requires-clause-forward
+draw_within-requires-clause-forward c =
     let f = c.args.frame in
     let ft : SFits w32 f.top = search rules in
     let gt : SFits w16 f.top = search rules in
@@ -96,8 +96,8 @@ draw_area-requires-clause-forward c =
     let across = frame_across c.args.spans.now.rects f c.requires.frame in
     simp to_z-of_z (omega (arith, ints), omega (arith, ints))
 
-pub draw_area-requires-clause-to : goal.draw_area-requires-clause-to
-draw_area-requires-clause-to c =
+pub draw_within-requires-clause-to : goal.draw_within-requires-clause-to
+draw_within-requires-clause-to c =
     let f = c.args.frame in
     let ft : SFits w32 f.top = search rules in
     let gt : SFits w16 f.top = search rules in
@@ -125,36 +125,6 @@ draw_area-requires-clause-to c =
     let wide = c.requires.far.0 in
     let deep = c.requires.far.1 in
     simp to_z-of_z (omega (arith, ints), omega (arith, ints, clamps))
-
-pub draw_area-requires-clause-known : goal.draw_area-requires-clause-known
-draw_area-requires-clause-known c =
-    let f = c.args.frame in
-    let ft : SFits w32 f.top = search rules in
-    let gt : SFits w16 f.top = search rules in
-    let fl : SFits w32 f.left = search rules in
-    let gl : SFits w16 f.left = search rules in
-    let fr : SFits w32 f.right = search rules in
-    let gr : SFits w16 f.right = search rules in
-    let fb : SFits w32 f.bottom = search rules in
-    let gb : SFits w16 f.bottom = search rules in
-    let fi : SFits w32 c.in-Some.first = search rules in
-    let la : SFits w32 c.in-Some.last = search rules in
-    let left : c.from-left.result ≡ f.left = simp to_z-of_z at c.from-left.ensures in
-    let high : c.from.result ≡ f.top = simp to_z-of_z at c.from.ensures in
-    let low : c.from-2.result ≡ f.bottom = simp to_z-of_z at c.from-2.ensures in
-    let hr : SFits w32 c.from.result = search rules in
-    let lr : SFits w32 c.from-2.result = search rules in
-    let lf : SFits w32 c.from-left.result = search rules in
-    let tr : SFits w32 c.max-top.result = search rules in
-    let br : SFits w32 c.min-bottom.result = search rules in
-    let start = simp to_z-of_z at c.max-top.ensures.value in
-    let finish = simp to_z-of_z at c.min-bottom.ensures.value in
-    let right : c.from-then-top-bottom.result ≡ f.right = simp to_z-of_z at c.from-then-top-bottom.ensures in
-    let rf : SFits w32 c.from-then-top-bottom.result = search rules in
-    let test = simp to_z-of_z at c.if-top-bottom.true in
-    let wide = c.requires.far.0 in
-    let deep = c.requires.far.1 in
-    ((λ x y w. absurd (c.nothing.ensures.none x y w)), c.nothing.ensures.last c.args.drawing.now.far ((omega (arith, ints), omega (arith, ints)), (omega (arith, ints), omega (arith, ints))))
 
 pub returns-then-top-bottom-clause-painted : goal.returns-then-top-bottom-clause-painted
 returns-then-top-bottom-clause-painted c =
@@ -186,8 +156,8 @@ returns-then-top-bottom-clause-painted c =
     let deep = c.requires.far.1 in
     let old = c.args.spans.now in
     let d = c.args.drawing.now in
-    let cells = simp to_z-of_z at (rw (left, right) at c.draw_area.ensures.cells) in
-    all_drawn d old c.draw_area.new.spans record { x = f.left; y = c.max-top.result } record { x = f.right; y = c.min-bottom.result } cells
+    let cells = simp to_z-of_z at (rw (left, right) at c.draw_within.ensures.cells) in
+    all_drawn d old c.draw_within.new.spans record { x = f.left; y = c.max-top.result } record { x = f.right; y = c.min-bottom.result } cells
     (λ x y out. stays_out old.rects d f c.in-Some.first c.in-Some.last c.max-top.result c.min-bottom.result x y (cell_in old x y) c.requires.frame.holds c.in-Some.ensures (omega (arith, ints, clamps)) (omega (arith, ints, clamps)) out)
 
 pub returns-else-top-bottom-clause-painted : goal.returns-else-top-bottom-clause-painted

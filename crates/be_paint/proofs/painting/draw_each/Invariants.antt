@@ -1,7 +1,7 @@
 use Rattle.std.proofs.Common.{◌≡◌, pos, ◌+ℤ◌, ◌-ℤ◌, ◌≤ℤ◌, count_by}
 use Rattle.be_state.proofs.PartLemmas.{columns_after}
 use Rattle.be_paint.specs.Laying.{IsDrawnWithin}
-use Rattle.be_paint.proofs.painting.draw_rows.Given as goal
+use Rattle.be_paint.proofs.painting.draw_each.Given as goal
 
 abbrev pub invariant-rows : goal.invariant-rows
 invariant-rows l = record {

@@ -1,0 +1,149 @@
+-- What a pattern makes of the cells of a block, and where an ink has cells at all.
+use Rattle.std.specs.Prelude.{option_map, if◌then◌else◌}
+use Rattle.std.proofs.Common.{◌≡◌, ◌⊎◌, ◌&&◌, ℕ, ℤ, ◌+ℤ◌, ◌-ℤ◌, ◌≤ℤ◌, ◌<ℤ◌, true, false, List, Some, None, inl, inr, sym, subst, ap, ◌∙◌, arith}
+use Rattle.std.specs.Int.{int_min, int_max}
+use Rattle.std.proofs.lemmas.Int.{ints, clamps, by_lt_z}
+use Rattle.be_geom.specs.declared.rect.Rect.{Rect}
+use Rattle.be_geom.specs.Places.{at_pixel}
+use Rattle.be_geom.specs.Points.{between}
+use Rattle.be_geom.specs.Rects.{rect_has}
+use Rattle.be_geom.proofs.Between.{between_tells}
+use Rattle.be_color.specs.declared.colors.Color.{Color}
+use Rattle.be_color.specs.declared.patterns.Pattern.{Pattern}
+use Rattle.be_shape.specs.declared.Raster.{Raster}
+use Rattle.be_shape.specs.Rasters.{raster_has}
+use Rattle.be_span.specs.declared.Cell.{Cell}
+use Rattle.be_span.specs.Runs.{IsBeside}
+use Rattle.be_span.specs.Slices.{painted, pattern_color}
+use Rattle.be_span.specs.Spans.{Spans, cell_in}
+use Rattle.be_state.specs.declared.State.{State}
+use Rattle.be_paint.specs.Inks.{shape, source_at, laid_on_cell}
+use Rattle.be_paint.specs.Laying.{ink_of, source_in, drawn_cell, brush_of, across_in, down_in, AreFree, AreInked, HasNoneBeside, IsDrawnWithin, IsPatternOf, IsShapeOf, IsThere}
+use Rattle.be_paint.specs.Stretches.{IsWithin}
+use Rattle.be_paint.specs.declared.drawing.Drawing.{Drawing}
+use Rattle.be_paint.specs.declared.ink.Ink.{Ink}
+use Rattle.be_paint.specs.declared.ink.Ink.TheVariants.{Shape}
+use Rattle.be_paint.specs.declared.pixel.Pixel.{Pixel}
+use Rattle.be_paint.proofs.DrawingLemmas.{free}
+use Rattle.be_paint.proofs.InkLemmas.{shape_off}
+use Rattle.be_paint.proofs.PaintLemmas.{inside_edges, outside_edges, stays_bare}
+use Rattle.be_paint.proofs.RowLemmas.{same_map}
+use Rattle.be_paint.proofs.WithinLemmas.{none_within, row_within}
+
+-- a cell on which the view may draw, and on which the ink lays what the bit of a pattern picks
+patterned : (rects : List Rect) (d : Drawing) (rows : List ℕ) (at last : Pixel) (x y : ℤ) → AreFree rects d at last → IsPatternOf d rows at last → IsWithin at last x y → (c : Cell) → painted (brush_of d.reach.now.states.now.top.state) (pattern_color (brush_of d.reach.now.states.now.top.state) rows (x -ℤ d.reach.now.window.x) (y -ℤ d.reach.now.window.y)) c ≡ drawn_cell rects d x y c
+patterned rects d rows at last x y are pattern in_it c =
+    sym (free rects d x y c (are x y in_it) ∙ ap (laid_on_cell d.reach.now.states.now.top.state c) (pattern x y in_it))
+
+-- ---- blocks
+
+between_is : (low z high : ℤ) → low ≤ℤ z → z ≤ℤ high → between low z high ≡ true
+between_is low z high from to = grind (arith, ints, between_tells)
+
+has_within : (at last : Pixel) (x y : ℤ) → IsWithin at last x y → rect_has (record { left = at.x; top = at.y; right = last.x; bottom = last.y }) x y ≡ true
+has_within at last x y h =
+    ap (λ b. b && between at.y y last.y) (between_is at.x x last.x h.from_left h.to_right)
+    ∙ between_is at.y y last.y h.from_top h.to_bottom
+
+pub block_drawn : (d : Drawing) (s : State) (old new : Spans) (rows : List ℕ) (at last : Pixel) (r : Rect) → s ≡ d.reach.now.states.now.top.state → r ≡ record { left = at.x; top = at.y; right = last.x; bottom = last.y } → AreFree old.rects d at last → IsPatternOf d rows at last → ((x y : ℤ) → rect_has r x y ≡ true → cell_in new x y ≡ option_map (painted (brush_of s) (pattern_color (brush_of s) rows (x -ℤ d.reach.now.window.x) (y -ℤ d.reach.now.window.y))) (cell_in old x y)) → ((x y : ℤ) → rect_has r x y ≡ false → cell_in new x y ≡ cell_in old x y) → IsDrawnWithin d old new at last
+block_drawn d s old new rows at last r state is are pattern inside beside =
+    let P : State → Type 0 = λ t. (x y : ℤ) → rect_has r x y ≡ true → cell_in new x y ≡ option_map (painted (brush_of t) (pattern_color (brush_of t) rows (x -ℤ d.reach.now.window.x) (y -ℤ d.reach.now.window.y))) (cell_in old x y) in
+    let there = subst P state inside in
+    record {
+      inside = λ x y in_it.
+          there x y (ap (λ (q : Rect). rect_has q x y) is ∙ has_within at last x y in_it)
+          ∙ same_map _ (drawn_cell old.rects d x y) (patterned old.rects d rows at last x y are pattern in_it) (cell_in old x y);
+      beside = λ x y out. beside x y (outside_edges (rect_has r x y) (λ e.
+          let i = inside_edges (record { left = at.x; top = at.y; right = last.x; bottom = last.y }) x y (ap (λ (q : Rect). rect_has q x y) (sym is) ∙ e) in
+          out record { from_left = i.0.0; to_right = i.0.1; from_top = i.1.0; to_bottom = i.1.1 }));
+    }
+
+-- ---- pixels
+
+other_pixel : (x y last z w : ℤ) → last ≡ x → (w ≡ y → ⊥) ⊎ (z <ℤ x) ⊎ (last <ℤ z) → IsBeside x y 1 z w
+other_pixel x y last z w e (inl other) = inl other
+other_pixel x y last z w e (inr (inl left)) = inr (inl left)
+other_pixel x y last z w e (inr (inr right)) = inr (inr (omega (arith, ints)))
+
+pub pixel_drawn : (d : Drawing) (s : State) (old new : Spans) (rows : List ℕ) (at last : Pixel) (color : Color) → s ≡ d.reach.now.states.now.top.state → last.x ≡ at.x → last.y ≡ at.y → AreFree old.rects d at last → IsPatternOf d rows at last → color ≡ pattern_color (brush_of s) rows (at.x -ℤ d.reach.now.window.x) (at.y -ℤ d.reach.now.window.y) → cell_in new at.x at.y ≡ option_map (painted (brush_of s) color) (cell_in old at.x at.y) → ((z w : ℤ) → IsBeside at.x at.y 1 z w → cell_in new z w ≡ cell_in old z w) → IsDrawnWithin d old new at last
+pixel_drawn d s old new rows at last color state across down are pattern is here others =
+    let P : State → Type 0 = λ t. cell_in new at.x at.y ≡ option_map (painted (brush_of t) (pattern_color (brush_of t) rows (at.x -ℤ d.reach.now.window.x) (at.y -ℤ d.reach.now.window.y))) (cell_in old at.x at.y) in
+    let one = subst P state (here ∙ ap (λ (k : Color). option_map (painted (brush_of s) k) (cell_in old at.x at.y)) is) in
+    let drawn = one ∙ same_map _ (drawn_cell old.rects d at.x at.y) (patterned old.rects d rows at last at.x at.y are pattern record { from_left = omega (arith, ints); to_right = omega (arith, ints); from_top = omega (arith, ints); to_bottom = omega (arith, ints) }) (cell_in old at.x at.y) in
+    let Q : ℤ → Type 0 = λ x. cell_in new x at.y ≡ option_map (drawn_cell old.rects d x at.y) (cell_in old x at.y) in
+    row_within d old new at last down
+    (λ x from to. let only : at.x ≡ x = omega (arith, ints) in subst Q only drawn)
+    (λ z w out. others z w (other_pixel at.x at.y last.x z w across out))
+
+-- ---- shapes
+
+shape_colored : (raster : Raster) (pattern : Pattern) (s : State) (u v x y : ℤ) → raster_has raster x y ≡ true → source_at (shape raster pattern) s (at_pixel u v) (at_pixel x y) ≡ Some (pattern_color (brush_of s) pattern.rows u v)
+unfolding source_at
+shape_colored raster pattern s u v x y e = ap (λ b. if b then Some (pattern_color (brush_of s) pattern.rows u v) else None) e
+
+-- a shape lays on its pixels the colours that its pattern picks
+pub pattern_laid : (d : Drawing) (raster : Raster) (pattern : Pattern) (at last : Pixel) → d.ink.now ≡ Shape raster pattern → AreInked d at last → IsPatternOf d pattern.rows at last
+pattern_laid d raster pattern at last is inked x y in_it =
+    let left : ℤ = x -ℤ d.reach.now.window.x in
+    let top : ℤ = y -ℤ d.reach.now.window.y in
+    let s = d.reach.now.states.now.top.state in
+    let across : ℤ = left -ℤ d.view.x -ℤ d.base.x in
+    let down : ℤ = top -ℤ d.view.y -ℤ d.base.y in
+    let P : Ink → Type 0 = λ i. IsThere (ink_of i) across down in
+    let there : raster_has raster across down ≡ true = subst P is (inked x y in_it) in
+    ap (λ (i : Ink). source_at (ink_of i) s (at_pixel left top) (at_pixel across down)) is
+    ∙ shape_colored raster pattern s left top across down there
+
+-- and nothing on the others
+pub shape_drawn : (d : Drawing) (raster : Raster) (pattern : Pattern) → d.ink.now ≡ Shape raster pattern → IsShapeOf raster d
+shape_drawn d raster pattern is =
+    let s = d.reach.now.states.now.top.state in
+    record {
+      none = λ x y e.
+          let left : ℤ = x -ℤ d.reach.now.window.x in
+          let top : ℤ = y -ℤ d.reach.now.window.y in
+          let across : ℤ = left -ℤ d.view.x -ℤ d.base.x in
+          let down : ℤ = top -ℤ d.view.y -ℤ d.base.y in
+          ap (λ (i : Ink). source_at (ink_of i) s (at_pixel left top) (at_pixel across down)) is
+          ∙ shape_off raster pattern s left top across down e;
+      there = λ x y e.
+          let P : Ink → Type 0 = λ i. IsThere (ink_of i) (across_in d x) (down_in d y) in
+          subst P (sym is) e;
+    }
+
+-- ---- columns
+
+moved_columns : (first last left at x place : ℤ) → left ≡ place → at ≡ x -ℤ place → (x <ℤ (first +ℤ left)) ⊎ ((last +ℤ left) <ℤ x) → (at <ℤ first) ⊎ (last <ℤ at)
+moved_columns first last left at x place e f (inl before) = inl (omega (arith, ints))
+moved_columns first last left at x place e f (inr behind) = inr (omega (arith, ints))
+
+-- outside the columns of the ink, moved to the screen, it lays nothing
+nothing_beside : (d : Drawing) (x y first last left : ℤ) → HasNoneBeside (ink_of d.ink.now) d.reach.now.states.now.top.state first last → left ≡ d.reach.now.window.x +ℤ d.view.x +ℤ d.base.x → (x <ℤ (first +ℤ left)) ⊎ ((last +ℤ left) <ℤ x) → source_in d x y ≡ None
+nothing_beside d x y first last left h e out =
+    let across : ℤ = x -ℤ d.reach.now.window.x in
+    let top : ℤ = y -ℤ d.reach.now.window.y in
+    let at : ℤ = across -ℤ d.view.x -ℤ d.base.x in
+    h across top at (top -ℤ d.view.y -ℤ d.base.y) (moved_columns first last left at x (d.reach.now.window.x +ℤ d.view.x +ℤ d.base.x) e (omega (arith, ints)) out)
+
+-- the columns that the ink may have are drawn: so all are
+pub columns_drawn : (d : Drawing) (old new : Spans) (at end : Pixel) (a b left first last : ℤ) → HasNoneBeside (ink_of d.ink.now) d.reach.now.states.now.top.state a b → left ≡ d.reach.now.window.x +ℤ d.view.x +ℤ d.base.x → first ≡ int_max at.x (a +ℤ left) → last ≡ int_min end.x (b +ℤ left) → IsDrawnWithin d old new (record { x = first; y = at.y }) (record { x = last; y = end.y }) → IsDrawnWithin d old new at end
+columns_drawn d old new at end a b left first last none e f l done = record {
+  inside = λ x y h.
+      let i = h.from_left in
+      let j = h.to_right in
+      by_lt_z x first
+      (λ before. done.beside x y (λ w. let r = w.from_left in absurd (omega (arith, ints))) ∙ stays_bare old.rects d x y (cell_in old x y) (nothing_beside d x y a b left none e (inl (omega (arith, ints, clamps)))))
+      (λ from. by_lt_z last x
+      (λ behind. done.beside x y (λ w. let r = w.to_right in absurd (omega (arith, ints))) ∙ stays_bare old.rects d x y (cell_in old x y) (nothing_beside d x y a b left none e (inr (omega (arith, ints, clamps)))))
+      (λ to. done.inside x y record { from_left = from; to_right = to; from_top = h.from_top; to_bottom = h.to_bottom }));
+  beside = λ x y out. done.beside x y (λ w.
+      let i = w.from_left in
+      let j = w.to_right in
+      out record { from_left = omega (arith, ints, clamps); to_right = omega (arith, ints, clamps); from_top = w.from_top; to_bottom = w.to_bottom });
+}
+
+-- where there are none of them all pixels stay
+pub columns_none : (d : Drawing) (old : Spans) (at end : Pixel) (a b left first last : ℤ) → HasNoneBeside (ink_of d.ink.now) d.reach.now.states.now.top.state a b → left ≡ d.reach.now.window.x +ℤ d.view.x +ℤ d.base.x → first ≡ int_max at.x (a +ℤ left) → last ≡ int_min end.x (b +ℤ left) → last <ℤ first → IsDrawnWithin d old old at end
+columns_none d old at end a b left first last none e f l less =
+    columns_drawn d old old at end a b left first last none e f l
+    (none_within d old (record { x = first; y = at.y }) (record { x = last; y = end.y }) (λ x y w. let i = w.from_left in let j = w.to_right in absurd (omega (arith, ints))))
