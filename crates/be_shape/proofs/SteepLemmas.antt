@@ -1,9 +1,9 @@
 -- A line that goes at least as far down or up as across has one point in each of its rows.
-use Rattle.std.proofs.Common.{◌≡◌, ℕ, ℤ, pos, false, ◌≤◌, ◌-ℤ◌, ◌≤ℤ◌, ◌<ℤ◌, unsigned_abs, refl, ◌∙◌, arith}
+use Rattle.std.proofs.Common.{◌≡◌, ℕ, ℤ, pos, false, ◌≤◌, ◌-ℤ◌, ◌≤ℤ◌, ◌<ℤ◌, unsigned_abs, refl, sym, ◌∙◌, arith}
 use Rattle.std.proofs.lemmas.Int.{ints, clamps}
 use Rattle.be_geom.specs.declared.point.Point.{Point}
 use Rattle.be_geom.specs.Points.{between}
-use Rattle.be_shape.specs.Rasters.{share, steps_of, line_at, line_has}
+use Rattle.be_shape.specs.Rasters.{share, steps_of, line_at, line_has, IsSteep}
 use Rattle.be_shape.specs.Rows.{swept_has}
 use Rattle.be_shape.specs.Lines.{ArePointsWithin}
 use Rattle.be_shape.proofs.ShareLemmas.{share_along}
@@ -11,9 +11,6 @@ use Rattle.be_shape.proofs.BetweenLemmas.{is_between, not_below, not_above, same
 use Rattle.be_shape.proofs.WayLemmas.{covers_up, covers_down}
 use Rattle.be_shape.proofs.PointLemmas.{none_before, none_behind}
 use Rattle.be_shape.proofs.LineLemmas.{CoversBetween, span_of_line, none_of_line}
-
-abbrev pub IsSteep : Point → Point → Type 0
-IsSteep from to = unsigned_abs (to.x -ℤ from.x) ≤ unsigned_abs (to.y -ℤ from.y)
 
 steep_steps : (from to : Point) → IsSteep from to → unsigned_abs (to.y -ℤ from.y) ≡ steps_of from to
 steep_steps from to steep = omega arith
@@ -58,10 +55,10 @@ point_of_row from to y way n i a b first last x steep n_is covers h e first_is l
     let at : a ≡ line_at i n from.x to.x = is ∙ point ∙ same_line i n first last from.x to.x first_is last_is in
     span_of_line from to 1 y n n way way i i a a (λ z. between a z a) (n_is ∙ steep_steps from to steep) n_is covers (one_point n i way h e) at at (thin_swept a) x
 
-pub none_above : (from to : Point) (y way : ℤ) (n : ℕ) → IsSteep from to → n ≡ unsigned_abs (to.y -ℤ from.y) → CoversBetween from to 1 y way way → way <ℤ pos 0 → (x : ℤ) → false ≡ line_has from to 1 x y
-none_above from to y way n steep n_is covers h =
-    none_of_line from to 1 y n n way way (n_is ∙ steep_steps from to steep) n_is covers (none_before n n way way h)
+pub none_above : (from to : Point) (y way : ℤ) (n : ℕ) → IsSteep from to → n ≡ unsigned_abs (to.y -ℤ from.y) → CoversBetween from to 1 y way way → way <ℤ pos 0 → (x : ℤ) → line_has from to 1 x y ≡ false
+none_above from to y way n steep n_is covers h x =
+    sym (none_of_line from to 1 y n n way way (n_is ∙ steep_steps from to steep) n_is covers (none_before n n way way h) x)
 
-pub none_below : (from to : Point) (y way : ℤ) (n : ℕ) → IsSteep from to → n ≡ unsigned_abs (to.y -ℤ from.y) → CoversBetween from to 1 y way way → pos n <ℤ way → (x : ℤ) → false ≡ line_has from to 1 x y
-none_below from to y way n steep n_is covers h =
-    none_of_line from to 1 y n n way way (n_is ∙ steep_steps from to steep) n_is covers (none_behind n n way way (omega arith) h)
+pub none_below : (from to : Point) (y way : ℤ) (n : ℕ) → IsSteep from to → n ≡ unsigned_abs (to.y -ℤ from.y) → CoversBetween from to 1 y way way → pos n <ℤ way → (x : ℤ) → line_has from to 1 x y ≡ false
+none_below from to y way n steep n_is covers h x =
+    sym (none_of_line from to 1 y n n way way (n_is ∙ steep_steps from to steep) n_is covers (none_behind n n way way (omega arith) h) x)

@@ -1,12 +1,14 @@
-ghost use Rattle.std.specs.Prelude.{◌≡◌, ℕ, ℤ, pos, ◌≤◌, ◌+ℤ◌, ◌-ℤ◌, ◌*ℤ◌, ◌≤ℤ◌, unsigned_abs, true, ◌↔◌};
+ghost use Rattle.std.specs.Prelude.{◌≡◌, ℕ, ℤ, pos, ◌≤◌, ◌+ℤ◌, ◌-ℤ◌, ◌*ℤ◌, ◌≤ℤ◌, unsigned_abs};
+ghost use Rattle.std.specs.Prelude.{true, ◌↔◌};
 ghost use Rattle.std.specs.Int.{int_signum};
 ghost use Rattle.be_geom.specs.Points.{between};
-ghost use Rattle.be_shape.specs.Rasters.{pen_covers, steps_of, line_at, line_has};
+ghost use Rattle.be_shape.specs.Rasters.{pen_covers, steps_of, line_at, line_has, IsSteep};
 ghost use Rattle.be_shape.specs.Rows.{IsSpan, IsRow, span_has, row_has, swept_has};
 
 use crate::pen::PenSize;
 use crate::row::{Row, Span};
 use crate::share::{points_within, share};
+use crate::steep::Steep;
 use be_geom::Point;
 
 /// The columns of a row that a line has.
@@ -15,7 +17,10 @@ pub(crate) fn row_of(from: Point, to: Point, pen: PenSize, y: i32) -> Row
     ensures pixels { (x : ℤ) → row_has result x ≡ line_has from to pen x y }
 {
     if pen.pixels() == 1 && is_steep(from, to) {
-        return steep_row(from, to, y);
+        return match (Steep { from, to }).column(y) {
+            Some(x) => Row::One(Span { first: x, last: x }),
+            None => Row::Empty,
+        };
     }
     let steps = steps_of(from, to);
     let (nearest, farthest) = reach(pen, from.y, to.y, y);
@@ -30,29 +35,10 @@ pub(crate) fn row_of(from: Point, to: Point, pen: PenSize, y: i32) -> Row
 }
 
 /// Whether a line goes at least as far down or up as across.
-fn is_steep(from: Point, to: Point) -> bool
-    ensures { (result ≡ true) ↔ (unsigned_abs (to.x -ℤ from.x) ≤ unsigned_abs (to.y -ℤ from.y)) }
+pub(crate) fn is_steep(from: Point, to: Point) -> bool
+    ensures { (result ≡ true) ↔ IsSteep from to }
 {
     to.x.abs_diff(from.x) <= to.y.abs_diff(from.y)
-}
-
-/// The same of a steep line and a pen of one pixel: each row has one point.
-fn steep_row(from: Point, to: Point, y: i32) -> Row
-    requires steep { unsigned_abs (to.x -ℤ from.x) ≤ unsigned_abs (to.y -ℤ from.y) }
-    ensures sound { IsRow result }
-    ensures pixels { (x : ℤ) → row_has result x ≡ line_has from to 1 x y }
-{
-    let steps = u64::from(to.y.abs_diff(from.y));
-    let way = if from.y <= to.y {
-        i64::from(y) - i64::from(from.y)
-    } else {
-        i64::from(from.y) - i64::from(y)
-    };
-    if way < 0 || (steps as i64) < way {
-        return Row::Empty;
-    }
-    let x = i32::from(point_at(way as u64, steps, from.x, to.x));
-    Row::One(Span { first: x, last: x })
 }
 
 /// The rows of a line.
@@ -72,7 +58,7 @@ fn steps_of(from: Point, to: Point) -> u64
 }
 
 /// A coordinate of point `i` of a line.
-fn point_at(i: u64, steps: u64, from: i16, to: i16) -> i16
+pub(crate) fn point_at(i: u64, steps: u64, from: i16, to: i16) -> i16
     requires of_steps { i ≤ steps }
     requires few { steps ≤ 65535 }
     requires near { unsigned_abs (to -ℤ from) ≤ steps }

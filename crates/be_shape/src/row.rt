@@ -1,8 +1,8 @@
 ghost use Rattle.std.specs.Prelude.{◌≡◌, ℤ, ◌<ℤ◌, ◌≤ℤ◌, false, IfSome, IfNone};
 ghost use Rattle.be_geom.specs.Rects.{rect_has};
 ghost use Rattle.be_shape.specs.Rasters.{is_not_empty};
-ghost use Rattle.be_shape.specs.Rows.{span_has, row_has, IsSpan, IsRow, IsCut, IsNextSpan, NoneFrom};
-ghost use Rattle.be_shape.specs.Rows.{AreEdges};
+ghost use Rattle.be_shape.specs.Rows.{span_has, row_has, IsSpan, IsRow, IsCut, IsNextSpan};
+ghost use Rattle.be_shape.specs.Rows.{NoneFrom, AreEdges};
 
 use be_geom::Rect;
 

@@ -2,8 +2,8 @@ ghost use Rattle.std.specs.Prelude.{◌≡◌, ◌≤◌, ◌≤ℤ◌, ◌↔�
 ghost use Rattle.be_shape.specs.Rasters.{share};
 ghost use Rattle.be_shape.specs.Lines.{ArePointsWithin, HasNoPointWithin};
 
-/// How far point `i` of a line of so many steps is along a distance, rounded to the nearest. Along the
-/// longer way that is `i`.
+/// How far point `i` of a line of so many steps is along a distance, rounded to the nearest. Along
+/// the longer way that is `i`.
 pub(crate) fn share(i: u64, steps: u64, distance: u64) -> u64
     requires of_steps { i ≤ steps }
     requires few { steps ≤ 65535 }
