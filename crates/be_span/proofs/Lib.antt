@@ -8,4 +8,5 @@ pub mod MarkLemmas
 pub mod GatherLemmas
 pub mod ExposeLemmas
 pub mod CopyLemmas
+pub mod MaskLemmas
 pub mod BlockLemmas

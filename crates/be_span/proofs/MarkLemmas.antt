@@ -1,15 +1,17 @@
 -- Which cells are dirty, and how many.
-use Rattle.std.proofs.Common.{◌≡◌, ℕ, zero, suc, ◌<◌, ℤ, pos, ◌+ℤ◌, ◌↔◌, IsTrue, eqb, Bool, true, false, cond, List, [], ◌∷◌, length, map, slice_get, count_by, Option, Some, None, refl, sym, ap, ◌∙◌, arith}
+use Rattle.std.proofs.Common.{◌≡◌, ℕ, zero, suc, ◌<◌, ℤ, pos, ◌+ℤ◌, ◌↔◌, IsTrue, eqb, Bool, true, false, cond, List, [], ◌∷◌, length, map, slice_get, get_or, count_by, Option, Some, None, refl, sym, ap, ◌∙◌, arith}
 use Rattle.std.specs.Prelude.{option_and_then}
 use Rattle.std.proofs.lemmas.List.Sums.{sum_by-cons}
 use Rattle.std.specs.Option.{option_map}
-use Rattle.std.proofs.lemmas.Option.{slice_get-map}
+use Rattle.std.proofs.lemmas.Option.{slice_get-map, slice_get-get_or}
 use Rattle.std.proofs.lemmas.Bool.{eqb-true, eq-eqb}
 use Rattle.be_geom.specs.declared.rect.Rect.{Rect}
+use Rattle.be_color.specs.declared.colors.Rgb.{Rgb}
 use Rattle.be_region.specs.Bands.{AreBands}
 use Rattle.be_span.specs.declared.Cell.{Cell}
 use Rattle.be_span.specs.Cells.{unmarked}
-use Rattle.be_span.specs.Spans.{Spans, pixels_of, place_of, cell_in, is_dirty}
+use Rattle.be_span.specs.Slices.{recolored}
+use Rattle.be_span.specs.Spans.{Spans, pixels_of, place_of, cell_in, clean_cell, is_dirty}
 use Rattle.be_span.proofs.PlaceLemmas.{pixel_of}
 use Rattle.be_span.proofs.CellLemmas.{spans}
 
@@ -28,6 +30,19 @@ slice_clean : (cells : List Cell) (n : ℕ) → count_by (λ c. c.dirty) cells �
 slice_clean [] n e = refl
 slice_clean (c ∷ cells) zero e = no_mark c.dirty (let sum = sum_by-cons mark_of c cells in omega arith)
 slice_clean (c ∷ cells) (suc n) e = slice_clean cells n (let sum = sum_by-cons mark_of c cells in omega arith)
+
+-- a cell of which it is known that it isn't dirty, with another colour
+pub recolored_clean : (rgb : Rgb) (cells : List Cell) (n : ℕ) → count_by (λ c. c.dirty) cells ≡ 0 → n < length cells → option_map (recolored rgb) (slice_get cells n) ≡ Some (clean_cell rgb)
+recolored_clean rgb [] n e less = absurd (omega arith)
+recolored_clean rgb (c ∷ cells) zero e less =
+    ap (λ b. let d : Cell = record { rgb = rgb; dirty = b } in Some d) (no_mark c.dirty (let sum = sum_by-cons mark_of c cells in omega arith))
+recolored_clean rgb (c ∷ cells) (suc n) e less =
+    recolored_clean rgb cells n (let sum = sum_by-cons mark_of c cells in omega arith) (omega arith)
+
+-- and one of a list in which it is as it was
+pub filled_clean : (rgb : Rgb) (old new : List Cell) (n : ℕ) (d : Cell) → count_by (λ c. c.dirty) old ≡ 0 → n < length new → slice_get new n ≡ slice_get old n → clean_cell rgb ≡ recolored rgb (get_or new n d)
+filled_clean rgb old new n d clean less same =
+    ap (λ b. let c : Cell = record { rgb = rgb; dirty = b } in c) (sym (ap is_dirty (sym (slice_get-get_or new n d less) ∙ same) ∙ slice_clean old n clean))
 
 -- and where no cell is, none is
 pub all_clean : (cells : List Cell) → ((k : ℕ) → k < length cells → is_dirty (slice_get cells k) ≡ false) → count_by (λ c. c.dirty) cells ≡ 0

@@ -1,5 +1,5 @@
 -- Cells side by side, painted.
-use Rattle.std.proofs.Common.{◌≡◌, ℕ, zero, suc, ◌+◌, ◌-◌, ◌*◌, ◌%◌, ◌<◌, ◌≤◌, ℤ, pos, negsuc, ◌+ℤ◌, ◌≤ℤ◌, Bool, true, false, eqb, inl, inr, List, [], ◌∷◌, ◌++◌, length, get_or, set, take, drop, map, slice_get, count_by, Some, refl, sym, ap, ◌∙◌, arith, cond, below_more}
+use Rattle.std.proofs.Common.{◌≡◌, ℕ, zero, suc, ◌+◌, ◌-◌, ◌*◌, ◌%◌, ◌<◌, ◌≤◌, ℤ, pos, negsuc, ◌+ℤ◌, ◌≤ℤ◌, Bool, true, false, eqb, inl, inr, List, [], ◌∷◌, ◌++◌, length, get_or, set, take, drop, map, slice_get, count_by, Option, Some, None, refl, sym, ap, ◌∙◌, arith, cond, below_more}
 use Rattle.std.specs.Prelude.{unsigned_abs}
 use Rattle.std.specs.Option.{option_map}
 use Rattle.std.specs.Int.{bit_at}
@@ -55,6 +55,22 @@ module _ {X : Type 0} where
         | inl h ↦ so_far.done k h
         | inr h ↦ let past = slice_get_past old k (omega arith) in so_far.rest k h ∙ past ∙ sym (ap (option_map (f k)) past)
       ]
+
+  stays : (g : X → X) (o : Option X) → ((x : X) → g x ≡ x) → o ≡ option_map g o
+  stays g None h = refl
+  stays g (Some x) h = ap Some (sym (h x))
+
+  -- the elements from a place up to another stay
+  pub done_skip : (f : ℕ → X → X) (old new : List X) (i j : ℕ) → ((k : ℕ) (x : X) → i ≤ k → k < j → f k x ≡ x) → i ≤ j → IsDoneTo f old new i → IsDoneTo f old new j
+  done_skip f old new i j same order so_far = record {
+    done = λ k h. elim (cases_lt k i) [ inl less ↦ so_far.done k less | inr from ↦ so_far.rest k from ∙ stays (f k) (slice_get old k) (λ x. same k x from h) ];
+    rest = λ k h. so_far.rest k (omega arith);
+  }
+
+  -- all elements from a place on stay
+  pub done_rest : (f : ℕ → X → X) (old new : List X) (i k : ℕ) → ((x : X) → i ≤ k → f k x ≡ x) → IsDoneTo f old new i → slice_get new k ≡ option_map (f k) (slice_get old k)
+  done_rest f old new i k same so_far =
+      elim (cases_lt k i) [ inl less ↦ so_far.done k less | inr from ↦ so_far.rest k from ∙ stays (f k) (slice_get old k) (λ x. same x from) ]
 
 -- ---- marks
 

@@ -1,8 +1,10 @@
 -- What painting makes of cells side by side (the rules of colours are those of single pixels).
-use Rattle.std.specs.Prelude.{ℕ, ℤ, pos, ◌+ℤ◌, ◌-◌, ◌%◌, ◌==◌, Bool, ◌&&◌, nat_lt, if◌then◌else◌, List, Option, Some, None, slice_get}
+use Rattle.std.specs.Prelude.{ℕ, ℤ, pos, negsuc, ◌+ℤ◌, ◌-◌, ◌%◌, ◌==◌, Bool, ◌&&◌, nat_lt, if◌then◌else◌, List, Option, Some, None, slice_get, slice_index}
 use Rattle.std.specs.Int.{bit_at}
 use Rattle.be_color.specs.declared.colors.Color.{Color}
 use Rattle.be_color.specs.declared.colors.Color.TheVariants.{Clear}
+use Rattle.be_color.specs.declared.colors.Rgb.{Rgb}
+use Rattle.be_color.specs.declared.modes.Mode.TheVariants.{Copy}
 use Rattle.be_color.specs.Pattern.{place_in_pattern, pattern_bit}
 use Rattle.be_color.specs.Pixel.{picked, blended}
 use Rattle.be_span.specs.declared.Cell.{Cell}
@@ -34,9 +36,23 @@ source_at brush (Mask bits color) k = if mask_bit bits k then color else Clear
 abbrev pub pattern_color : Brush → List ℕ → ℤ → ℤ → Color
 pattern_color brush rows x y = picked brush.mode (pattern_bit rows x y) brush.high brush.low
 
+-- the colour with which masks, one a row, paint a pixel at a column and a row, counted from the first
+abbrev pub masked_color : List ℕ → Color → ℤ → ℤ → Color
+masked_color masks color (pos column) (pos row) = if mask_bit (slice_index masks row) column then color else Clear
+masked_color masks color (pos column) (negsuc row) = Clear
+masked_color masks color (negsuc column) row = Clear
+
 -- a cell on which a colour was painted; its mark stays
 abbrev pub painted : Brush → Color → Cell → Cell
 painted brush source c = record { rgb = blended brush.mode source c.rgb brush.high brush.low; dirty = c.dirty }
+
+-- with it a cell gets a colour whatever it had
+abbrev pub plain : Brush
+plain = record { mode = Copy; high = Clear; low = Clear }
+
+-- a cell with another colour; its mark stays
+abbrev pub recolored : Rgb → Cell → Cell
+recolored rgb c = record { rgb = rgb; dirty = c.dirty }
 
 -- a cell painted by the bit at a place of the byte, counted from the left and again from the left behind the eighth
 abbrev pub painted_by_bit : Brush → ℕ → ℕ → Cell → Cell

@@ -5,7 +5,7 @@ ghost use Rattle.be_color.specs.Pattern.{pattern_bit, place_in_pattern};
 ghost use Rattle.be_color.specs.declared.colors.Color.TheVariants.{Solid};
 ghost use Rattle.be_span.specs.Spans.{cell_in};
 ghost use Rattle.be_span.specs.Runs.{IsInside, IsSpanOf};
-ghost use Rattle.be_span.specs.Slices.{painted, pattern_color};
+ghost use Rattle.be_span.specs.Slices.{painted, pattern_color, recolored};
 
 use crate::brush::{Brush, Source};
 use crate::buffer::SpanBuf;
@@ -45,8 +45,7 @@ pub(crate) fn paint_alike(spans: &mut SpanBuf, span: Span, rect: Rect, brush: Br
     };
     let Brush { mode, high, low } = brush;
     match mode {
-        Mode::Copy => alike_rows(spans, span, rect, Mode::Copy, source, high, low),
-        Mode::Over => alike_rows(spans, span, rect, Mode::Over, source, high, low),
+        Mode::Copy | Mode::Over => recolor(spans, span, rect, source),
         Mode::Erase => alike_rows(spans, span, rect, Mode::Erase, source, high, low),
         Mode::Invert => alike_rows(spans, span, rect, Mode::Invert, source, high, low),
         Mode::Add => alike_rows(spans, span, rect, Mode::Add, source, high, low),
@@ -58,7 +57,60 @@ pub(crate) fn paint_alike(spans: &mut SpanBuf, span: Span, rect: Rect, brush: Br
     }
 }
 
-/// The same in a mode. Each caller has a loop of its own, for its mode.
+/// Gives the pixels of a rectangle, all of them in this span, a colour, whatever they had. Their marks
+/// stay.
+pub(crate) fn recolor(spans: &mut SpanBuf, span: Span, rect: Rect, rgb: Rgb)
+    requires span { IsSpanOf spans.old.rects span }
+    requires inside { IsInside rect span.rect }
+    ensures region { spans.new.rects ≡ spans.old.rects }
+    ensures painted { (x y : ℤ) → rect_has rect x y ≡ true → cell_in spans.new x y
+        ≡ option_map (recolored rgb) (cell_in spans.old x y) }
+    ensures others { (x y : ℤ) → rect_has rect x y ≡ false
+        → cell_in spans.new x y ≡ cell_in spans.old x y }
+    ensures marks { count_by (λ c. c.dirty) spans.new.cells
+        ≡ count_by (λ c. c.dirty) spans.old.cells }
+{
+    if spans.is_clean() {
+        plain_rows(spans, span, rect, rgb);
+    } else {
+        alike_rows(
+            spans,
+            span,
+            rect,
+            Mode::Copy,
+            rgb,
+            Color::Clear,
+            Color::Clear,
+        );
+    }
+}
+
+/// Paints the pixels of a rectangle, all of them in this span, with the same colour as it is, where
+/// no pixel is dirty.
+fn plain_rows(spans: &mut SpanBuf, span: Span, rect: Rect, source: Rgb)
+    requires span { IsSpanOf spans.old.rects span }
+    requires inside { IsInside rect span.rect }
+    requires clean { count_by (λ c. c.dirty) spans.old.cells ≡ 0 }
+    ensures region { spans.new.rects ≡ spans.old.rects }
+    ensures painted { (x y : ℤ) → rect_has rect x y ≡ true → cell_in spans.new x y
+        ≡ option_map (recolored source) (cell_in spans.old x y) }
+    ensures others { (x y : ℤ) → rect_has rect x y ≡ false
+        → cell_in spans.new x y ≡ cell_in spans.old x y }
+    ensures marks { count_by (λ c. c.dirty) spans.new.cells
+        ≡ count_by (λ c. c.dirty) spans.old.cells }
+{
+    let left = i32::from(rect.left);
+    let top = i32::from(rect.top);
+    let bottom = i32::from(rect.bottom);
+    let count = width_of(rect);
+    let mut y = top;
+    'rows: while y <= bottom {
+        spans.fill_clean(span, left, y, count, source);
+        y += 1;
+    }
+}
+
+/// The same as `paint_alike` in a mode. Each caller has a loop of its own, for its mode.
 #[inline(always)]
 fn alike_rows(
     spans: &mut SpanBuf,

@@ -6,18 +6,19 @@ ghost use Rattle.be_region.specs.Bands.{AreBands};
 ghost use Rattle.be_span.specs.Cells.{unmarked, exposed_cell, colored_as};
 ghost use Rattle.be_span.specs.Spans.{cell_in, is_dirty, black_cell, clean_cell, pixels_of};
 ghost use Rattle.be_span.specs.Runs.{AreRows, HasRun, IsBeside, IsInside, IsSpanOf};
-ghost use Rattle.be_span.specs.Slices.{source_at, painted, pattern_color};
-ghost use Rattle.be_color.specs.declared.colors.Color.TheVariants.{Solid};
+ghost use Rattle.be_span.specs.Slices.{source_at, mask_bit, masked_color, painted, pattern_color, plain, recolored};
+ghost use Rattle.be_color.specs.declared.colors.Color.TheVariants.{Solid, Clear};
 
 use crate::brush::{Brush, Source};
 use crate::copy::copy_part;
 use crate::expose::expose_part;
 use crate::places::{cell_at, run_from, span_from, starts_of};
 use crate::rows::{
-    dirty_among, dirty_of, overwrite, paint_cell, paint_part, paint_same_part, unmark_all,
+    dirty_among, dirty_of, fill_marked_part, fill_part, overwrite, paint_cell, paint_marked_part,
+    paint_part, paint_same_part, unmark_all,
 };
 use crate::span::Span;
-use crate::{Cell, block};
+use crate::{Cell, block, masks};
 use be_color::{Color, Pattern, Rgb, pick};
 use be_geom::{NoMemory, Point, Rect};
 use be_region::Region;
@@ -243,6 +244,7 @@ impl SpanBuf {
 
     /// Paints the `count` pixels from (x, y) on to the right, all of them in this span. Their marks
     /// stay. It takes no search.
+    #[inline(always)]
     pub fn paint_in(
         &mut self,
         span: Span,
@@ -273,7 +275,8 @@ impl SpanBuf {
 
     /// Paints the pixels of a rectangle, all of them in this span, each with the colour that its bit
     /// of the pattern picks. The pattern is laid over the screen from `origin` on. Their marks stay.
-    /// It takes no search, and where the pattern is of one colour, one choice of the mode.
+    /// It takes no search, and where the pattern is of one colour, one choice of the mode. Where that
+    /// colour takes the place of each pixel's and no pixel is dirty, a cell is read only in a row of one alone.
     pub fn paint_block(
         &mut self,
         span: Span,
@@ -301,6 +304,42 @@ impl SpanBuf {
             }
             None => block::paint_rows(self, span, rect, brush, pattern, origin),
         }
+    }
+
+    /// Gives the pixels of a rectangle, all of them in this span, a colour, whatever they had. Their
+    /// marks stay. It takes no search, and where no pixel is dirty a cell is read only in a row of one alone.
+    pub fn recolor_block(&mut self, span: Span, rect: Rect, rgb: Rgb)
+        requires span { IsSpanOf self.old.rects span }
+        requires inside { IsInside rect span.rect }
+        ensures region { self.new.rects ≡ self.old.rects }
+        ensures painted { (x y : ℤ) → rect_has rect x y ≡ true → cell_in self.new x y
+            ≡ option_map (recolored rgb) (cell_in self.old x y) }
+        ensures others { (x y : ℤ) → rect_has rect x y ≡ false
+            → cell_in self.new x y ≡ cell_in self.old x y }
+        ensures marks { count_by (λ c. c.dirty) self.new.cells
+            ≡ count_by (λ c. c.dirty) self.old.cells }
+    {
+        block::recolor(self, span, rect, rgb);
+    }
+
+    /// Paints those pixels of a rectangle, all of them in this span, whose bit of their row's mask is
+    /// set, with the same colour. The highest bit is the leftmost column's, and columns behind the 64th
+    /// have none. Their marks stay. It takes no search, one choice of the mode, and a few steps for
+    /// each row and each set bit. In Copy and in Over no cell is read where no pixel is dirty.
+    pub fn paint_masks(&mut self, span: Span, rect: Rect, brush: Brush, color: Color, masks: &[u64])
+        requires span { IsSpanOf self.old.rects span }
+        requires inside { IsInside rect span.rect }
+        requires rows { pos (length masks.now) ≡ rect.bottom -ℤ rect.top +ℤ pos 1 }
+        ensures region { self.new.rects ≡ self.old.rects }
+        ensures painted { (x y : ℤ) → rect_has rect x y ≡ true → cell_in self.new x y
+            ≡ option_map (painted brush
+            (masked_color masks.now color (x -ℤ rect.left) (y -ℤ rect.top))) (cell_in self.old x y) }
+        ensures others { (x y : ℤ) → rect_has rect x y ≡ false
+            → cell_in self.new x y ≡ cell_in self.old x y }
+        ensures marks { count_by (λ c. c.dirty) self.new.cells
+            ≡ count_by (λ c. c.dirty) self.old.cells }
+    {
+        masks::paint_marked_rows(self, span, rect, brush, color, masks);
     }
 
     /// Paints the `count` pixels from (x, y) on to the right, all of them in this span, with the same
@@ -331,6 +370,93 @@ impl SpanBuf {
         let cells = &mut self.cells;
         let first = cell_at(span.rect, span.start, x, y);
         paint_same_part(cells, first, count, brush, source);
+    }
+
+    /// Gives the `count` pixels from (x, y) on to the right, all of them in this span, a colour, where no
+    /// pixel is dirty. A cell is read only where there is one alone.
+    #[inline(always)]
+    pub(crate) fn fill_clean(&mut self, span: Span, x: i32, y: i32, count: usize, rgb: Rgb)
+        requires span { IsSpanOf self.old.rects span }
+        requires left { span.rect.left ≤ℤ x }
+        requires right { (x +ℤ pos count) ≤ℤ (span.rect.right +ℤ pos 1) }
+        requires top { span.rect.top ≤ℤ y }
+        requires bottom { y ≤ℤ span.rect.bottom }
+        requires clean { count_by (λ c. c.dirty) self.old.cells ≡ 0 }
+        ensures region { self.new.rects ≡ self.old.rects }
+        ensures painted { (k : ℕ) → k < count → cell_in self.new (x +ℤ pos k) y
+            ≡ option_map (recolored rgb) (cell_in self.old (x +ℤ pos k) y) }
+        ensures others { (z w : ℤ) → IsBeside x y count z w
+            → cell_in self.new z w ≡ cell_in self.old z w }
+        ensures marks { count_by (λ c. c.dirty) self.new.cells
+            ≡ count_by (λ c. c.dirty) self.old.cells }
+    {
+        let cells = &mut self.cells;
+        let first = cell_at(span.rect, span.start, x, y);
+        fill_part(cells, first, count, rgb);
+    }
+
+    /// Paints those of the `count` pixels from (x, y) on to the right, all of them in this span, whose
+    /// bit of the mask is set. Each caller has a loop of its own, for its mode.
+    #[inline(always)]
+    pub(crate) fn paint_marked(
+        &mut self,
+        span: Span,
+        x: i32,
+        y: i32,
+        count: usize,
+        brush: Brush,
+        source: Rgb,
+        mask: u64,
+    )
+        requires span { IsSpanOf self.old.rects span }
+        requires left { span.rect.left ≤ℤ x }
+        requires right { (x +ℤ pos count) ≤ℤ (span.rect.right +ℤ pos 1) }
+        requires top { span.rect.top ≤ℤ y }
+        requires bottom { y ≤ℤ span.rect.bottom }
+        ensures region { self.new.rects ≡ self.old.rects }
+        ensures painted { (k : ℕ) → k < count → cell_in self.new (x +ℤ pos k) y
+            ≡ option_map (painted brush (if mask_bit mask k then Solid source else Clear))
+            (cell_in self.old (x +ℤ pos k) y) }
+        ensures others { (z w : ℤ) → IsBeside x y count z w
+            → cell_in self.new z w ≡ cell_in self.old z w }
+        ensures marks { count_by (λ c. c.dirty) self.new.cells
+            ≡ count_by (λ c. c.dirty) self.old.cells }
+    {
+        let cells = &mut self.cells;
+        let first = cell_at(span.rect, span.start, x, y);
+        paint_marked_part(cells, first, count, brush, source, mask);
+    }
+
+    /// Gives those of the `count` pixels from (x, y) on to the right, all of them in this span, whose bit
+    /// of the mask is set a colour, where no pixel is dirty. No cell is read.
+    #[inline(always)]
+    pub(crate) fn fill_marked(
+        &mut self,
+        span: Span,
+        x: i32,
+        y: i32,
+        count: usize,
+        rgb: Rgb,
+        mask: u64,
+    )
+        requires span { IsSpanOf self.old.rects span }
+        requires left { span.rect.left ≤ℤ x }
+        requires right { (x +ℤ pos count) ≤ℤ (span.rect.right +ℤ pos 1) }
+        requires top { span.rect.top ≤ℤ y }
+        requires bottom { y ≤ℤ span.rect.bottom }
+        requires clean { count_by (λ c. c.dirty) self.old.cells ≡ 0 }
+        ensures region { self.new.rects ≡ self.old.rects }
+        ensures painted { (k : ℕ) → k < count → cell_in self.new (x +ℤ pos k) y
+            ≡ option_map (painted plain (if mask_bit mask k then Solid rgb else Clear))
+            (cell_in self.old (x +ℤ pos k) y) }
+        ensures others { (z w : ℤ) → IsBeside x y count z w
+            → cell_in self.new z w ≡ cell_in self.old z w }
+        ensures marks { count_by (λ c. c.dirty) self.new.cells
+            ≡ count_by (λ c. c.dirty) self.old.cells }
+    {
+        let cells = &mut self.cells;
+        let first = cell_at(span.rect, span.start, x, y);
+        fill_marked_part(cells, first, count, rgb, mask);
     }
 
     /// Paints a pixel of this span. Its mark stays. It takes no search.

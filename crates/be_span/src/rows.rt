@@ -1,13 +1,20 @@
-ghost use Rattle.std.specs.Prelude.{◌≡◌, ◌<◌, ◌≤◌, ◌+◌, ◌⊎◌, ℕ, length, map, slice_get, count_by};
+ghost use Rattle.std.specs.Prelude.{◌≡◌, ◌<◌, ◌≤◌, ◌+◌, ◌⊎◌, ℕ, length, map, slice_get, count_by, if◌then◌else◌};
 ghost use Rattle.std.specs.Option.{option_map};
 ghost use Rattle.be_span.specs.Cells.{unmarked};
-ghost use Rattle.be_color.specs.declared.colors.Color.TheVariants.{Solid};
-ghost use Rattle.be_span.specs.Slices.{source_at, painted};
+ghost use Rattle.be_color.specs.declared.colors.Color.TheVariants.{Solid, Clear};
+ghost use Rattle.be_span.specs.Slices.{source_at, mask_bit, painted, plain, recolored};
 
 use crate::Cell;
 use crate::brush::{Brush, Source};
-use crate::slices::{paint_cells, paint_each};
-use be_color::{Color, Rgb, blend};
+use crate::slices::{paint_cells, paint_each, paint_each_marked};
+use be_color::{Color, Mode, Rgb, blend};
+
+/// How a cell gets a colour whatever it had.
+const PLAIN: Brush = Brush {
+    mode: Mode::Copy,
+    high: Color::Clear,
+    low: Color::Clear,
+};
 
 /// Writes over the cells from `start` on, by a row of which `more` are dirty. How many of all are
 /// dirty is told and given back.
@@ -35,6 +42,7 @@ pub(crate) fn overwrite(
 }
 
 /// Paints `count` cells from `start` on.
+#[inline(always)]
 pub(crate) fn paint_part(
     cells: &mut [Cell],
     start: usize,
@@ -73,6 +81,92 @@ pub(crate) fn paint_same_part(
 {
     let Brush { mode, high, low } = brush;
     paint_each(&mut cells[start..start + count], mode, source, high, low);
+}
+
+/// Gives `count` cells from `start` on a colour, where no cell is dirty. A cell is read only where there is one alone.
+#[inline(always)]
+pub(crate) fn fill_part(cells: &mut [Cell], start: usize, count: usize, rgb: Rgb)
+    requires fits { start + count ≤ length cells.old }
+    requires clean { count_by (λ c. c.dirty) cells.old ≡ 0 }
+    ensures len { length cells.new ≡ length cells.old }
+    ensures inside { (k : ℕ) → k < count → slice_get cells.new (start + k)
+        ≡ option_map (recolored rgb) (slice_get cells.old (start + k)) }
+    ensures others { (q : ℕ) → (q < start) ⊎ (start + count ≤ q)
+        → slice_get cells.new q ≡ slice_get cells.old q }
+    ensures marks { count_by (λ c. c.dirty) cells.new ≡ count_by (λ c. c.dirty) cells.old }
+{
+    if count == 1 {
+        paint_cell(cells, start, PLAIN, Color::Solid(rgb));
+        return;
+    }
+    let some = &mut cells[start..start + count];
+    some.fill(Cell { rgb, dirty: false });
+}
+
+/// Paints those of `count` cells from `start` on whose bit of the mask is set. Each caller has a loop
+/// of its own, for its mode.
+#[inline(always)]
+pub(crate) fn paint_marked_part(
+    cells: &mut [Cell],
+    start: usize,
+    count: usize,
+    brush: Brush,
+    source: Rgb,
+    mask: u64,
+)
+    requires { start + count ≤ length cells.old }
+    ensures len { length cells.new ≡ length cells.old }
+    ensures inside { (k : ℕ) → k < count → slice_get cells.new (start + k)
+        ≡ option_map (painted brush (if mask_bit mask k then Solid source else Clear))
+        (slice_get cells.old (start + k)) }
+    ensures others { (q : ℕ) → (q < start) ⊎ (start + count ≤ q)
+        → slice_get cells.new q ≡ slice_get cells.old q }
+    ensures marks { count_by (λ c. c.dirty) cells.new ≡ count_by (λ c. c.dirty) cells.old }
+{
+    let Brush { mode, high, low } = brush;
+    let some = &mut cells[start..start + count];
+    paint_each_marked(some, mode, mask, source, high, low);
+}
+
+/// Gives those of `count` cells from `start` on whose bit of the mask is set a colour, where no cell is
+/// dirty. No cell is read.
+#[inline(always)]
+pub(crate) fn fill_marked_part(cells: &mut [Cell], start: usize, count: usize, rgb: Rgb, mask: u64)
+    requires fits { start + count ≤ length cells.old }
+    requires clean { count_by (λ c. c.dirty) cells.old ≡ 0 }
+    ensures len { length cells.new ≡ length cells.old }
+    ensures inside { (k : ℕ) → k < count → slice_get cells.new (start + k)
+        ≡ option_map (painted plain (if mask_bit mask k then Solid rgb else Clear))
+        (slice_get cells.old (start + k)) }
+    ensures others { (q : ℕ) → (q < start) ⊎ (start + count ≤ q)
+        → slice_get cells.new q ≡ slice_get cells.old q }
+    ensures marks { count_by (λ c. c.dirty) cells.new ≡ count_by (λ c. c.dirty) cells.old }
+{
+    let some = &mut cells[start..start + count];
+    fill_each_marked(some, mask, rgb);
+}
+
+/// Gives each cell whose bit is set a colour, from set bit to set bit, where no cell is dirty. No cell
+/// is read.
+#[inline(always)]
+fn fill_each_marked(cells: &mut [Cell], bits: u64, rgb: Rgb)
+    requires { count_by (λ c. c.dirty) cells.old ≡ 0 }
+    ensures { (k : ℕ) → slice_get cells.new k
+        ≡ option_map (painted plain (if mask_bit bits k then Solid rgb else Clear))
+        (slice_get cells.old k) }
+{
+    let mut rest = bits;
+    let mut place = 0;
+    'bits: while rest != 0 {
+        let gap = rest.leading_zeros() as usize;
+        place += gap;
+        if place >= cells.len() {
+            return;
+        }
+        cells[place] = Cell { rgb, dirty: false };
+        place += 1;
+        rest = rest << gap << 1;
+    }
 }
 
 /// Paints one cell.

@@ -11,6 +11,7 @@ use crate::brush::{Brush, Source};
 use be_color::{Color, Mode, Rgb, blend, pick};
 
 /// Paints cells that stand side by side in a row.
+#[inline(always)]
 pub fn paint_cells(cells: &mut [Cell], brush: Brush, source: Source<'_>)
     ensures cells { (k : ℕ) → slice_get cells.new k
         ≡ option_map (painted brush (source_at brush source.entry k)) (slice_get cells.old k) }
@@ -25,6 +26,7 @@ pub fn paint_cells(cells: &mut [Cell], brush: Brush, source: Source<'_>)
 }
 
 /// Paints each cell by its bit of the byte. The first cell is in this column of the window.
+#[inline(always)]
 fn paint_byte(cells: &mut [Cell], brush: Brush, byte: u8, column: i32)
     ensures { (k : ℕ) → slice_get cells.new k
         ≡ option_map (painted brush (source_at brush (Bits byte column) k))
@@ -114,10 +116,14 @@ fn paint_each_bit(cells: &mut [Cell], mode: Mode, byte: u8, first: usize, high: 
     ensures { (k : ℕ) → slice_get cells.new k ≡ option_map (painted_by_bit
         record { mode = mode; high = high; low = low } byte (first + k)) (slice_get cells.old k) }
 {
+    let set = pick(mode, true, high, low);
+    let unset = pick(mode, false, high, low);
     let mut place = first;
     for cell in cells.iter_mut() {
-        let source = pick(mode, has_bit(byte, place), high, low);
-        cell.rgb = blend(mode, source, cell.rgb, high, low);
+        let color = if has_bit(byte, place) { set } else { unset };
+        if let Color::Solid(source) = color {
+            *cell = painted(*cell, mode, source, high, low);
+        }
         place = (place + 1) % 8;
     }
 }
@@ -215,9 +221,9 @@ fn paint_marked(cells: &mut [Cell], brush: Brush, bits: u64, source: Rgb)
     }
 }
 
-/// The same in a mode. Each caller has a loop of its own, for its mode.
+/// The same in a mode, from set bit to set bit. Each caller has a loop of its own, for its mode.
 #[inline(always)]
-fn paint_each_marked(
+pub(crate) fn paint_each_marked(
     cells: &mut [Cell],
     mode: Mode,
     bits: u64,
@@ -225,27 +231,22 @@ fn paint_each_marked(
     high: Color,
     low: Color,
 )
-    requires { length cells.old ≤ 64 }
     ensures { (k : ℕ) → slice_get cells.new k
         ≡ option_map (painted record { mode = mode; high = high; low = low }
         (if mask_bit bits k then Solid source else Clear)) (slice_get cells.old k) }
 {
+    let mut rest = bits;
     let mut place = 0;
-    for cell in cells.iter_mut() {
-        if is_marked(bits, place) {
-            *cell = painted(*cell, mode, source, high, low);
+    'bits: while rest != 0 {
+        let gap = rest.leading_zeros() as usize;
+        place += gap;
+        if place >= cells.len() {
+            return;
         }
+        cells[place] = painted(cells[place], mode, source, high, low);
         place += 1;
+        rest = rest << gap << 1;
     }
-}
-
-/// Whether the mask has the bit of a cell, counted from the highest.
-#[inline(always)]
-fn is_marked(bits: u64, place: usize) -> bool
-    requires { place < 64 }
-    ensures { result ≡ mask_bit bits place }
-{
-    bits >> (63 - place) & 1 == 1
 }
 
 /// Whether the byte has this bit, counted from the left.
@@ -258,6 +259,7 @@ fn has_bit(byte: u8, place: usize) -> bool
 
 /// Where a column falls in a pattern's row, 0 to 7.
 #[tactic(auto, unfolding(be_color::specs::Pattern::place_in_pattern))]
+#[inline(always)]
 fn place_in_row(column: i32) -> usize
     ensures place { result ≡ place_in_pattern column }
     ensures within { result < 8 }
