@@ -1,9 +1,10 @@
--- What a drawing makes of the cells along a row.
-use Rattle.std.specs.Prelude.{if◌then◌else◌}
-use Rattle.std.proofs.Common.{◌≡◌, ◌⊎◌, inl, inr, ◌<ℤ◌, ℕ, ℤ, pos, ◌+ℤ◌, ◌-ℤ◌, ◌≤ℤ◌, true, false, ◌&&◌, Bool, List, Option, None, refl, sym, subst, ap, ◌∙◌, arith}
+-- Where a drawing leaves the cells, and what is known of where it may not.
+use Rattle.std.specs.Prelude.{IfSome, if◌then◌else◌}
+use Rattle.std.proofs.Common.{◌≡◌, ◌⊎◌, inl, inr, ◌<ℤ◌, ℤ, ◌+ℤ◌, ◌-ℤ◌, ◌≤ℤ◌, true, false, ◌&&◌, Bool, List, Option, None, refl, sym, subst, ap, ◌∙◌, arith}
 use Rattle.std.proofs.lemmas.Int.{ints}
 use Rattle.std.proofs.lemmas.Bool.{and_parts}
-use Rattle.be_geom.specs.Places.{at_pixel}
+use Rattle.be_color.specs.declared.colors.Rgb.{Rgb}
+use Rattle.be_geom.specs.Numbers.{is_number}
 use Rattle.be_geom.specs.declared.rect.Rect.{Rect}
 use Rattle.be_region.specs.Regions.{region_has}
 use Rattle.be_shape.specs.Rasters.{raster_has}
@@ -13,36 +14,18 @@ use Rattle.be_shape.specs.declared.row.Row.{Row}
 use Rattle.be_span.specs.Runs.{IsSpanOf}
 use Rattle.be_span.specs.Spans.{SpanAt}
 use Rattle.be_span.specs.declared.Cell.{Cell}
-use Rattle.be_span.specs.declared.brush.Source.{Source}
-use Rattle.be_paint.specs.Inks.{source_at, laid_on_cell}
-use Rattle.be_paint.specs.Seen.{is_own, is_allowed, is_open, may_draw}
+use Rattle.be_span.proofs.LaidLemmas.{rect_inside}
+use Rattle.be_paint.specs.Inks.{laid_on_cell}
+use Rattle.be_paint.specs.Seen.{view_on, is_own, is_allowed, is_open, may_draw}
 use Rattle.be_paint.specs.Stretches.{IsBeyond, IsPatch, IsWithin}
-use Rattle.be_paint.specs.Laying.{HasNoneOutside, IsBand, IsInSpan, IsInked, IsOwnPart, IsFreePart, IsShapeOf, IsThere, across_in, down_in, ink_of, source_in, drawn_cell, AreLeft, IsInkRun, IsDrawnBy, IsRunOf}
+use Rattle.be_paint.specs.Laying.{HasNoneOutside, IsBand, IsInSpan, IsOwnPart, IsFreePart, IsKnown, IsPlain, IsShapeOf, across_in, down_in, ink_of, source_in, drawn_cell, AreLeft}
 use Rattle.be_paint.specs.declared.drawing.Drawing.{Drawing}
+use Rattle.be_paint.specs.declared.drawing.Known.{Known}
 use Rattle.be_paint.specs.declared.drawing.Part.{Part}
 use Rattle.be_paint.specs.declared.pixel.Pixel.{Pixel}
 use Rattle.be_paint.proofs.PatchLemmas.{all_same, nearer_within}
-use Rattle.be_paint.proofs.ReachLemmas.{not_in}
+use Rattle.be_paint.proofs.ReachLemmas.{not_in, not_here, rect_there}
 use Rattle.be_paint.proofs.StretchLemmas.{both_true}
-
--- a run of the ink, seen on the screen
-pub drawn_by : (d : Drawing) (x y : ℤ) (local p : Pixel) (source : Option Source) (last : ℤ) (k : ℕ) → local.x ≡ x -ℤ d.reach.now.window.x → local.y ≡ y -ℤ d.reach.now.window.y → p.x ≡ local.x -ℤ d.view.x -ℤ d.base.x → p.y ≡ local.y -ℤ d.view.y -ℤ d.base.y → IsInkRun (ink_of d.ink.now) d.reach.now.states.now.top.state local p source last → (p.x +ℤ pos k) ≤ℤ last → IsDrawnBy d (x +ℤ pos k) y source k
-drawn_by d x y local p source last k lx ly px py run to =
-    let s = d.reach.now.states.now.top.state in
-    let ink = ink_of d.ink.now in
-    let w = d.reach.now.window in
-    let u : ℤ = x +ℤ pos k -ℤ w.x in
-    let v : ℤ = y -ℤ w.y in
-    let e1 : u ≡ local.x +ℤ pos k = omega (arith, ints) in
-    let e2 : v ≡ local.y = sym ly in
-    let e3 : u -ℤ d.view.x -ℤ d.base.x ≡ p.x +ℤ pos k = omega (arith, ints) in
-    let e4 : v -ℤ d.view.y -ℤ d.base.y ≡ p.y = omega (arith, ints) in
-    let here : source_in d (x +ℤ pos k) y ≡ source_at ink s (at_pixel (local.x +ℤ pos k) local.y) (at_pixel (p.x +ℤ pos k) p.y) =
-    ap (λ (a : ℤ). source_at ink s (at_pixel a v) (at_pixel (u -ℤ d.view.x -ℤ d.base.x) (v -ℤ d.view.y -ℤ d.base.y))) e1
-    ∙ ap (λ (a : ℤ). source_at ink s (at_pixel (local.x +ℤ pos k) a) (at_pixel (u -ℤ d.view.x -ℤ d.base.x) (v -ℤ d.view.y -ℤ d.base.y))) e2
-    ∙ ap (λ (a : ℤ). source_at ink s (at_pixel (local.x +ℤ pos k) local.y) (at_pixel a (v -ℤ d.view.y -ℤ d.base.y))) e3
-    ∙ ap (λ (a : ℤ). source_at ink s (at_pixel (local.x +ℤ pos k) local.y) (at_pixel (p.x +ℤ pos k) a)) e4 in
-    λ c. ap (laid_on_cell s c) here ∙ run.each k to c
 
 -- ---- cells
 
@@ -56,6 +39,10 @@ free rects d x y c e = ap (λ b. if b then laid_on_cell d.reach.now.states.now.t
 pub not_owned : (rects : List Rect) (d : Drawing) (x y : ℤ) (c : Cell) → region_has rects x y ≡ false → drawn_cell rects d x y c ≡ c
 not_owned rects d x y c e = not_free rects d x y c (not_in rects d.reach.now d.view x y e)
 
+-- nor on one that it isn't at
+pub not_seen : (rects : List Rect) (d : Drawing) (x y : ℤ) (c : Cell) → is_number d.reach.now.view (view_on d.reach.now x y) ≡ false → drawn_cell rects d x y c ≡ c
+not_seen rects d x y c e = not_free rects d x y c (not_here rects d.reach.now d.view x y e)
+
 same_both : (b : Bool) (c : Cell) → (if b then c else c) ≡ c
 same_both true c = refl
 same_both false c = refl
@@ -66,33 +53,11 @@ bare_cell rects d x y c e =
     let b = may_draw rects d.reach.now d.view x y in
     ap (λ s. if b then laid_on_cell d.reach.now.states.now.top.state c s else c) e ∙ same_both b c
 
--- ---- runs
-
--- where the view may draw the cells become what the ink makes of them
-pub run_free : (rects : List Rect) (d : Drawing) (x y end r : ℤ) (source : Option Source) → x ≤ℤ r → r ≤ℤ end → ((z : ℤ) → x ≤ℤ z → z ≤ℤ r → may_draw rects d.reach.now d.view z y ≡ true) → ((k : ℕ) → (x +ℤ pos k) ≤ℤ r → IsDrawnBy d (x +ℤ pos k) y source k) → IsRunOf rects d x y source end r
-run_free rects d x y end r source ahead within may drawn = record {
-  forward = ahead;
-  within = within;
-  each = λ k to c. free rects d (x +ℤ pos k) y c (may (x +ℤ pos k) (omega (arith, ints)) to) ∙ drawn k to c;
-}
-
 -- ---- blocks
 
--- where it may not, they stay
-pub left_where_not : (rects : List Rect) (d : Drawing) (first last : Pixel) → ((x y : ℤ) → IsWithin first last x y → may_draw rects d.reach.now d.view x y ≡ false) → AreLeft rects d first last
-left_where_not rects d first last out x y in_it c = not_free rects d x y c (out x y in_it)
-
--- and where the ink isn't
+-- where the ink isn't, they stay
 pub left_where_bare : (rects : List Rect) (d : Drawing) (first last : Pixel) → ((x y : ℤ) → IsWithin first last x y → source_in d x y ≡ None) → AreLeft rects d first last
 left_where_bare rects d first last none x y in_it c = bare_cell rects d x y c (none x y in_it)
-
--- the ink at the pixels of a row, in drawing coordinates
-pub inked_row : (d : Drawing) (x y end p q last : ℤ) → ((z : ℤ) → x ≤ℤ z → z ≤ℤ end → IsInked d z y) → p ≡ x -ℤ d.reach.now.window.x -ℤ d.view.x -ℤ d.base.x → q ≡ y -ℤ d.reach.now.window.y -ℤ d.view.y -ℤ d.base.y → last ≡ end -ℤ (d.reach.now.window.x +ℤ d.view.x +ℤ d.base.x) → (z : ℤ) → p ≤ℤ z → z ≤ℤ last → IsThere (ink_of d.ink.now) z q
-inked_row d x y end p q last inked px qy e z from to =
-    let first : ℤ = d.reach.now.window.x +ℤ d.view.x +ℤ d.base.x in
-    let at : z +ℤ first -ℤ d.reach.now.window.x -ℤ d.view.x -ℤ d.base.x ≡ z = omega (arith, ints) in
-    subst (λ (w : ℤ). IsThere (ink_of d.ink.now) z w) (sym qy)
-    (subst (λ (w : ℤ). IsThere (ink_of d.ink.now) w (y -ℤ d.reach.now.window.y -ℤ d.view.y -ℤ d.base.y)) at (inked (z +ℤ first) (omega (arith, ints)) (omega (arith, ints))))
 
 -- ---- parts
 
@@ -123,10 +88,21 @@ free_from rects d part at h beyond = record {
   inside = from_inside part.span part.first at part.last beyond h.inside;
 }
 
--- a part of a patch on which the answer is yes
-pub own_part : (rects : List Rect) (d : Drawing) (at end mid last : Pixel) (span : SpanAt) → IsPatch (is_own rects d.reach.now) at end mid → is_own rects d.reach.now at.x at.y ≡ true → IsBeyond last mid → IsSpanOf rects span → IsInSpan span at last → IsOwnPart rects d record { first = at; last = last; span = span }
-own_part rects d at end mid last span patch first nearer of inside = record {
-  own = λ x y in_it. all_same (is_own rects d.reach.now) at end mid true patch first x y (nearer_within at mid last x y nearer in_it);
+-- a part of a rectangle of the region, on which the view is at each pixel
+pub own_part : (rects : List Rect) (d : Drawing) (at end last : Pixel) (span : SpanAt) → IsPatch (λ x y. is_number d.reach.now.view (view_on d.reach.now x y)) at end last → is_number d.reach.now.view (view_on d.reach.now at.x at.y) ≡ true → IsSpanOf rects span → IsInSpan span at last → IsOwnPart rects d record { first = at; last = last; span = span }
+own_part rects d at end last span patch first of inside = record {
+  own = λ x y in_it.
+      let a = in_it.from_left in
+      let b = in_it.to_right in
+      let e = in_it.from_top in
+      let f = in_it.to_bottom in
+      let i = inside.from_left in
+      let j = inside.to_right in
+      let k = inside.from_top in
+      let l = inside.to_bottom in
+      let has = rect_inside rects of.place span.rect x y of.there (rect_there span.rect x y (omega (arith, ints)) (omega (arith, ints)) (omega (arith, ints)) (omega (arith, ints))) in
+      both_true (region_has rects x y) (is_number d.reach.now.view (view_on d.reach.now x y)) has
+      ∙ all_same (λ z w. is_number d.reach.now.view (view_on d.reach.now z w)) at end last true patch first x y in_it;
   span = of;
   inside = inside;
 }
@@ -175,3 +151,16 @@ nothing_outside d x y first last top h e out =
     let down : ℤ = y -ℤ d.reach.now.window.y in
     let at : ℤ = down -ℤ d.view.y -ℤ d.base.y in
     h left down (left -ℤ d.view.x -ℤ d.base.x) at (moved_rows first last top at y (d.reach.now.window.y +ℤ d.view.y +ℤ d.base.y) e (omega (arith, ints)) out)
+
+-- ---- what is known
+
+some_of : {A : Type 0} (P : A → Type 0) (o : Option A) → o ≡ None → IfSome o P
+some_of {A = A} P o e = subst (λ (a : Option A). IfSome a P) (sym e) tt
+
+-- no pixels, and the colour that the ink gives each of its pixels, if there is one
+pub known_at_first : (rects : List Rect) (d : Drawing) (known : Known) (plain : Option Rgb) → known.own ≡ None → known.free ≡ None → known.plain ≡ plain → IfSome plain (IsPlain d) → IsKnown rects d known
+known_at_first rects d known plain own free same is = record {
+  own = some_of (IsOwnPart rects d) known.own own;
+  free = some_of (IsFreePart rects d) known.free free;
+  plain = subst (λ (o : Option Rgb). IfSome o (IsPlain d)) (sym same) is;
+}

@@ -1,8 +1,8 @@
--- Glyphs and texts along a row.
-use Rattle.std.proofs.Common.{◌≡◌, ℕ, zero, suc, ℤ, pos, negsuc, ◌*◌, ◌/◌, ◌+ℤ◌, ◌-ℤ◌, ◌*ℤ◌, ◌≤ℤ◌, ◌<ℤ◌, ◌≤◌, ◌<◌, Bool, true, false, ◌||◌, List, [], ◌∷◌, length, get_or, refl, ap, sym, ◌∙◌, ◌-◌, arith}
+-- Glyphs and texts.
+use Rattle.std.proofs.Common.{◌≡◌, ℕ, zero, suc, ℤ, pos, negsuc, ◌*◌, ◌/◌, ◌+ℤ◌, ◌-ℤ◌, ◌*ℤ◌, ◌≤ℤ◌, ◌<ℤ◌, ◌≤◌, ◌<◌, Bool, true, false, ◌||◌, List, [], ◌∷◌, length, get_or, slice_index, replicate, set, refl, ap, ap₂, sym, ◌∙◌, ◌-◌, arith}
 use Rattle.std.proofs.Math.ListN.{drop, take}
 use Rattle.std.proofs.Math.Seq.{drop-cons}
-use Rattle.std.proofs.lemmas.List.{drop_all, take_all, length-drop}
+use Rattle.std.proofs.lemmas.List.{drop_all, take_all, length-drop, get_or-set_same, get_or-replicate}
 use Rattle.std.proofs.lemmas.Int.{ints, clamps}
 use Rattle.be_font.specs.Glyphs.{glyph_bit}
 use Rattle.std.specs.Int.{int_min}
@@ -11,10 +11,14 @@ use Rattle.be_font.specs.Runs.{row_bit}
 use Rattle.be_font.proofs.RowLemmas.{glyph_bit-column_past, glyph_bit-row_past}
 use Rattle.be_span.specs.Slices.{mask_bit}
 use Rattle.be_paint.specs.Inks.{glyph_covers, text_has, pen_behind}
-use Rattle.be_paint.specs.Laying.{HasNoGlyph}
-use Rattle.be_paint.proofs.BitLemmas.{mask_or}
+use Rattle.be_paint.specs.Laying.{AreMasksOf}
+use Rattle.be_paint.proofs.BitLemmas.{mask_none, mask_or}
 
 -- ---- rows
+
+-- no glyph has a bit in the row
+abbrev pub HasNoGlyph : ℤ → Type 0
+HasNoGlyph row = (code : ℕ) (column : ℤ) → glyph_covers code column row ≡ false
 
 pub row_above : (row : ℤ) → row <ℤ pos 0 → HasNoGlyph row
 row_above (pos n) h code column = absurd (omega (arith, ints))
@@ -107,41 +111,65 @@ text_ended (code ∷ codes) left pen_y z y most h =
     ap (λ b. b || text_has codes (pen_behind left) pen_y z y) (covers_not_past code (y -ℤ pen_y +ℤ pos 6) (z -ℤ left) (omega (arith, ints, clamps)))
     ∙ text_ended codes (pen_behind left) pen_y z y (omega (arith, ints, clamps)) (omega (arith, ints, clamps))
 
--- ---- the bits of a row
+-- ---- the bits of masks
 
 -- a column from a glyph's left on
 bit_covered : (code row byte : ℕ) (z : ℤ) (b : Bool) → ((column : ℕ) → glyph_bit code column row ≡ row_bit byte column) → ((column : ℕ) → z ≡ pos column → b ≡ row_bit byte column) → (z <ℤ pos 0 → b ≡ false) → b ≡ glyph_covers code z (pos row)
 bit_covered code row byte (pos n) b bits inside before = inside n refl ∙ sym (bits n)
 bit_covered code row byte (negsuc n) b bits inside before = before (omega (arith, ints))
 
--- a glyph's byte placed among the pixels from column x on
-pub placed_covers : (code row byte mask k : ℕ) (left x : ℤ) → k < 64 → ((column : ℕ) → glyph_bit code column row ≡ row_bit byte column) → ((k column : ℕ) → k < 64 → pos k ≡ left -ℤ x +ℤ pos column → mask_bit mask k ≡ row_bit byte column) → ((k : ℕ) → pos k <ℤ (left -ℤ x) → mask_bit mask k ≡ false) → mask_bit mask k ≡ glyph_covers code (x +ℤ pos k -ℤ left) (pos row)
-placed_covers code row byte mask k left x h bits inside before =
-    bit_covered code row byte (x +ℤ pos k -ℤ left) (mask_bit mask k) bits
+-- a glyph's byte placed among the pixels
+pub placed_covers : (code row byte mask k : ℕ) (left : ℤ) → k < 64 → ((column : ℕ) → glyph_bit code column row ≡ row_bit byte column) → ((k column : ℕ) → k < 64 → pos k ≡ left +ℤ pos column → mask_bit mask k ≡ row_bit byte column) → ((k : ℕ) → pos k <ℤ left → mask_bit mask k ≡ false) → mask_bit mask k ≡ glyph_covers code (pos k -ℤ left) (pos row)
+placed_covers code row byte mask k left h bits inside before =
+    bit_covered code row byte (pos k -ℤ left) (mask_bit mask k) bits
     (λ column e. inside k column h (omega (arith, ints)))
     (λ less. before k (omega (arith, ints)))
 
+-- one of the masks gets more bits
+pub mask_added : (masks : List ℕ) (i more k : ℕ) → i < length masks → k < 64 → mask_bit (slice_index (set masks i (bit_or (slice_index masks i) more)) i) k ≡ (mask_bit (slice_index masks i) k || mask_bit more k)
+mask_added masks i more k there h =
+    ap (λ m. mask_bit m k) (get_or-set_same masks i (bit_or (slice_index masks i) more) 0 there)
+    ∙ mask_or (slice_index masks i) more k h
+
 -- what is gathered, and what is left
-abbrev pub IsGathered : List ℕ → List ℕ → ℤ → ℤ → ℕ → ℤ → ℕ → Type 0
-IsGathered codes rest pen left row x bits = (pen_y y : ℤ) → y -ℤ pen_y +ℤ pos 6 ≡ pos row → (k : ℕ) → k < 64 → text_has codes pen pen_y (x +ℤ pos k) y ≡ (mask_bit bits k || text_has rest left pen_y (x +ℤ pos k) y)
+abbrev pub AreGathered : List ℕ → List ℕ → ℤ → ℤ → ℤ → List ℕ → Type 0
+AreGathered codes rest pen left x masks = (pen_y : ℤ) (k row : ℕ) → k < 64 → row < 7
+    → text_has codes pen pen_y (x +ℤ pos k) (pen_y -ℤ pos 6 +ℤ pos row) ≡ (mask_bit (slice_index masks row) k || text_has rest left pen_y (x +ℤ pos k) (pen_y -ℤ pos 6 +ℤ pos row))
 
 one_more : (a b c : Bool) → (a || (b || c)) ≡ ((a || b) || c)
 one_more true b c = refl
 one_more false b c = refl
 
-pub gathered_more : (codes : List ℕ) (i code row bits more : ℕ) (pen left x : ℤ) → i < length codes → code ≡ get_or codes i 0 → ((k : ℕ) → k < 64 → mask_bit more k ≡ glyph_covers code (x +ℤ pos k -ℤ left) (pos row)) → IsGathered codes (drop i codes) pen left row x bits → IsGathered codes (drop (suc i) codes) pen (pen_behind left) row x (bit_or bits more)
-gathered_more codes i code row bits more pen left x inside read covers before pen_y y at k h =
+pub gathered_more : (codes : List ℕ) (i code : ℕ) (masks new : List ℕ) (pen left x : ℤ) → i < length codes → code ≡ get_or codes i 0 → ((k row : ℕ) → k < 64 → row < 7 → mask_bit (slice_index new row) k ≡ (mask_bit (slice_index masks row) k || glyph_covers code (pos k -ℤ (left -ℤ x)) (pos row))) → AreGathered codes (drop i codes) pen left x masks → AreGathered codes (drop (suc i) codes) pen (pen_behind left) x new
+gathered_more codes i code masks new pen left x inside read added before pen_y k row h r =
+    let y : ℤ = pen_y -ℤ pos 6 +ℤ pos row in
     let next = text_has (drop (suc i) codes) (pen_behind left) pen_y (x +ℤ pos k) y in
-    before pen_y y at k h
-    ∙ ap (λ b. mask_bit bits k || b) (text_next codes i code left pen_y (x +ℤ pos k) y inside read ∙ ap (λ b. b || next) (ap (glyph_covers code (x +ℤ pos k -ℤ left)) at ∙ sym (covers k h)))
-    ∙ one_more (mask_bit bits k) (mask_bit more k) next
-    ∙ ap (λ b. b || next) (sym (mask_or bits more k h))
+    let across : x +ℤ pos k -ℤ left ≡ pos k -ℤ (left -ℤ x) = omega (arith, ints) in
+    let down : y -ℤ pen_y +ℤ pos 6 ≡ pos row = omega (arith, ints) in
+    before pen_y k row h r
+    ∙ ap (λ b. mask_bit (slice_index masks row) k || b) (text_next codes i code left pen_y (x +ℤ pos k) y inside read ∙ ap (λ b. b || next) (ap₂ (glyph_covers code) across down))
+    ∙ one_more (mask_bit (slice_index masks row) k) (glyph_covers code (pos k -ℤ (left -ℤ x)) (pos row)) next
+    ∙ ap (λ b. b || next) (sym (added k row h r))
 
 none_more : (a b : Bool) → b ≡ false → (a || b) ≡ a
 none_more true b e = refl
 none_more false b e = e
 
 -- none of those that are left is at the pixels
-pub gathered_all : (codes rest : List ℕ) (pen left : ℤ) (row : ℕ) (x : ℤ) (bits : ℕ) → IsGathered codes rest pen left row x bits → ((pen_y y : ℤ) (k : ℕ) → k < 64 → text_has rest left pen_y (x +ℤ pos k) y ≡ false) → (pen_y y : ℤ) → y -ℤ pen_y +ℤ pos 6 ≡ pos row → (k : ℕ) → k < 64 → mask_bit bits k ≡ text_has codes pen pen_y (x +ℤ pos k) y
-gathered_all codes rest pen left row x bits gathered none pen_y y at k h =
-    sym (gathered pen_y y at k h ∙ none_more (mask_bit bits k) (text_has rest left pen_y (x +ℤ pos k) y) (none pen_y y k h))
+pub gathered_all : (codes rest : List ℕ) (pen left x : ℤ) (masks : List ℕ) → length masks ≡ 7 → AreGathered codes rest pen left x masks → ((pen_y y : ℤ) (k : ℕ) → k < 64 → text_has rest left pen_y (x +ℤ pos k) y ≡ false) → (pen_y : ℤ) → AreMasksOf codes pen pen_y x masks
+gathered_all codes rest pen left x masks seven gathered none pen_y = record {
+  seven = seven;
+  each = λ k row h r.
+      let y : ℤ = pen_y -ℤ pos 6 +ℤ pos row in
+      sym (gathered pen_y k row h r ∙ none_more (mask_bit (slice_index masks row) k) (text_has rest left pen_y (x +ℤ pos k) y) (none pen_y y k h));
+}
+
+-- where no glyph is at the pixels
+none_of_seven : (row k : ℕ) → row < 7 → mask_bit (slice_index (replicate 7 0) row) k ≡ false
+none_of_seven row k r = ap (λ m. mask_bit m k) (get_or-replicate 7 row 0 0 r) ∙ mask_none k
+
+pub no_masks : (codes : List ℕ) (pen_x pen_y x : ℤ) → ((y : ℤ) (k : ℕ) → k < 64 → text_has codes pen_x pen_y (x +ℤ pos k) y ≡ false) → AreMasksOf codes pen_x pen_y x (replicate 7 0)
+no_masks codes pen_x pen_y x none = record {
+  seven = refl;
+  each = λ k row h r. none_of_seven row k r ∙ sym (none (pen_y -ℤ pos 6 +ℤ pos row) k h);
+}

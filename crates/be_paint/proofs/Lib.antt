@@ -15,3 +15,6 @@ pub mod WithinLemmas
 pub mod SeenLemmas
 pub mod PatternLemmas
 pub mod BandLemmas
+pub mod PictureLemmas
+pub mod DotLemmas
+pub mod TextLemmas

@@ -1,5 +1,5 @@
 -- Answers that hold in a rectangle: moved from one kind of coordinates to another, and joined.
-use Rattle.std.proofs.Common.{◌≡◌, ℤ, pos, ◌+ℤ◌, ◌-ℤ◌, ◌≤ℤ◌, ◌⊎◌, Bool, true, false, ◌&&◌, SFits, w32, arith, rules, sym, ap, ◌∙◌}
+use Rattle.std.proofs.Common.{◌≡◌, ℤ, pos, negsuc, ◌+ℤ◌, ◌-ℤ◌, ◌≤ℤ◌, ◌⊎◌, Bool, true, false, ◌&&◌, SFits, w16, w32, arith, rules, sym, ap, ◌∙◌}
 use Rattle.std.proofs.lemmas.Int.{ints}
 use Rattle.be_region.specs.Runs.{IsBlock}
 use Rattle.be_views.specs.Places.{IsNear}
@@ -20,6 +20,9 @@ near_origin o (least, most) = (omega (arith, ints), omega (arith, ints))
 
 pub far_origin : (o : ℤ) → IsNear 33 o → IsNear 60 o
 far_origin o (least, most) = (omega (arith, ints), omega (arith, ints))
+
+pub edge_fits : (e o : ℤ) → SFits w16 e → IsNear 60 o → SFits w32 (e +ℤ o)
+edge_fits e o f (least, most) = search rules
 
 pub coordinate_fits : (x : ℤ) → IsCoordinate x → SFits w32 x
 coordinate_fits x (low, high) = search rules
@@ -91,3 +94,7 @@ itself at last (right, down) = record { from_left = omega (arith, ints); to_righ
 -- an answer of a block at one pixel is that of each
 pub all_same : {A : Type 0} (f : ℤ → ℤ → A) (at end last : Pixel) (a : A) → IsPatch f at end last → f at.x at.y ≡ a → (x y : ℤ) → IsWithin at last x y → f x y ≡ a
 all_same f at end last a h e x y in_it = h.same x y in_it ∙ e
+
+-- the next row or column
+pub next_fits : (z : ℤ) → negsuc 32767 ≤ℤ z → z ≤ℤ pos 32767 → SFits w32 (z +ℤ pos 1)
+next_fits z low high = search rules

@@ -36,8 +36,8 @@ join d old mid new a b c e f g same parts one other first second = record {
         ∙ ap (option_map (drawn_cell old.rects d x y)) (first.beside x y h.0)
 
 -- side by side
-pub join_right : (d : Drawing) (old mid new : Spans) (at last from to : Pixel) → mid.rects ≡ old.rects → at.x ≤ℤ last.x → from.x ≡ last.x +ℤ pos 1 → from.y ≡ at.y → to.y ≡ last.y → last.x ≤ℤ to.x → IsDrawnWithin d old mid at last → IsDrawnWithin d mid new from to → IsDrawnWithin d old new at to
-join_right d old mid new at last from to same ahead fx fy ty tx first second =
+pub join_across : (d : Drawing) (old mid new : Spans) (at last from to : Pixel) → mid.rects ≡ old.rects → at.x ≤ℤ from.x → from.x ≡ last.x +ℤ pos 1 → from.y ≡ at.y → to.y ≡ last.y → last.x ≤ℤ to.x → IsDrawnWithin d old mid at last → IsDrawnWithin d mid new from to → IsDrawnWithin d old new at to
+join_across d old mid new at last from to same ahead fx fy ty tx first second =
     join d old mid new at last from to at to same
     (λ x y h.
     let i = h.from_left in let j = h.to_right in let k = h.from_top in let l = h.to_bottom in
@@ -47,6 +47,9 @@ join_right d old mid new at last from to same ahead fx fy ty tx first second =
     (λ x y h. let j = h.to_right in let l = h.to_bottom in record { from_left = h.from_left; to_right = omega (arith, ints); from_top = h.from_top; to_bottom = omega (arith, ints) })
     (λ x y h. let i = h.from_left in let k = h.from_top in record { from_left = omega (arith, ints); to_right = h.to_right; from_top = omega (arith, ints); to_bottom = h.to_bottom })
     first second
+
+pub join_right : (d : Drawing) (old mid new : Spans) (at last from to : Pixel) → mid.rects ≡ old.rects → at.x ≤ℤ last.x → from.x ≡ last.x +ℤ pos 1 → from.y ≡ at.y → to.y ≡ last.y → last.x ≤ℤ to.x → IsDrawnWithin d old mid at last → IsDrawnWithin d mid new from to → IsDrawnWithin d old new at to
+join_right d old mid new at last from to same ahead fx = join_across d old mid new at last from to same (omega (arith, ints)) fx
 
 -- one below the other
 pub join_down : (d : Drawing) (old mid new : Spans) (at last from to : Pixel) → mid.rects ≡ old.rects → (last.y +ℤ pos 1) ≡ from.y → at.y ≤ℤ from.y → from.x ≡ at.x → to.x ≡ last.x → last.y ≤ℤ to.y → IsDrawnWithin d old mid at last → IsDrawnWithin d mid new from to → IsDrawnWithin d old new at to

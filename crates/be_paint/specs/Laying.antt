@@ -1,8 +1,11 @@
--- What a run of an ink is, and what it makes of the cells of a row (this project's own).
-use Rattle.std.specs.Prelude.{◌≡◌, ℕ, ℤ, pos, ◌+ℤ◌, ◌-ℤ◌, ◌≤ℤ◌, ◌<ℤ◌, ◌⊎◌, true, false, List, Option, Some, None, option_map, slice_get, IfSome, if◌then◌else◌}
+-- Where an ink of the code is, and what it makes of the cells of the screen (this project's own).
+use Rattle.std.specs.Prelude.{◌≡◌, ◌<◌, ℕ, ℤ, pos, ◌+ℤ◌, ◌-ℤ◌, ◌≤ℤ◌, ◌<ℤ◌, ◌⊎◌, true, false, List, Option, Some, None, length, option_map, slice_index, IfSome, if◌then◌else◌}
 use Rattle.be_geom.specs.Places.{at_pixel}
+use Rattle.be_geom.specs.declared.point.Point.{Point}
 use Rattle.be_geom.specs.declared.rect.Rect.{Rect}
+use Rattle.be_bitmap.specs.Pictures.{Picture, bitmap_pixel}
 use Rattle.be_color.specs.declared.colors.Color.{Color}
+use Rattle.be_color.specs.declared.colors.Rgb.{Rgb}
 use Rattle.be_shape.specs.Rasters.{raster_has}
 use Rattle.be_shape.specs.Rows.{row_has, span_has}
 use Rattle.be_shape.specs.declared.Raster.{Raster}
@@ -10,7 +13,6 @@ use Rattle.be_shape.specs.declared.row.Row.{Row}
 use Rattle.be_shape.specs.declared.row.Span.{Span}
 use Rattle.be_span.specs.declared.Cell.{Cell}
 use Rattle.be_span.specs.declared.brush.Brush.{Brush}
-use Rattle.be_span.specs.declared.brush.Source.{Source}
 use Rattle.be_span.specs.Slices as slices
 use Rattle.be_state.specs.declared.State.{State}
 use Rattle.be_paint.specs.Inks as inks
@@ -32,34 +34,9 @@ ink_of (Shape raster pattern) = inks.shape raster pattern
 ink_of (Text codes) = inks.text codes.now
 ink_of (Image picture corner) = inks.image picture.now corner
 
--- no glyph has a bit in the row
-abbrev pub HasNoGlyph : ℤ → Type 0
-HasNoGlyph row = (code : ℕ) (column : ℤ) → inks.glyph_covers code column row ≡ false
-
--- ---- runs of an ink
-
 -- with what a state paints
 abbrev pub brush_of : State → Brush
 brush_of s = record { mode = s.mode; high = s.high; low = s.low }
-
--- the colour of the k-th column, if the ink is there
-abbrev pub color_in : State → Option Source → ℕ → Option Color
-color_in s source k = option_map (λ some. slices.source_at (brush_of s) some k) source
-
--- the k-th cell of a run
-abbrev pub run_cell : State → Option Source → ℕ → Cell → Cell
-run_cell s (Some source) k c = slices.painted (brush_of s) (slices.source_at (brush_of s) source k) c
-run_cell s None k c = c
-
--- what a colour makes of a cell is what the k-th cell of a run becomes
-abbrev pub IsLaidBy : State → Option Color → Option Source → ℕ → Type 0
-IsLaidBy s color source k = (c : Cell) → laid_on_cell s c color ≡ run_cell s source k c
-
--- From a pixel on, given in the window's and in drawing coordinates, up to the last drawing column the ink makes of the
--- cells what this run makes of them.
-pub record IsInkRun (ink : inks.Ink) (s : State) (local p : Pixel) (source : Option Source) (last : ℤ) : Type 0 where
-  pub forward : p.x ≤ℤ last
-  pub each : (k : ℕ) → (p.x +ℤ pos k) ≤ℤ last → IsLaidBy s (source_at ink s (at_pixel (local.x +ℤ pos k) local.y) (at_pixel (p.x +ℤ pos k) p.y)) source k
 
 -- ---- rows of an ink
 
@@ -90,27 +67,12 @@ source_in d x y =
     let top = y -ℤ d.reach.now.window.y in
     source_at (ink_of d.ink.now) d.reach.now.states.now.top.state (at_pixel left top) (at_pixel (left -ℤ d.view.x -ℤ d.base.x) (top -ℤ d.view.y -ℤ d.base.y))
 
--- what the ink makes of a pixel of the screen is what the k-th cell of a run becomes
-abbrev pub IsDrawnBy : Drawing → ℤ → ℤ → Option Source → ℕ → Type 0
-IsDrawnBy d x y source k = IsLaidBy d.reach.now.states.now.top.state (source_in d x y) source k
-
 -- ---- cells
 
 -- a cell of the screen after a drawing, where the window owns the pixels of the region
 abbrev pub drawn_cell : List Rect → Drawing → ℤ → ℤ → Cell → Cell
 drawn_cell rects d x y c =
     if may_draw rects d.reach.now d.view x y then laid_on_cell d.reach.now.states.now.top.state c (source_in d x y) else c
-
--- from column x on, up to the last one, the drawing makes of each cell what the run makes of it
-pub record IsRunOf (rects : List Rect) (d : Drawing) (x y : ℤ) (source : Option Source) (end last : ℤ) : Type 0 where
-  pub forward : x ≤ℤ last
-  pub within : last ≤ℤ end
-  pub each : (k : ℕ) → (x +ℤ pos k) ≤ℤ last → (c : Cell) → drawn_cell rects d (x +ℤ pos k) y c ≡ run_cell d.reach.now.states.now.top.state source k c
-
--- from column x on, at which the first of these pixels lies, up to the last column the pixels have these colours
-pub record IsRowRun (pixels : List Color) (x : ℤ) (source : Option Source) (last : ℤ) : Type 0 where
-  pub forward : x ≤ℤ last
-  pub each : (k : ℕ) → (s : State) → (x +ℤ pos k) ≤ℤ last → slice_get pixels k ≡ color_in s source k
 
 -- ---- blocks
 
@@ -154,10 +116,18 @@ pub record IsFreePart (rects : List Rect) (d : Drawing) (part : Part) : Type 0 w
   pub span : IsSpanOf rects part.span
   pub inside : IsInSpan part.span part.first part.last
 
+-- ---- what is known
+
+-- each pixel on which the ink is gets this colour, whatever it was
+abbrev pub IsPlain : Drawing → Rgb → Type 0
+IsPlain d rgb = (x y : ℤ) → IsInked d x y → (c : Cell)
+    → laid_on_cell d.reach.now.states.now.top.state c (source_in d x y) ≡ record { rgb = rgb; dirty = c.dirty }
+
 -- what is known is so
 pub record IsKnown (rects : List Rect) (d : Drawing) (known : Known) : Type 0 where
   pub own : IfSome known.own (IsOwnPart rects d)
   pub free : IfSome known.free (IsFreePart rects d)
+  pub plain : IfSome known.plain (IsPlain d)
 
 -- ---- shapes
 
@@ -191,3 +161,37 @@ pub record IsRunDrawn (d : Drawing) (old new : Spans) (run : Span) (first last :
 abbrev pub IsPatternOf : Drawing → List ℕ → Pixel → Pixel → Type 0
 IsPatternOf d rows first last = (x y : ℤ) → IsWithin first last x y
     → source_in d x y ≡ Some (slices.pattern_color (brush_of d.reach.now.states.now.top.state) rows (x -ℤ d.reach.now.window.x) (y -ℤ d.reach.now.window.y))
+
+-- where a shape is, it has the colour that its bit of a pattern picks
+abbrev pub IsColoredBy : Drawing → List ℕ → Type 0
+IsColoredBy d rows = (x y : ℤ) → IsInked d x y
+    → source_in d x y ≡ Some (slices.pattern_color (brush_of d.reach.now.states.now.top.state) rows (x -ℤ d.reach.now.window.x) (y -ℤ d.reach.now.window.y))
+
+-- of its row, the ink is on this pixel of the screen alone
+pub record IsOnlyDot (d : Drawing) (dot : Pixel) : Type 0 where
+  pub inked : IsInked d dot.x dot.y
+  pub others : (x : ℤ) → (x ≡ dot.x → ⊥) → source_in d x dot.y ≡ None
+
+-- ---- texts
+
+-- the ink lays the high colour where glyphs of a text are, and nothing elsewhere
+abbrev pub IsTextOf : Drawing → List ℕ → Type 0
+IsTextOf d codes = (x y : ℤ)
+    → source_in d x y ≡ (let s = d.reach.now.states.now.top.state in if inks.text_has codes s.pen.x s.pen.y (across_in d x) (down_in d y) then Some s.high else None)
+
+-- the rows of the screen from one to another are rows of the glyphs
+abbrev pub AreGlyphRows : Drawing → ℤ → ℤ → Type 0
+AreGlyphRows d top bottom =
+    let pen = d.reach.now.states.now.top.state.pen in
+    ((pen.y -ℤ pos 6) ≤ℤ down_in d top) × (down_in d bottom ≤ℤ pen.y)
+
+-- each of seven masks has the bits of 64 pixels of its row of a text, from a column of drawing on
+pub record AreMasksOf (codes : List ℕ) (pen_x pen_y x : ℤ) (masks : List ℕ) : Type 0 where
+  pub seven : length masks ≡ 7
+  pub each : (k row : ℕ) → k < 64 → row < 7 → slices.mask_bit (slice_index masks row) k ≡ inks.text_has codes pen_x pen_y (x +ℤ pos k) (pen_y -ℤ pos 6 +ℤ pos row)
+
+-- ---- pictures
+
+-- the ink lays the pixels of a picture whose left top is at a point of drawing
+abbrev pub IsPictureOf : Drawing → Picture → Point → Type 0
+IsPictureOf d picture corner = (x y : ℤ) → source_in d x y ≡ bitmap_pixel picture (across_in d x -ℤ corner.x) (down_in d y -ℤ corner.y)

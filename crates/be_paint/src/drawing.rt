@@ -1,15 +1,16 @@
-ghost use Rattle.std.specs.Prelude.{◌≡◌, ℕ, ℤ, pos, negsuc, ◌+ℤ◌, ◌-ℤ◌, ◌≤ℤ◌, ◌<ℤ◌, ◌⊎◌, true, None, Some, IfNone, IfSome, MatchOption};
+ghost use Rattle.std.specs.Prelude.{◌≡◌, ℤ, ◌+ℤ◌, ◌≤ℤ◌, ◌<ℤ◌, ◌⊎◌, true, None, Some, IfNone, IfSome, MatchOption};
 ghost use Rattle.be_shape.specs.Rows.{IsRow};
 ghost use Rattle.be_views.specs.Places.{IsNear};
-ghost use Rattle.be_paint.specs.Laying.{AreLeft, IsBand, IsDrawnBy, IsFreePart, IsInked, IsKnown, IsOwnPart, IsShapeOf, source_in};
+ghost use Rattle.be_paint.specs.Laying.{AreLeft, IsBand, IsFreePart, IsKnown, IsOwnPart, IsShapeOf, source_in};
 ghost use Rattle.be_paint.specs.Seen.{IsPlace, IsBase};
 ghost use Rattle.be_paint.specs.Stretches.{IsBeyond, IsCoordinate, IsInRange};
 
 use crate::ink::Ink;
 use crate::pixel::{Pixel, last_column, nearer};
 use crate::reach::Reach;
+use be_color::Rgb;
 use be_shape::{Raster, Row};
-use be_span::{Source, Span, SpanBuf};
+use be_span::{Span, SpanBuf};
 
 /// An ink where a view draws it, with what is found once and not for each run.
 #[derive(Clone, Copy)]
@@ -32,13 +33,15 @@ pub(crate) struct Part {
     pub span: Span,
 }
 
-/// What the reach answered last, so that it isn't asked again.
+/// What was found once: of the reach what it answered last.
 #[derive(Clone, Copy)]
 pub(crate) struct Known {
     /// Pixels that the window owns and the view is at.
     pub own: Option<Part>,
     /// Pixels on which the view may draw.
     pub free: Option<Part>,
+    /// The colour that the ink gives each of its pixels, whatever it was.
+    pub plain: Option<Rgb>,
 }
 
 impl Part {
@@ -51,13 +54,16 @@ impl Part {
 }
 
 impl Known {
-    pub(crate) fn nothing() -> Known
+    /// No pixels yet, of an ink that gives each the same colour, if it does.
+    pub(crate) fn of(plain: Option<Rgb>) -> Known
         ensures own { result.own ≡ None }
         ensures free { result.free ≡ None }
+        ensures plain { result.plain ≡ plain }
     {
         Known {
             own: None,
             free: None,
+            plain,
         }
     }
 }
@@ -101,6 +107,26 @@ impl Drawing<'_> {
         (Some(span), last)
     }
 
+    /// Pixels from one on, right and down, on which the view may draw. None where it may not draw on that one.
+    pub(crate) fn free_at(&self, spans: &SpanBuf, at: Pixel, known: &mut Known) -> Option<Part>
+        requires view { IsPlace self.now.view }
+        requires far { IsInRange self.now.far }
+        requires from { IsInRange at }
+        requires forward { IsBeyond at self.now.far }
+        requires known { IsKnown spans.now.rects self.now known.old }
+        ensures free { IfSome result (IsFreePart spans.now.rects self.now) }
+        ensures from { IfSome result (λ part. IsBeyond part.first at × IsBeyond at part.last) }
+        ensures left { IfNone result (AreLeft spans.now.rects self.now at at) }
+        ensures known { IsKnown spans.now.rects self.now known.new }
+    {
+        let (span, last) = self.block_at(spans, at, known);
+        Some(Part {
+            first: at,
+            last,
+            span: span?,
+        })
+    }
+
     /// The same of whether the window owns the pixels and the view is at them.
     fn own_block(&self, spans: &SpanBuf, at: Pixel, known: &mut Known) -> (Option<Span>, Pixel)
         requires far { IsInRange self.now.far }
@@ -116,14 +142,13 @@ impl Drawing<'_> {
         if let Some(own) = covering(known.own, at, at) {
             return (Some(own.span), own.last);
         }
-        let (own, last) = self.reach.own_block(spans.region(), at, self.far);
-        if !own {
+        let Some(span) = spans.span_at(at.x, at.y) else {
+            return (None, self.reach.gap_block(spans.region(), at, self.far));
+        };
+        let (seen, last) = self.reach.seen_block(at, nearer(self.far, last_of(span)));
+        if !seen {
             return (None, last);
         }
-        let Some(span) = spans.span_at(at.x, at.y) else {
-            return (None, last);
-        };
-        let last = nearer(last, last_of(span));
         known.own = Some(Part {
             first: at,
             last,
@@ -151,58 +176,6 @@ impl Drawing<'_> {
         (row, last_column(raster.alike(y - top), top, end))
     }
 
-    /// With what the ink paints the pixels of a row from a pixel of the screen on, and up to which column, `end` at most.
-    /// A shape is at all of them up to there. None where the ink isn't there.
-    pub(crate) fn run_at(&self, x: i32, y: i32, end: i32) -> (Option<Source<'_>>, i32)
-        requires view { IsPlace self.now.view }
-        requires base { IsBase self.now.base }
-        requires row { IsCoordinate y }
-        requires left { negsuc 32767 ≤ℤ x }
-        requires forward { x ≤ℤ end }
-        requires right { end ≤ℤ pos 32767 }
-        requires inked { (z : ℤ) → x ≤ℤ z → z ≤ℤ end → IsInked self.now z y }
-        ensures forward { x ≤ℤ result.1 }
-        ensures within { result.1 ≤ℤ end }
-        ensures each { (k : ℕ) → (x +ℤ pos k) ≤ℤ result.1
-            → IsDrawnBy self.now (x +ℤ pos k) y result.0 k }
-    {
-        let local = self.in_window(x, y);
-        let at = self.in_drawing(local);
-        let first = self.first_column();
-        let state = self.reach.states.top();
-        let (source, last) = self.ink.run_at(state, local, at, end - first);
-        (source, last_column(last, first, end))
-    }
-
-    /// A pixel of the screen in window coordinates.
-    fn in_window(&self, x: i32, y: i32) -> Pixel
-        requires column { IsCoordinate x }
-        requires row { IsCoordinate y }
-        ensures across { result.x ≡ x -ℤ self.now.reach.now.window.x }
-        ensures down { result.y ≡ y -ℤ self.now.reach.now.window.y }
-        ensures near { IsNear 2 result.x × IsNear 2 result.y }
-    {
-        Pixel {
-            x: x - i32::from(self.reach.window.x),
-            y: y - i32::from(self.reach.window.y),
-        }
-    }
-
-    /// A pixel of the window in drawing coordinates.
-    fn in_drawing(&self, local: Pixel) -> Pixel
-        requires view { IsPlace self.now.view }
-        requires base { IsBase self.now.base }
-        requires near { IsNear 2 local.x × IsNear 2 local.y }
-        ensures across { result.x ≡ local.x -ℤ self.now.view.x -ℤ self.now.base.x }
-        ensures down { result.y ≡ local.y -ℤ self.now.view.y -ℤ self.now.base.y }
-        ensures near { IsNear 60 result.x × IsNear 60 result.y }
-    {
-        Pixel {
-            x: local.x - self.view.x - self.base.x,
-            y: local.y - self.view.y - self.base.y,
-        }
-    }
-
     /// The column of the screen from which drawing counts.
     pub(crate) fn first_column(&self) -> i32
         requires view { IsPlace self.now.view }
@@ -226,7 +199,7 @@ impl Drawing<'_> {
     }
 
     /// The row of the screen from which drawing counts.
-    fn first_row(&self) -> i32
+    pub(crate) fn first_row(&self) -> i32
         requires view { IsPlace self.now.view }
         requires base { IsBase self.now.base }
         ensures row { result ≡ self.now.reach.now.window.y +ℤ self.now.view.y +ℤ self.now.base.y }

@@ -1,27 +1,28 @@
-ghost use Rattle.std.specs.Prelude.{◌≡◌, ◌⊎◌, ◌<◌, ℕ, ℤ, pos, negsuc, ◌+ℤ◌, ◌≤ℤ◌, ◌<ℤ◌, true, IsSome, length, count_by};
+ghost use Rattle.std.specs.Prelude.{◌≡◌, ℤ, ◌<◌, length, count_by};
 ghost use Rattle.std.specs.Option.{option_map};
 ghost use Rattle.be_region.specs.Regions.{region_has};
-ghost use Rattle.be_span.specs.Runs.{IsSpanOf};
 ghost use Rattle.be_span.specs.Spans.{cell_in};
 ghost use Rattle.be_paint.specs.Reach as reaches;
 ghost use Rattle.be_paint.specs.Inks.{painted_cell};
 ghost use Rattle.be_region.specs.Frames.{IsFrame};
 ghost use Rattle.be_shape.specs.Rows.{IsRow, IsSpan};
+ghost use Rattle.be_shape.specs.declared.Raster.TheVariants.{Fill};
 ghost use Rattle.be_views.specs.Places.{IsNear};
-ghost use Rattle.be_paint.specs.Laying.{ink_of, drawn_cell, run_cell, AreFree, AreInked, HasNoneBeside, IsBand, IsDrawnWithin, IsInked, IsInkedRun, IsInSpan, IsKnown, IsPatternOf, IsRunDrawn, IsShapeOf, IsThere};
-ghost use Rattle.be_paint.specs.Seen.{may_draw, IsSeenAs, IsPlace, IsBase};
-ghost use Rattle.be_paint.specs.Stretches.{IsBeyond, IsCoordinate, IsInRange};
+ghost use Rattle.be_paint.specs.Laying.{ink_of, drawn_cell, AreInked, HasNoneBeside, IsBand, IsColoredBy, IsDrawnWithin, IsInkedRun, IsKnown, IsRunDrawn, IsShapeOf, IsThere};
+ghost use Rattle.be_paint.specs.Seen.{IsSeenAs, IsPlace, IsBase};
+ghost use Rattle.be_paint.specs.Stretches.{IsBeyond, IsInRange};
 
+use crate::dots::{draw_dots, plain_color};
 use crate::drawing::{Drawing, Known, covering};
 use crate::ink::{Ink, image_columns, text_columns};
+use crate::laying::lay;
 use crate::pixel::{Pixel, nearer};
 use crate::place::place_of;
 use crate::reach::Reach;
-use be_color::{Pattern, pick};
+use be_color::Pattern;
 use be_geom::Rect;
 use be_shape::{Raster, Row, Span as Columns};
-use be_span::{Brush, Source, Span, SpanBuf};
-use be_state::State;
+use be_span::SpanBuf;
 
 /// Draws an ink where the view may draw. A pixel is painted once, by the mode of the state in force, and keeps its mark.
 pub fn paint(spans: &mut SpanBuf, reach: &Reach<'_>, ink: &Ink<'_>)
@@ -100,7 +101,7 @@ fn draw_within(spans: &mut SpanBuf, drawing: &Drawing<'_>, at: Pixel, end: Pixel
 {
     let pen = drawing.reach.states.top().pen;
     match drawing.ink {
-        Ink::Shape(raster, _) => draw_shape(spans, drawing, raster, at, end),
+        Ink::Shape(raster, pattern) => draw_shape(spans, drawing, raster, pattern, at, end),
         Ink::Text(codes) => draw_columns(spans, drawing, text_columns(codes, pen), at, end),
         Ink::Image(bitmap, corner) => {
             draw_columns(spans, drawing, image_columns(bitmap, *corner), at, end);
@@ -137,13 +138,20 @@ fn draw_columns(
     if first <= last {
         let at = Pixel { x: first, y: at.y };
         let end = Pixel { x: last, y: end.y };
-        let mut known = Known::nothing();
-        draw_area(spans, drawing, at, end, &mut known);
+        let mut known = Known::of(None);
+        draw_part(spans, drawing, at, end, &mut known);
     }
 }
 
-/// The same of a shape: its rows, those that are alike at once.
-fn draw_shape(spans: &mut SpanBuf, drawing: &Drawing<'_>, raster: &Raster, at: Pixel, end: Pixel)
+/// The same of a shape.
+fn draw_shape(
+    spans: &mut SpanBuf,
+    drawing: &Drawing<'_>,
+    raster: &Raster,
+    pattern: &Pattern,
+    at: Pixel,
+    end: Pixel,
+)
     requires view { IsPlace drawing.now.view }
     requires base { IsBase drawing.now.base }
     requires far { IsInRange drawing.now.far }
@@ -151,12 +159,87 @@ fn draw_shape(spans: &mut SpanBuf, drawing: &Drawing<'_>, raster: &Raster, at: P
     requires forward { IsBeyond at end }
     requires to { IsBeyond end drawing.now.far }
     requires shape { IsShapeOf raster.now drawing.now }
+    requires colors { IsColoredBy drawing.now pattern.now.rows }
     ensures region { spans.new.rects ≡ spans.old.rects }
     ensures cells { IsDrawnWithin drawing.now spans.old spans.new at end }
     ensures marks { count_by (λ c. c.dirty) spans.new.cells
         ≡ count_by (λ c. c.dirty) spans.old.cells }
 {
-    let mut known = Known::nothing();
+    let plain = plain_color(drawing.reach.states.top(), pattern);
+    if let Some(line) = raster.steep() {
+        if let Some(color) = plain {
+            draw_dots(spans, drawing, line, color, at, end);
+            return;
+        }
+    }
+    let mut known = Known::of(plain);
+    match raster {
+        Raster::Fill(rect) => draw_fill(spans, drawing, *rect, at, end, &mut known),
+        Raster::Frame(_, _) | Raster::Line(_, _, _) => {
+            draw_bands(spans, drawing, raster, at, end, &mut known);
+        }
+    }
+}
+
+/// The same of a filled rectangle.
+fn draw_fill(
+    spans: &mut SpanBuf,
+    drawing: &Drawing<'_>,
+    rect: Rect,
+    at: Pixel,
+    end: Pixel,
+    known: &mut Known,
+)
+    requires view { IsPlace drawing.now.view }
+    requires base { IsBase drawing.now.base }
+    requires far { IsInRange drawing.now.far }
+    requires from { IsInRange at }
+    requires forward { IsBeyond at end }
+    requires to { IsBeyond end drawing.now.far }
+    requires shape { IsShapeOf (Fill rect) drawing.now }
+    requires known { IsKnown spans.old.rects drawing.now known.old }
+    ensures region { spans.new.rects ≡ spans.old.rects }
+    ensures cells { IsDrawnWithin drawing.now spans.old spans.new at end }
+    ensures marks { count_by (λ c. c.dirty) spans.new.cells
+        ≡ count_by (λ c. c.dirty) spans.old.cells }
+{
+    let left = drawing.first_column();
+    let top = drawing.first_row();
+    let at = Pixel {
+        x: at.x.max(i32::from(rect.left) + left),
+        y: at.y.max(i32::from(rect.top) + top),
+    };
+    let end = Pixel {
+        x: end.x.min(i32::from(rect.right) + left),
+        y: end.y.min(i32::from(rect.bottom) + top),
+    };
+    if at.x <= end.x && at.y <= end.y {
+        draw_part(spans, drawing, at, end, known);
+    }
+}
+
+/// The same of a shape by its rows, those that are alike at once.
+fn draw_bands(
+    spans: &mut SpanBuf,
+    drawing: &Drawing<'_>,
+    raster: &Raster,
+    at: Pixel,
+    end: Pixel,
+    known: &mut Known,
+)
+    requires view { IsPlace drawing.now.view }
+    requires base { IsBase drawing.now.base }
+    requires far { IsInRange drawing.now.far }
+    requires from { IsInRange at }
+    requires forward { IsBeyond at end }
+    requires to { IsBeyond end drawing.now.far }
+    requires shape { IsShapeOf raster.now drawing.now }
+    requires known { IsKnown spans.old.rects drawing.now known.old }
+    ensures region { spans.new.rects ≡ spans.old.rects }
+    ensures cells { IsDrawnWithin drawing.now spans.old spans.new at end }
+    ensures marks { count_by (λ c. c.dirty) spans.new.cells
+        ≡ count_by (λ c. c.dirty) spans.old.cells }
+{
     let mut y = at.y;
     'bands: while y <= end.y {
         let (row, bottom) = drawing.band_at(raster, y, end.y);
@@ -165,7 +248,7 @@ fn draw_shape(spans: &mut SpanBuf, drawing: &Drawing<'_>, raster: &Raster, at: P
             x: end.x,
             y: bottom,
         };
-        draw_band(spans, drawing, row, from, to, &mut known);
+        draw_band(spans, drawing, row, from, to, known);
         y = bottom + 1;
     }
 }
@@ -239,6 +322,7 @@ fn draw_run(
 }
 
 /// Draws on the pixels from one on to another, at all of which the ink is.
+#[inline(always)]
 fn draw_part(spans: &mut SpanBuf, drawing: &Drawing<'_>, at: Pixel, end: Pixel, known: &mut Known)
     requires view { IsPlace drawing.now.view }
     requires base { IsBase drawing.now.base }
@@ -255,10 +339,13 @@ fn draw_part(spans: &mut SpanBuf, drawing: &Drawing<'_>, at: Pixel, end: Pixel, 
         ≡ count_by (λ c. c.dirty) spans.old.cells }
 {
     if let Some(free) = covering(known.free, at, end) {
-        draw_rows(spans, drawing, free.span, at, end);
+        lay(spans, drawing, known.plain, free.span, at, end);
         return;
     }
-    draw_area(spans, drawing, at, end, known);
+    match covering(drawing.free_at(spans, at, known), at, end) {
+        Some(free) => lay(spans, drawing, known.plain, free.span, at, end),
+        None => draw_area(spans, drawing, at, end, known),
+    }
 }
 
 /// The same where they may be in several blocks. The calls within one another are as many as the blocks that lie side by
@@ -321,168 +408,7 @@ fn draw_block(
     let (span, last) = drawing.block_at(spans, at, known);
     let last = nearer(last, end);
     if let Some(span) = span {
-        draw_rows(spans, drawing, span, at, last);
+        lay(spans, drawing, known.plain, span, at, last);
     }
     last
-}
-
-/// Draws on the pixels from one on to another, on each of which the view may draw, all in one rectangle of the region.
-fn draw_rows(spans: &mut SpanBuf, drawing: &Drawing<'_>, span: Span, at: Pixel, last: Pixel)
-    requires view { IsPlace drawing.now.view }
-    requires base { IsBase drawing.now.base }
-    requires from { IsInRange at }
-    requires forward { IsBeyond at last }
-    requires to { IsInRange last }
-    requires free { AreFree spans.old.rects drawing.now at last }
-    requires inked { AreInked drawing.now at last }
-    requires span { IsSpanOf spans.old.rects span }
-    requires within { IsInSpan span at last }
-    ensures region { spans.new.rects ≡ spans.old.rects }
-    ensures cells { IsDrawnWithin drawing.now spans.old spans.new at last }
-    ensures marks { count_by (λ c. c.dirty) spans.new.cells
-        ≡ count_by (λ c. c.dirty) spans.old.cells }
-{
-    match drawing.ink {
-        Ink::Shape(_, pattern) => draw_pattern(spans, drawing, span, pattern, at, last),
-        Ink::Text(_) | Ink::Image(_, _) => draw_each(spans, drawing, span, at, last),
-    }
-}
-
-/// The same with the colours that a pattern picks.
-fn draw_pattern(
-    spans: &mut SpanBuf,
-    drawing: &Drawing<'_>,
-    span: Span,
-    pattern: &Pattern,
-    at: Pixel,
-    last: Pixel,
-)
-    requires view { IsPlace drawing.now.view }
-    requires base { IsBase drawing.now.base }
-    requires from { IsInRange at }
-    requires forward { IsBeyond at last }
-    requires to { IsInRange last }
-    requires free { AreFree spans.old.rects drawing.now at last }
-    requires pattern { IsPatternOf drawing.now pattern.now.rows at last }
-    requires span { IsSpanOf spans.old.rects span }
-    requires within { IsInSpan span at last }
-    ensures region { spans.new.rects ≡ spans.old.rects }
-    ensures cells { IsDrawnWithin drawing.now spans.old spans.new at last }
-    ensures marks { count_by (λ c. c.dirty) spans.new.cells
-        ≡ count_by (λ c. c.dirty) spans.old.cells }
-{
-    let state = drawing.reach.states.top();
-    let window = drawing.reach.window;
-    let brush = Brush {
-        mode: state.mode,
-        high: state.high,
-        low: state.low,
-    };
-    if at.x == last.x && at.y == last.y {
-        let bit = pattern.bit(at.x - i32::from(window.x), at.y - i32::from(window.y));
-        let color = pick(state.mode, bit, state.high, state.low);
-        spans.paint_pixel(span, at.x, at.y, brush, color);
-    } else {
-        spans.paint_block(span, rect_of(at, last), brush, pattern, window);
-    }
-}
-
-/// The rectangle from one pixel to another.
-fn rect_of(at: Pixel, last: Pixel) -> Rect
-    requires from { IsInRange at }
-    requires to { IsInRange last }
-    ensures { result ≡ record { left = at.x; top = at.y; right = last.x; bottom = last.y } }
-{
-    Rect {
-        left: at.x as i16,
-        top: at.y as i16,
-        right: last.x as i16,
-        bottom: last.y as i16,
-    }
-}
-
-/// The same row by row.
-fn draw_each(spans: &mut SpanBuf, drawing: &Drawing<'_>, span: Span, at: Pixel, last: Pixel)
-    requires view { IsPlace drawing.now.view }
-    requires base { IsBase drawing.now.base }
-    requires from { IsInRange at }
-    requires forward { IsBeyond at last }
-    requires to { IsInRange last }
-    requires free { AreFree spans.old.rects drawing.now at last }
-    requires inked { AreInked drawing.now at last }
-    requires span { IsSpanOf spans.old.rects span }
-    requires within { IsInSpan span at last }
-    ensures region { spans.new.rects ≡ spans.old.rects }
-    ensures cells { IsDrawnWithin drawing.now spans.old spans.new at last }
-    ensures marks { count_by (λ c. c.dirty) spans.new.cells
-        ≡ count_by (λ c. c.dirty) spans.old.cells }
-{
-    let mut y = at.y;
-    'rows: while y <= last.y {
-        draw_row(spans, drawing, span, Pixel { x: at.x, y }, last.x);
-        y += 1;
-    }
-}
-
-/// Draws on the pixels of a row from one on to a column, on each of which the view may draw.
-fn draw_row(spans: &mut SpanBuf, drawing: &Drawing<'_>, span: Span, at: Pixel, right: i32)
-    requires view { IsPlace drawing.now.view }
-    requires base { IsBase drawing.now.base }
-    requires from { IsInRange at }
-    requires right { IsCoordinate right }
-    requires free { (x : ℤ) → at.x ≤ℤ x → x ≤ℤ right
-        → may_draw spans.old.rects drawing.now.reach.now drawing.now.view x at.y ≡ true }
-    requires inked { (x : ℤ) → at.x ≤ℤ x → x ≤ℤ right → IsInked drawing.now x at.y }
-    requires span { IsSpanOf spans.old.rects span }
-    requires within { IsInSpan span at record { x = right; y = at.y } }
-    ensures region { spans.new.rects ≡ spans.old.rects }
-    ensures painted { (x : ℤ) → at.x ≤ℤ x → x ≤ℤ right → cell_in spans.new x at.y
-        ≡ option_map (drawn_cell spans.old.rects drawing.now x at.y) (cell_in spans.old x at.y) }
-    ensures others { (z w : ℤ) → (w ≡ at.y → ⊥) ⊎ (z <ℤ at.x) ⊎ (right <ℤ z)
-        → cell_in spans.new z w ≡ cell_in spans.old z w }
-    ensures marks { count_by (λ c. c.dirty) spans.new.cells
-        ≡ count_by (λ c. c.dirty) spans.old.cells }
-{
-    let state = drawing.reach.states.top();
-    let y = at.y;
-    let mut x = at.x;
-    'runs: while x <= right {
-        let (source, last) = drawing.run_at(x, y, right);
-        paint_run(spans, span, state, Pixel { x, y }, last, source);
-        x = last + 1;
-    }
-}
-
-/// Paints the pixels of a row from one on up to the last column, unless they stay.
-fn paint_run(
-    spans: &mut SpanBuf,
-    span: Span,
-    state: &State,
-    at: Pixel,
-    last: i32,
-    source: Option<Source<'_>>,
-)
-    requires left { negsuc 32767 ≤ℤ at.x }
-    requires forward { at.x ≤ℤ last }
-    requires right { last ≤ℤ pos 32767 }
-    requires span { IsSpanOf spans.old.rects span }
-    requires within { IsInSpan span at record { x = last; y = at.y } }
-    ensures region { spans.new.rects ≡ spans.old.rects }
-    ensures painted { (k : ℕ) → (at.x +ℤ pos k) ≤ℤ last → cell_in spans.new (at.x +ℤ pos k) at.y
-        ≡ option_map (run_cell state.now source.entry k) (cell_in spans.old (at.x +ℤ pos k) at.y) }
-    ensures others { (z w : ℤ) → (w ≡ at.y → ⊥) ⊎ (z <ℤ at.x) ⊎ (last <ℤ z)
-        → cell_in spans.new z w ≡ cell_in spans.old z w }
-    ensures marks { count_by (λ c. c.dirty) spans.new.cells
-        ≡ count_by (λ c. c.dirty) spans.old.cells }
-{
-    let Some(source) = source else {
-        return;
-    };
-    let count = (last - at.x + 1) as usize;
-    let brush = Brush {
-        mode: state.mode,
-        high: state.high,
-        low: state.low,
-    };
-    spans.paint_in(span, at.x, at.y, count, brush, source);
 }

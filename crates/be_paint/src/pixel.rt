@@ -1,6 +1,7 @@
 ghost use Rattle.std.specs.Prelude.{◌≡◌, ℤ, negsuc, pos, ◌+ℤ◌, ◌-ℤ◌, ◌≤ℤ◌, ◌⊎◌};
 ghost use Rattle.be_paint.specs.Seen.{IsOrigin};
-ghost use Rattle.be_paint.specs.Stretches.{IsBeyond, IsInRange};
+ghost use Rattle.be_views.specs.Places.{IsNear};
+ghost use Rattle.be_paint.specs.Stretches.{IsBeyond, IsCoordinate, IsInRange};
 
 use be_region::Corner;
 
@@ -69,4 +70,14 @@ pub(crate) fn columns(x: i32, last: i32) -> usize
     ensures { pos result ≡ last -ℤ x +ℤ pos 1 }
 {
     (last - x + 1) as usize
+}
+
+/// How far it is from a column to another one that isn't before it, or from a row to another.
+pub(crate) fn steps(from: i32, to: i32) -> usize
+    requires from { IsNear 64 from }
+    requires forward { from ≤ℤ to }
+    requires to { IsCoordinate to }
+    ensures { pos result ≡ to -ℤ from }
+{
+    (to - from) as usize
 }

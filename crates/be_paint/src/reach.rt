@@ -1,10 +1,11 @@
-ghost use Rattle.std.specs.Prelude.{◌≡◌, ℤ, pos, negsuc, ◌+ℤ◌, ◌-ℤ◌, ◌≤ℤ◌, ◌&&◌, None, IfNone, IfSome};
+ghost use Rattle.std.specs.Prelude.{◌≡◌, ℤ, pos, negsuc, ◌+ℤ◌, ◌-ℤ◌, ◌≤ℤ◌, ◌&&◌, None, Some, IfNone, IfSome};
 ghost use Rattle.be_geom.specs.Numbers.{is_number};
 ghost use Rattle.be_state.specs.Stacks.{allows};
 ghost use Rattle.be_views.specs.Places.{IsNear};
 ghost use Rattle.be_views.specs.Trees.{place_of};
 ghost use Rattle.be_paint.specs.Seen.{view_on, is_own, is_allowed, is_open, may_draw, IsPlace, IsOrigin, IsSite};
-ghost use Rattle.be_paint.specs.Stretches.{IsStretch, IsPatch, IsBeyond, IsInRange, IsCoordinate};
+ghost use Rattle.be_region.specs.Regions.{region_has};
+ghost use Rattle.be_paint.specs.Stretches.{IsStretch, IsPatch, IsBeyond, IsInRange, IsCoordinate, IsWithin};
 
 use crate::pixel::{Pixel, last_column, last_pixel};
 use crate::place::place_of;
@@ -101,21 +102,57 @@ impl Reach<'_> {
         self.session_block(at, last)
     }
 
-    /// The same of whether the window owns a pixel and the view is at it. `owned` is what it owns.
-    pub(crate) fn own_block(&self, owned: &Region, at: Pixel, end: Pixel) -> (bool, Pixel)
+    /// The same of whether the view is at the pixel.
+    pub(crate) fn seen_block(&self, at: Pixel, end: Pixel) -> (bool, Pixel)
         requires from { IsInRange at }
         requires forward { IsBeyond at end }
         requires to { IsInRange end }
-        ensures answer { result.0 ≡ is_own owned.now self.now at.x at.y }
-        ensures block { IsPatch (is_own owned.now self.now) at end result.1 }
+        ensures answer { result.0 ≡ is_number self.now.view (view_on self.now at.x at.y) }
+        ensures block { IsPatch (λ x y. is_number self.now.view (view_on self.now x y)) at end result.1 }
     {
-        let (has, corner) = owned.block_at(at.x, at.y);
-        let last = last_pixel(corner, HERE, end);
-        if !has {
-            return (false, last);
+        if let Some(last) = self.root_block(at, end) {
+            return (self.view == 0, last);
         }
-        let (view, last) = self.view_block(at, last);
+        let (view, last) = self.view_block(at, end);
         (is_number(view, self.view), last)
+    }
+
+    /// A last pixel up to which the root is at all of them, where the window has no other view. None where it isn't at the
+    /// first one, and where there are other views.
+    fn root_block(&self, at: Pixel, end: Pixel) -> Option<Pixel>
+        requires from { IsInRange at }
+        requires forward { IsBeyond at end }
+        requires to { IsInRange end }
+        ensures forward { IfSome result (λ last. IsBeyond at last × IsBeyond last end) }
+        ensures root { IfSome result (λ last. (x y : ℤ) → IsWithin at last x y → view_on self.now x y ≡ Some 0) }
+    {
+        if self.tree.len() != 1 {
+            return None;
+        }
+        let root = self.tree.frame_of(0)?;
+        let offset = self.left_top();
+        let left = i32::from(root.left) + offset.x;
+        let top = i32::from(root.top) + offset.y;
+        let right = i32::from(root.right) + offset.x;
+        let bottom = i32::from(root.bottom) + offset.y;
+        if at.x < left || right < at.x || at.y < top || bottom < at.y {
+            return None;
+        }
+        Some(Pixel {
+            x: right.min(end.x),
+            y: bottom.min(end.y),
+        })
+    }
+
+    /// A last pixel up to which the window owns none, from one on that it doesn't own. `owned` is what it owns.
+    pub(crate) fn gap_block(&self, owned: &Region, at: Pixel, end: Pixel) -> Pixel
+        requires from { IsInRange at }
+        requires forward { IsBeyond at end }
+        requires to { IsInRange end }
+        ensures block { IsPatch (region_has owned.now) at end result }
+    {
+        let (_, corner) = owned.block_at(at.x, at.y);
+        last_pixel(corner, HERE, end)
     }
 
     /// The same of the number of the view that is at the pixel.

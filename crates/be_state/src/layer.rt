@@ -100,6 +100,7 @@ impl Layer {
 
     /// Whether the clip holds the pixel, and a last column and a last row up to which that stays
     /// so, for all pixels that are neither left of this one nor above it.
+    #[inline(always)]
     pub(crate) fn block_at(&self, x: i32, y: i32) -> (bool, Corner)
         ensures answer { result.0 ≡ clip_has self.now.clip x y }
         ensures block { IsBlock (clip_has self.now.clip) x y result.1.right result.1.bottom }

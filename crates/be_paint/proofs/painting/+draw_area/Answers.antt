@@ -7,6 +7,7 @@ use Rattle.be_paint.specs.Stretches.{IsWithin}
 use Rattle.be_span.specs.Spans.{Spans}
 use Rattle.be_paint.specs.declared.drawing.Known.{Known}
 use Rattle.be_paint.specs.declared.pixel.Pixel.{Pixel}
+use Rattle.be_paint.proofs.PatchLemmas.{next_fits}
 use Rattle.be_paint.proofs.RowLemmas.{abs_less}
 use Rattle.be_paint.proofs.WithinLemmas.{none_within, join_down, join_right}
 use Rattle.be_paint.proofs.painting.+draw_area.Goals as goal
@@ -108,7 +109,7 @@ rows-preserved t c =
     let d = c.args.drawing.now in
     let now = c.rows.spans in
     let last = c.draw_block-last.result in
-    let more : SFits w32 (last.y +ℤ pos 1) = search rules in
+    let more = next_fits last.y (omega (arith, ints)) (omega (arith, ints)) in
     let next : SFits w32 (last.x +ℤ pos 1) = search rules in
     let here : Pixel = record { x = c.args.at.x; y = y } in
     let end : Pixel = record { x = c.args.end.x; y = last.y +ℤ pos 1 -ℤ pos 1 } in

@@ -4,8 +4,8 @@ use Rattle.be_paint.specs.Laying.{across_in, down_in}
 use Rattle.be_paint.proofs.PatternLemmas.{columns_drawn, columns_none}
 use Rattle.be_paint.proofs.painting.draw_columns.Goals as goal
 
-pub draw_area-requires-clause-from : goal.draw_area-requires-clause-from
-draw_area-requires-clause-from c =
+pub draw_part-requires-clause-from : goal.draw_part-requires-clause-from
+draw_part-requires-clause-from c =
     let ax : SFits w32 c.args.at.x = search rules in
     let ay : SFits w32 c.args.at.y = search rules in
     let ex : SFits w32 c.args.end.x = search rules in
@@ -27,8 +27,8 @@ draw_area-requires-clause-from c =
     let wide = c.requires.far.0.1 in
     simp to_z-of_z ((omega (arith, ints, clamps), omega (arith, ints, clamps)), c.requires.from.1)
 
-pub draw_area-requires-clause-to : goal.draw_area-requires-clause-to
-draw_area-requires-clause-to c =
+pub draw_part-requires-clause-to : goal.draw_part-requires-clause-to
+draw_part-requires-clause-to c =
     let ey : SFits w32 c.args.end.y = search rules in
     let ex : SFits w32 c.args.end.x = search rules in
     let lf : SFits w32 c.first_column-left.result = search rules in
@@ -40,8 +40,8 @@ draw_area-requires-clause-to c =
     let across = c.requires.to.0 in
     simp to_z-of_z (omega (arith, ints, clamps), c.requires.to.1)
 
-pub draw_area-requires-clause-inked : goal.draw_area-requires-clause-inked
-draw_area-requires-clause-inked c x y in_it =
+pub draw_part-requires-clause-inked : goal.draw_part-requires-clause-inked
+draw_part-requires-clause-inked c x y in_it =
     let d = c.args.drawing.now in
     c.requires.there (across_in d x) (down_in d y)
 
@@ -63,8 +63,8 @@ returns-then-first-last-clause-cells c =
     let cl : SFits w32 (c.args.columns.1 +ℤ c.first_column-left.result) = search rules in
     let start = simp to_z-of_z at c.max-first.ensures.value in
     let finish = simp to_z-of_z at c.min-last.ensures.value in
-    let cells = simp to_z-of_z at c.draw_area.ensures.cells in
-    columns_drawn c.args.drawing.now c.args.spans.now c.draw_area.new.spans c.args.at c.args.end c.args.columns.0 c.args.columns.1 c.first_column-left.result c.max-first.result c.min-last.result c.requires.none c.first_column-left.ensures.column start finish cells
+    let cells = simp to_z-of_z at c.draw_part.ensures.cells in
+    columns_drawn c.args.drawing.now c.args.spans.now c.draw_part.new.spans c.args.at c.args.end c.args.columns.0 c.args.columns.1 c.first_column-left.result c.max-first.result c.min-last.result c.requires.none c.first_column-left.ensures.column start finish cells
 
 pub returns-else-first-last-clause-cells : goal.returns-else-first-last-clause-cells
 returns-else-first-last-clause-cells c =

@@ -22,4 +22,4 @@ returns-clause-free c =
     free_part rects d at mid c.open_block-open.result.1 c.in-Some-own.span (subst P c.in-Some-own.is c.own_block-own.ensures.own) c.open_block-open.ensures.block (sym c.open_block-open.ensures.answer ∙ c.if-not-open.false)
 
 pub returns-clause-known : goal.returns-clause-known
-returns-clause-known c = record { own = c.own_block-own.ensures.known.own; free = returns-clause-free c }
+returns-clause-known c = record { own = c.own_block-own.ensures.known.own; free = returns-clause-free c; plain = c.own_block-own.ensures.known.plain }

@@ -1,0 +1,16 @@
+use Rattle.std.proofs.Common.{◌≡◌, pos, ◌+ℤ◌, ◌-ℤ◌, ◌≤ℤ◌, count_by}
+use Rattle.be_state.proofs.PartLemmas.{columns_after}
+use Rattle.be_paint.specs.Laying.{IsDrawnWithin}
+use Rattle.be_paint.proofs.dots.draw_dots_in.Given as goal
+
+abbrev pub invariant-rows : goal.invariant-rows
+invariant-rows l = record {
+  from : l.fn.at.y ≤ℤ l.y;
+  to : l.y ≤ℤ (l.fn.end.y +ℤ pos 1);
+  region : l.spans.rects ≡ l.fn.spans.rects;
+  done : IsDrawnWithin l.fn.drawing l.fn.spans l.spans l.fn.at record { x = l.fn.end.x; y = l.y -ℤ pos 1 };
+  marks : count_by (λ c. c.dirty) l.spans.cells ≡ count_by (λ c. c.dirty) l.fn.spans.cells;
+}
+
+abbrev pub decreases-rows : goal.decreases-rows
+decreases-rows l = columns_after l.y
