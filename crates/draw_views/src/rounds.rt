@@ -5,6 +5,7 @@ use be_color::Rgb;
 use be_geom::{NoMemory, Point};
 use be_paint::{Ink, Reach, paint};
 use be_span::SpanBuf;
+use be_state::StateStack;
 use std::alloc::Global;
 
 /// Draws so many rounds, one at least, on a white window, and gives how many of its pixels aren't white behind that.
@@ -18,45 +19,56 @@ pub fn painted_pixels(
     let mut spans = window_of(alloc, setting)?;
     let mut place = Place::new(alloc, setting, side)?;
     if let Some(subject) = subject_of(alloc, kind, side)? {
-        for _round in 0..rounds.max(1) {
-            draw_round(&mut spans, &mut place, &subject, side);
-        }
+        draw_rounds(&mut spans, &mut place, &subject, side, rounds.max(1));
     }
     Ok(pixels_drawn(&spans))
 }
 
-fn draw_round(spans: &mut SpanBuf, place: &mut Place, subject: &Subject, side: i16) {
+fn draw_rounds(spans: &mut SpanBuf, place: &mut Place, subject: &Subject, side: i16, rounds: u32) {
     match subject {
         Subject::Shape(raster, pattern) => {
             let ink = Ink::Shape(*raster, *pattern);
-            draw(spans, place, &ink);
+            for _round in 0..rounds {
+                draw(spans, place, &ink);
+            }
         }
         Subject::Letters(codes) => {
             let ink = Ink::Text(codes);
-            text_round(spans, place, &ink, side);
+            for _round in 0..rounds {
+                text_round(spans, place, &ink, side);
+            }
         }
-        Subject::Picture(bitmap) => picture_round(spans, place, bitmap, side),
+        Subject::Picture(bitmap) => {
+            for _round in 0..rounds {
+                picture_round(spans, place, bitmap, side);
+            }
+        }
     }
 }
 
 /// Draws the lines of text, one below the other.
 fn text_round(spans: &mut SpanBuf, place: &mut Place, ink: &Ink<'_>, side: i16) {
     for line in 0..side / 8 {
-        let mut state = *place.states.top();
         let y = line.saturating_mul(8).saturating_add(6);
-        state.pen = Point { x: 0, y };
-        place.states.set(state);
+        move_pen(&mut place.states, Point { x: 0, y });
         draw(spans, place, ink);
+    }
+}
+
+/// Moves the pen, unless it is there.
+fn move_pen(states: &mut StateStack, pen: Point) {
+    if states.top().pen != pen {
+        let mut state = *states.top();
+        state.pen = pen;
+        states.set(state);
     }
 }
 
 /// Draws the picture as often as the square has room for it.
 fn picture_round(spans: &mut SpanBuf, place: &Place, bitmap: &Bitmap, side: i16) {
     let across = (side / TILE).clamp(1, 4) as u8;
-    for number in 0..16u8 {
-        let column = number % 4;
-        let row = number / 4;
-        if column < across && row < across {
+    for row in 0..across {
+        for column in 0..across {
             let corner = Point {
                 x: i16::from(column).saturating_mul(TILE),
                 y: i16::from(row).saturating_mul(TILE),
