@@ -108,6 +108,48 @@ fn rows_of_lines(rt: HostRuntime) {
     }
 }
 
+/// The column of a row of a steep line. None of any other shape.
+fn column_of(shape: &Raster, y: i32) -> Option<i32> {
+    match shape.steep() {
+        Some(line) => line.column(y),
+        None => None,
+    }
+}
+
+#[test]
+fn columns_of_steep_lines(rt: HostRuntime) {
+    // Down and to the right: its points have the columns 1, 1, 2, 2, 3 and 3.
+    let steep = line(&rt, [1, -2, 3, 3], 1);
+    let diagonal = line(&rt, [0, 0, 3, -3], 1);
+    let gentle = line(&rt, [0, 0, 5, 2], 1);
+    let thick = line(&rt, [1, -2, 3, 3], 2);
+    for (shape, due) in [
+        (&steep, true),
+        (&diagonal, true),
+        (&gentle, false),
+        (&thick, false),
+    ] {
+        assert_eq!(rt; shape.steep().is_some(), due, "{shape:?}");
+    }
+    for (shape, y, due) in [
+        (&steep, -3, None),
+        (&steep, -2, Some(1)),
+        (&steep, -1, Some(1)),
+        (&steep, 0, Some(2)),
+        (&steep, 1, Some(2)),
+        (&steep, 2, Some(3)),
+        (&steep, 3, Some(3)),
+        (&steep, 4, None),
+        (&diagonal, -4, None),
+        (&diagonal, -2, Some(2)),
+        (&diagonal, 1, None),
+        (&gentle, 1, None),
+        (&thick, 0, None),
+    ] {
+        assert_eq!(rt; column_of(shape, y), due, "{shape:?} in row {y}");
+    }
+}
+
 /// Whether the rows from one down to a last one have the same columns, of those from -4 to 9.
 fn have_the_same(shape: &Raster, y: i32, last: i32) -> bool {
     for z in y..=last {

@@ -1,4 +1,4 @@
-ghost use Rattle.std.specs.Prelude.{◌≡◌, pos, negsuc, ◌+ℤ◌, ◌-ℤ◌, ◌≤ℤ◌, true, IfSome};
+ghost use Rattle.std.specs.Prelude.{◌≡◌, pos, negsuc, ◌+ℤ◌, ◌-ℤ◌, ◌≤ℤ◌, true, IfSome, length};
 ghost use Rattle.be_span.specs.Runs.{IsSpanOf};
 
 use be_color::{Color, Mode, Pattern, Rgb};
@@ -355,6 +355,118 @@ fn blocks_are_painted_in_a_span(rt: HostRuntime) -> Result<(), Fail> {
         let mut spans = two_rects(rt.alloc())?;
         let block = rect(1, 0, 3, 1);
         assert!(rt; paint_block(&mut spans, block, brush_of(mode), pattern, origin));
+        check(&rt, &spans, picture);
+    }
+    Ok(())
+}
+
+/// Gives the pixels of a rectangle that is in a span a colour.
+fn recolor_within(spans: &mut SpanBuf, span: Span, rect: Rect, rgb: Rgb)
+    requires span { IsSpanOf spans.old.rects span }
+    requires left { span.rect.left ≤ℤ rect.left }
+    requires across { rect.left ≤ℤ rect.right }
+    requires right { rect.right ≤ℤ span.rect.right }
+    requires top { span.rect.top ≤ℤ rect.top }
+    requires down { rect.top ≤ℤ rect.bottom }
+    requires bottom { rect.bottom ≤ℤ span.rect.bottom }
+{
+    spans.recolor_block(span, rect, rgb);
+}
+
+/// The same, where they are in one span.
+fn recolor_block(spans: &mut SpanBuf, rect: Rect, rgb: Rgb) -> bool {
+    let Some(span) = spans.span_at(i32::from(rect.left), i32::from(rect.top)) else {
+        return false;
+    };
+    let outer = span.rect();
+    if !has_pixels(rect) {
+        return false;
+    }
+    if rect.left < outer.left || outer.right < rect.right {
+        return false;
+    }
+    if rect.top < outer.top || outer.bottom < rect.bottom {
+        return false;
+    }
+    recolor_within(spans, span, rect, rgb);
+    true
+}
+
+#[test]
+fn blocks_get_a_color_in_a_span(rt: HostRuntime) -> Result<(), Fail> {
+    let mut spans = two_rects(rt.alloc())?;
+    assert!(rt; recolor_block(&mut spans, rect(1, 0, 3, 1), RED));
+    check(&rt, &spans, ".rrr..--../.rrr..--../......--..");
+    assert!(rt; recolor_block(&mut spans, rect(9, 1, 9, 2), BLUE));
+    check(&rt, &spans, ".rrr..--../.rrr..--.b/......--.b");
+    Ok(())
+}
+
+/// How many rows a rectangle has.
+fn rows_of(rect: Rect) -> usize
+    requires down { rect.top ≤ℤ rect.bottom }
+    ensures { pos result ≡ rect.bottom -ℤ rect.top +ℤ pos 1 }
+{
+    columns(i32::from(rect.top), i32::from(rect.bottom))
+}
+
+/// Paints the pixels of a rectangle that is in a span, by a mask for each row.
+fn paint_marked(
+    spans: &mut SpanBuf,
+    span: Span,
+    rect: Rect,
+    brush: Brush,
+    color: Color,
+    masks: &[u64],
+)
+    requires span { IsSpanOf spans.old.rects span }
+    requires left { span.rect.left ≤ℤ rect.left }
+    requires across { rect.left ≤ℤ rect.right }
+    requires right { rect.right ≤ℤ span.rect.right }
+    requires top { span.rect.top ≤ℤ rect.top }
+    requires down { rect.top ≤ℤ rect.bottom }
+    requires bottom { rect.bottom ≤ℤ span.rect.bottom }
+    requires rows { pos (length masks.now) ≡ rect.bottom -ℤ rect.top +ℤ pos 1 }
+{
+    spans.paint_masks(span, rect, brush, color, masks);
+}
+
+/// The same, where they are in one span and there are as many masks as rows.
+fn paint_masks(spans: &mut SpanBuf, rect: Rect, brush: Brush, color: Color, masks: &[u64]) -> bool {
+    let Some(span) = spans.span_at(i32::from(rect.left), i32::from(rect.top)) else {
+        return false;
+    };
+    let outer = span.rect();
+    if !has_pixels(rect) {
+        return false;
+    }
+    if rect.left < outer.left || outer.right < rect.right {
+        return false;
+    }
+    if rect.top < outer.top || outer.bottom < rect.bottom {
+        return false;
+    }
+    let rows = rows_of(rect);
+    if masks.len() != rows {
+        return false;
+    }
+    paint_marked(spans, span, rect, brush, color, masks);
+    true
+}
+
+#[test]
+fn masks_are_painted_in_a_span(rt: HostRuntime) -> Result<(), Fail> {
+    let blue = Color::Solid(BLUE);
+    // From the left the bits are 1 0 0 1 and 0 1 0 0; no column has the lowest one.
+    let masks = [0x9000000000000000u64, 0x4000000000000001];
+    for (mode, color, picture) in [
+        (Mode::Copy, blue, ".b..b.--../..b...--../......--.."),
+        (Mode::Erase, blue, ".l..l.--../..l...--../......--.."),
+        (Mode::Copy, Color::Clear, "......--../......--../......--.."),
+    ] {
+        let mut spans = two_rects(rt.alloc())?;
+        let block = rect(1, 0, 4, 1);
+        assert!(rt; paint_masks(&mut spans, block, brush_of(mode), color, &masks));
         check(&rt, &spans, picture);
     }
     Ok(())
