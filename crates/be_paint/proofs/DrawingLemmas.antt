@@ -18,7 +18,7 @@ use Rattle.be_span.proofs.LaidLemmas.{rect_inside}
 use Rattle.be_paint.specs.Inks.{laid_on_cell}
 use Rattle.be_paint.specs.Seen.{view_on, is_own, is_allowed, is_open, may_draw}
 use Rattle.be_paint.specs.Stretches.{IsBeyond, IsPatch, IsWithin}
-use Rattle.be_paint.specs.Laying.{HasNoneOutside, IsBand, IsInSpan, IsOwnPart, IsFreePart, IsKnown, IsPlain, IsShapeOf, across_in, down_in, ink_of, source_in, drawn_cell, AreLeft}
+use Rattle.be_paint.specs.Laying.{AreFree, HasNoneOutside, IsBand, IsInSpan, IsOwnPart, IsFreePart, IsKnown, IsPlain, IsShapeOf, across_in, down_in, ink_of, source_in, drawn_cell, AreLeft}
 use Rattle.be_paint.specs.declared.drawing.Drawing.{Drawing}
 use Rattle.be_paint.specs.declared.drawing.Known.{Known}
 use Rattle.be_paint.specs.declared.drawing.Part.{Part}
@@ -87,6 +87,23 @@ free_from rects d part at h beyond = record {
   span = h.span;
   inside = from_inside part.span part.first at part.last beyond h.inside;
 }
+
+-- pixels of a part: they are free, and in its rectangle
+pub covered : (rects : List Rect) (d : Drawing) (part : Part) (at end : Pixel) → IsFreePart rects d part → IsBeyond part.first at → IsBeyond end part.last → AreFree rects d at end
+covered rects d part at end is (a, b) (e, f) x y in_it =
+    let g = in_it.from_left in
+    let h = in_it.to_right in
+    let i = in_it.from_top in
+    let j = in_it.to_bottom in
+    is.free x y record { from_left = omega (arith, ints); to_right = omega (arith, ints); from_top = omega (arith, ints); to_bottom = omega (arith, ints) }
+
+pub covered_inside : (rects : List Rect) (d : Drawing) (part : Part) (at end : Pixel) → IsFreePart rects d part → IsBeyond part.first at → IsBeyond end part.last → IsInSpan part.span at end
+covered_inside rects d part at end is (a, b) (e, f) =
+    let i = is.inside.from_left in
+    let j = is.inside.to_right in
+    let k = is.inside.from_top in
+    let l = is.inside.to_bottom in
+    record { from_left = omega (arith, ints); to_right = omega (arith, ints); from_top = omega (arith, ints); to_bottom = omega (arith, ints) }
 
 -- a part of a rectangle of the region, on which the view is at each pixel
 pub own_part : (rects : List Rect) (d : Drawing) (at end last : Pixel) (span : SpanAt) → IsPatch (λ x y. is_number d.reach.now.view (view_on d.reach.now x y)) at end last → is_number d.reach.now.view (view_on d.reach.now at.x at.y) ≡ true → IsSpanOf rects span → IsInSpan span at last → IsOwnPart rects d record { first = at; last = last; span = span }
@@ -158,9 +175,10 @@ some_of : {A : Type 0} (P : A → Type 0) (o : Option A) → o ≡ None → IfSo
 some_of {A = A} P o e = subst (λ (a : Option A). IfSome a P) (sym e) tt
 
 -- no pixels, and the colour that the ink gives each of its pixels, if there is one
-pub known_at_first : (rects : List Rect) (d : Drawing) (known : Known) (plain : Option Rgb) → known.own ≡ None → known.free ≡ None → known.plain ≡ plain → IfSome plain (IsPlain d) → IsKnown rects d known
-known_at_first rects d known plain own free same is = record {
+pub known_at_first : (rects : List Rect) (d : Drawing) (known : Known) (plain : Option Rgb) → known.own ≡ None → known.free ≡ None → known.left ≡ None → known.plain ≡ plain → IfSome plain (IsPlain d) → IsKnown rects d known
+known_at_first rects d known plain own free none same is = record {
   own = some_of (IsOwnPart rects d) known.own own;
   free = some_of (IsFreePart rects d) known.free free;
+  left = some_of (λ b. AreLeft rects d b.first b.last) known.left none;
   plain = subst (λ (o : Option Rgb). IfSome o (IsPlain d)) (sym same) is;
 }

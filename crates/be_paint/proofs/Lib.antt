@@ -18,3 +18,4 @@ pub mod BandLemmas
 pub mod PictureLemmas
 pub mod DotLemmas
 pub mod TextLemmas
+pub mod LetterLemmas

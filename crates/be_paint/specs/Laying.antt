@@ -127,6 +127,7 @@ IsPlain d rgb = (x y : ℤ) → IsInked d x y → (c : Cell)
 pub record IsKnown (rects : List Rect) (d : Drawing) (known : Known) : Type 0 where
   pub own : IfSome known.own (IsOwnPart rects d)
   pub free : IfSome known.free (IsFreePart rects d)
+  pub left : IfSome known.left (λ b. AreLeft rects d b.first b.last)
   pub plain : IfSome known.plain (IsPlain d)
 
 -- ---- shapes
@@ -189,6 +190,11 @@ AreGlyphRows d top bottom =
 pub record AreMasksOf (codes : List ℕ) (pen_x pen_y x : ℤ) (masks : List ℕ) : Type 0 where
   pub seven : length masks ≡ 7
   pub each : (k row : ℕ) → k < 64 → row < 7 → slices.mask_bit (slice_index masks row) k ≡ inks.text_has codes pen_x pen_y (x +ℤ pos k) (pen_y -ℤ pos 6 +ℤ pos row)
+
+-- a mask has the bits of a row of the screen from a pixel on, up to a column: where one is set the ink lays this colour
+abbrev pub IsMaskOf : Drawing → ℕ → Color → Pixel → ℤ → Type 0
+IsMaskOf d mask color at right = (k : ℕ) → (at.x +ℤ pos k) ≤ℤ right
+    → source_in d (at.x +ℤ pos k) at.y ≡ (if slices.mask_bit mask k then Some color else None)
 
 -- ---- pictures
 

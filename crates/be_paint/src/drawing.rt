@@ -33,6 +33,13 @@ pub(crate) struct Part {
     pub span: Span,
 }
 
+/// Pixels from a first to a last one.
+#[derive(Clone, Copy)]
+pub(crate) struct Block {
+    pub first: Pixel,
+    pub last: Pixel,
+}
+
 /// What was found once: of the reach what it answered last.
 #[derive(Clone, Copy)]
 pub(crate) struct Known {
@@ -40,6 +47,8 @@ pub(crate) struct Known {
     pub own: Option<Part>,
     /// Pixels on which the view may draw.
     pub free: Option<Part>,
+    /// Pixels on none of which it may.
+    pub left: Option<Block>,
     /// The colour that the ink gives each of its pixels, whatever it was.
     pub plain: Option<Rgb>,
 }
@@ -53,16 +62,26 @@ impl Part {
     }
 }
 
+impl Block {
+    fn covers(self, at: Pixel) -> bool
+        ensures { result ≡ true → IsBeyond self.first at × IsBeyond at self.last }
+    {
+        self.first.x <= at.x && self.first.y <= at.y && at.x <= self.last.x && at.y <= self.last.y
+    }
+}
+
 impl Known {
     /// No pixels yet, of an ink that gives each the same colour, if it does.
     pub(crate) fn of(plain: Option<Rgb>) -> Known
         ensures own { result.own ≡ None }
         ensures free { result.free ≡ None }
+        ensures left { result.left ≡ None }
         ensures plain { result.plain ≡ plain }
     {
         Known {
             own: None,
             free: None,
+            left: None,
             plain,
         }
     }
@@ -91,6 +110,36 @@ impl Drawing<'_> {
         if let Some(free) = covering(known.free, at, at) {
             return (Some(free.span), free.last);
         }
+        if let Some(left) = left_at(known.left, at) {
+            return (None, left.last);
+        }
+        let (span, last) = self.asked_block(spans, at, known);
+        match span {
+            Some(span) => {
+                known.free = Some(Part {
+                    first: at,
+                    last,
+                    span,
+                });
+            }
+            None => known.left = Some(Block { first: at, last }),
+        }
+        (span, last)
+    }
+
+    /// The same, where it isn't known.
+    fn asked_block(&self, spans: &SpanBuf, at: Pixel, known: &mut Known) -> (Option<Span>, Pixel)
+        requires view { IsPlace self.now.view }
+        requires far { IsInRange self.now.far }
+        requires from { IsInRange at }
+        requires forward { IsBeyond at self.now.far }
+        requires known { IsKnown spans.now.rects self.now known.old }
+        ensures forward { IsBeyond at result.1 }
+        ensures free { IfSome result.0 (λ span. IsFreePart spans.now.rects self.now
+            record { first = at; last = result.1; span = span }) }
+        ensures left { IfNone result.0 (AreLeft spans.now.rects self.now at result.1) }
+        ensures known { IsKnown spans.now.rects self.now known.new }
+    {
         let (own, last) = self.own_block(spans, at, known);
         let Some(span) = own else {
             return (None, last);
@@ -99,11 +148,6 @@ impl Drawing<'_> {
         if !open {
             return (None, last);
         }
-        known.free = Some(Part {
-            first: at,
-            last,
-            span,
-        });
         (Some(span), last)
     }
 
@@ -215,6 +259,14 @@ pub(crate) fn covering(part: Option<Part>, at: Pixel, end: Pixel) -> Option<Part
     ensures within { IfSome result (λ found. IsBeyond found.first at × IsBeyond end found.last) }
 {
     part.filter(|part| part.covers(at, end))
+}
+
+/// A block, where it has a pixel.
+fn left_at(block: Option<Block>, at: Pixel) -> Option<Block>
+    ensures same { IfSome result (λ found. block ≡ Some found) }
+    ensures within { IfSome result (λ found. IsBeyond found.first at × IsBeyond at found.last) }
+{
+    block.filter(|block| block.covers(at))
 }
 
 /// The last column and the last row of a rectangle.

@@ -24,6 +24,7 @@ const LAST_BIT: i32 = 63;
 
 /// Which of 64 pixels of each row of the glyphs, from a column of drawing on, they cover, the first one by the highest bit.
 /// It takes a few steps for each glyph among them, and for each one where the pen stopped.
+#[inline(always)]
 pub(crate) fn masks_at(codes: &[u8], pen: Point, x: i32) -> [u64; 7]
     requires { IsNear 62 x }
     ensures { AreMasksOf codes.now pen.x pen.y x result }
@@ -67,6 +68,7 @@ fn columns_before(pen: i16, x: i32) -> u16
 }
 
 /// The same of glyphs from a pen on. It goes through them in turn up to the first one that begins behind the pixels.
+#[inline(always)]
 fn masks_of(codes: &[u8], pen: i16, x: i32) -> [u64; 7]
     requires { IsNear 62 x }
     ensures { (pen_y : ℤ) → AreMasksOf codes.now pen pen_y x result }
@@ -110,4 +112,12 @@ fn placed(byte: u8, left: i32) -> u64
     } else {
         0
     }
+}
+
+/// Whether a mask has the bit of a pixel, counted from the highest.
+pub(crate) fn is_set(mask: u64, place: usize) -> bool
+    requires { place < 64 }
+    ensures { result ≡ mask_bit mask place }
+{
+    mask >> (63 - place) & 1 == 1
 }

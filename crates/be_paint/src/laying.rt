@@ -17,7 +17,7 @@ use be_span::{Brush, Source, Span, SpanBuf};
 use be_state::State;
 
 /// The last of the pixels that a mask has bits for.
-const LAST_BIT: i32 = 63;
+pub(crate) const LAST_BIT: i32 = 63;
 
 /// Draws on the pixels from one on to another, on each of which the view may draw, all in one rectangle of the region.
 #[inline(always)]
@@ -185,7 +185,7 @@ fn lay_masks(
 }
 
 /// Which row of the glyphs a row of the screen has.
-fn glyph_row(drawing: &Drawing<'_>, y: i32) -> usize
+pub(crate) fn glyph_row(drawing: &Drawing<'_>, y: i32) -> usize
     requires view { IsPlace drawing.now.view }
     requires base { IsBase drawing.now.base }
     requires rows { AreGlyphRows drawing.now y y }
@@ -195,7 +195,7 @@ fn glyph_row(drawing: &Drawing<'_>, y: i32) -> usize
 }
 
 /// The row of the screen that has the first one of the glyphs.
-fn top_of(drawing: &Drawing<'_>) -> i32
+pub(crate) fn top_of(drawing: &Drawing<'_>) -> i32
     requires view { IsPlace drawing.now.view }
     requires base { IsBase drawing.now.base }
     ensures row { down_in drawing.now result ≡ drawing.now.reach.now.states.now.top.state.pen.y -ℤ pos 6 }
@@ -312,7 +312,7 @@ fn lay_pixels(
 }
 
 /// With what a state paints.
-fn brush_of(state: &State) -> Brush
+pub(crate) fn brush_of(state: &State) -> Brush
     ensures { result ≡ brush_of state.now }
 {
     Brush {

@@ -19,6 +19,7 @@ use crate::laying::lay;
 use crate::pixel::{Pixel, nearer};
 use crate::place::place_of;
 use crate::reach::Reach;
+use crate::texts::draw_glyphs;
 use be_color::Pattern;
 use be_geom::Rect;
 use be_shape::{Raster, Row, Span as Columns};
@@ -139,7 +140,14 @@ fn draw_columns(
         let at = Pixel { x: first, y: at.y };
         let end = Pixel { x: last, y: end.y };
         let mut known = Known::of(None);
-        draw_part(spans, drawing, at, end, &mut known);
+        if let Some(free) = covering(drawing.free_at(spans, at, &mut known), at, end) {
+            lay(spans, drawing, None, free.span, at, end);
+            return;
+        }
+        match drawing.ink {
+            Ink::Text(codes) => draw_glyphs(spans, drawing, codes, at, end, &mut known),
+            Ink::Shape(_, _) | Ink::Image(_, _) => draw_area(spans, drawing, at, end, &mut known),
+        }
     }
 }
 
@@ -288,6 +296,7 @@ fn draw_band(
 }
 
 /// Draws a run of rows that are alike, given in columns of drawing.
+#[inline(always)]
 fn draw_run(
     spans: &mut SpanBuf,
     drawing: &Drawing<'_>,

@@ -21,7 +21,7 @@ rows-init c =
       from = omega (arith, ints);
       to = omega (arith, ints);
       region = refl;
-      known = known_at_first rects d c.of-known.result None c.of-known.ensures.own c.of-known.ensures.free c.of-known.ensures.plain tt;
+      known = known_at_first rects d c.of-known.result None c.of-known.ensures.own c.of-known.ensures.free c.of-known.ensures.left c.of-known.ensures.plain tt;
       done = none_within d c.args.spans.now c.args.at record { x = c.args.end.x; y = c.args.at.y -ℤ pos 1 } (λ x y w. let k = w.from_top in let l = w.to_bottom in absurd (omega (arith, ints)));
       marks = refl;
     }

@@ -85,4 +85,4 @@ returns-clause-own c =
     record { from_left = inside.0.0; to_right = omega (arith, ints); from_top = inside.1.0; to_bottom = omega (arith, ints) }
 
 pub returns-clause-known : goal.returns-clause-known
-returns-clause-known c = record { own = returns-clause-own c; free = c.requires.known.free; plain = c.requires.known.plain }
+returns-clause-known c = record { own = returns-clause-own c; free = c.requires.known.free; left = c.requires.known.left; plain = c.requires.known.plain }
