@@ -113,8 +113,7 @@ impl Reach<'_> {
         if let Some(last) = self.root_block(at, end) {
             return (self.view == 0, last);
         }
-        let (view, last) = self.view_block(at, end);
-        (is_number(view, self.view), last)
+        self.view_block(at, end)
     }
 
     /// A last pixel up to which the root is at all of them, where the window has no other view. None where it isn't at the
@@ -155,17 +154,19 @@ impl Reach<'_> {
         last_pixel(corner, HERE, end)
     }
 
-    /// The same of the number of the view that is at the pixel.
-    fn view_block(&self, at: Pixel, end: Pixel) -> (Option<u16>, Pixel)
+    /// The same of any window.
+    fn view_block(&self, at: Pixel, end: Pixel) -> (bool, Pixel)
         requires from { IsInRange at }
         requires forward { IsBeyond at end }
         requires to { IsInRange end }
-        ensures answer { result.0 ≡ view_on self.now at.x at.y }
-        ensures block { IsPatch (view_on self.now) at end result.1 }
+        ensures answer { result.0 ≡ is_number self.now.view (view_on self.now at.x at.y) }
+        ensures block { IsPatch (λ x y. is_number self.now.view (view_on self.now x y)) at end result.1 }
     {
         let offset = self.left_top();
-        let (view, corner) = self.tree.block_at(at.x - offset.x, at.y - offset.y);
-        (view, last_pixel(corner, offset, end))
+        let (shows, corner) = self
+            .tree
+            .shows_at(self.view, at.x - offset.x, at.y - offset.y);
+        (shows, last_pixel(corner, offset, end))
     }
 
     /// The same of all clips.

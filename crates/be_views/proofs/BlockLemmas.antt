@@ -1,8 +1,8 @@
 -- How far the answer stays the same to the right and down.
 use Rattle.std.specs.Prelude.{◌↔◌, slice_get, option_map}
 use Rattle.std.specs.Int.{int_min}
-use Rattle.std.proofs.Common.{◌≡◌, ℕ, ◌+◌, ◌-◌, ◌<◌, suc, ℤ, pos, ◌+ℤ◌, ◌-ℤ◌, ◌≤ℤ◌, ◌<ℤ◌, Bool, true, false, ◌&&◌, ◌||◌, List, Some, None, length, get_or, take, drop, arith, refl, sym, ap, subst, ◌∙◌}
-use Rattle.std.proofs.lemmas.Bool.{and_right, false≢true, false_from_ne_true, eq-eqb}
+use Rattle.std.proofs.Common.{◌≡◌, ℕ, ◌+◌, ◌-◌, ◌<◌, suc, ℤ, pos, ◌+ℤ◌, ◌-ℤ◌, ◌≤ℤ◌, ◌<ℤ◌, Bool, true, false, ◌&&◌, ◌||◌, List, Option, Some, None, length, get_or, take, drop, arith, refl, sym, ap, subst, ◌∙◌}
+use Rattle.std.proofs.lemmas.Bool.{and_right, false≢true, false_from_ne_true, eq-eqb, eqb-true}
 use Rattle.std.proofs.lemmas.Int.{ints, clamps}
 use Rattle.std.proofs.lemmas.List.{take_rest}
 use Rattle.be_geom.specs.declared.rect.Rect.{Rect}
@@ -16,9 +16,10 @@ use Rattle.be_views.specs.Clips.{covers}
 use Rattle.be_views.specs.Runs.{IsBlockTo}
 use Rattle.be_views.specs.Trees.{View, Tree}
 use Rattle.be_views.specs.Pixels.{last_child_at, view_below, view_at}
+use Rattle.be_views.specs.Whole.{AreParentsFirst}
 use Rattle.be_views.proofs.ChildLemmas.{framed, between_parts}
 use Rattle.be_views.proofs.FrontLemmas.{child_is, in_front, none_in_front}
-use Rattle.be_views.proofs.KinLemmas.{goes_on, stops}
+use Rattle.be_views.proofs.KinLemmas.{goes_on, stops, within_below, ends_within}
 use Rattle.be_views.proofs.RunLemmas.{left_of, or_same, covers_more, or_false, no_child, no_cover, front_of, none_framed, view_in, view_out}
 
 -- ---- up to a frame
@@ -146,14 +147,14 @@ front_block tree v x y end_right end_bottom most_right most_bottom right bottom 
     let bottom_is : most_bottom ≡ int_min end_bottom c.1.frame.bottom = down ∙ ap (λ (g : Rect). int_min end_bottom g.bottom) (sym f.1.1.1) in
     child_block tree v x y end_right end_bottom right bottom c f.1.0 (subst (λ (m : ℤ). IsBlockTo (λ z w. covers (drop (c.0 + 1) tree) v z w) x y (int_min end_right c.1.frame.right) m right bottom) bottom_is (subst (λ (m : ℤ). IsBlockTo (λ z w. covers (drop (c.0 + 1) tree) v z w) x y m most_bottom right bottom) right_is (subst (λ (l : List View). IsBlockTo (λ z w. covers l v z w) x y most_right most_bottom right bottom) later r)))
 
--- ---- up to another view
+-- ---- up to another view, for what is asked of the view that the way ends in
 
 -- where the way goes on in a child
-deep_block : (n : ℕ) (tree : Tree) (v : ℕ) (x y end_right end_bottom last_right last_bottom right bottom : ℤ) (c : ℕ × View) → last_child_at tree v x y ≡ Some c → IsBlockTo (λ z w. last_child_at tree v z w) x y end_right end_bottom last_right last_bottom → IsBlockTo (λ z w. view_below n tree c.0 z w) (x -ℤ c.1.frame.left) (y -ℤ c.1.frame.top) (last_right -ℤ c.1.frame.left) (last_bottom -ℤ c.1.frame.top) right bottom → IsBlockTo (λ z w. view_below (suc n) tree v z w) x y end_right end_bottom (right +ℤ c.1.frame.left) (bottom +ℤ c.1.frame.top)
-deep_block n tree v x y end_right end_bottom last_right last_bottom right bottom c is r s =
+deep_block : {A : Type 0} (f : ℕ → A) (n : ℕ) (tree : Tree) (v : ℕ) (x y end_right end_bottom last_right last_bottom right bottom : ℤ) (c : ℕ × View) → last_child_at tree v x y ≡ Some c → IsBlockTo (λ z w. last_child_at tree v z w) x y end_right end_bottom last_right last_bottom → IsBlockTo (λ z w. f (view_below n tree c.0 z w)) (x -ℤ c.1.frame.left) (y -ℤ c.1.frame.top) (last_right -ℤ c.1.frame.left) (last_bottom -ℤ c.1.frame.top) right bottom → IsBlockTo (λ z w. f (view_below (suc n) tree v z w)) x y end_right end_bottom (right +ℤ c.1.frame.left) (bottom +ℤ c.1.frame.top)
+deep_block f n tree v x y end_right end_bottom last_right last_bottom right bottom c is r s =
     let left = c.1.frame.left in
     let top = c.1.frame.top in
-    let on : (z w : ℤ) → x ≤ℤ z → z ≤ℤ last_right → y ≤ℤ w → w ≤ℤ last_bottom → view_below (suc n) tree v z w ≡ view_below n tree c.0 (z -ℤ left) (w -ℤ top) = λ z w a b d e. goes_on n tree v z w c (r.same z w a b d e ∙ is) in
+    let on : (z w : ℤ) → x ≤ℤ z → z ≤ℤ last_right → y ≤ℤ w → w ≤ℤ last_bottom → f (view_below (suc n) tree v z w) ≡ f (view_below n tree c.0 (z -ℤ left) (w -ℤ top)) = λ z w a b d e. ap f (goes_on n tree v z w c (r.same z w a b d e ∙ is)) in
     let across = r.across in
     let down = r.down in
     let outer_right = r.within_right in
@@ -171,49 +172,74 @@ deep_block n tree v x y end_right end_bottom last_right last_bottom right bottom
     }
 
 -- the same block, where the child is known by its number and its frame
-inner_at : (n : ℕ) (tree : Tree) (v : ℕ) (x y x' y' end_right end_bottom last_right last_bottom right bottom : ℤ) (child : ℕ × Rect) (c : ℕ × View) → last_child_at tree v x y ≡ Some c → c.0 ≡ child.0 → c.1.frame ≡ child.1 → x' ≡ (x -ℤ child.1.left) → y' ≡ (y -ℤ child.1.top) → IsBlockTo (λ z w. last_child_at tree v z w) x y end_right end_bottom last_right last_bottom → IsBlockTo (λ z w. view_below n tree child.0 z w) x' y' (last_right -ℤ child.1.left) (last_bottom -ℤ child.1.top) right bottom → IsBlockTo (λ z w. view_below (suc n) tree v z w) x y end_right end_bottom (right +ℤ child.1.left) (bottom +ℤ child.1.top)
-inner_at n tree v x y x' y' end_right end_bottom last_right last_bottom right bottom child c is number frame across down r s =
+inner_at : {A : Type 0} (f : ℕ → A) (n : ℕ) (tree : Tree) (v : ℕ) (x y x' y' end_right end_bottom last_right last_bottom right bottom : ℤ) (child : ℕ × Rect) (c : ℕ × View) → last_child_at tree v x y ≡ Some c → c.0 ≡ child.0 → c.1.frame ≡ child.1 → x' ≡ (x -ℤ child.1.left) → y' ≡ (y -ℤ child.1.top) → IsBlockTo (λ z w. last_child_at tree v z w) x y end_right end_bottom last_right last_bottom → IsBlockTo (λ z w. f (view_below n tree child.0 z w)) x' y' (last_right -ℤ child.1.left) (last_bottom -ℤ child.1.top) right bottom → IsBlockTo (λ z w. f (view_below (suc n) tree v z w)) x y end_right end_bottom (right +ℤ child.1.left) (bottom +ℤ child.1.top)
+inner_at f n tree v x y x' y' end_right end_bottom last_right last_bottom right bottom child c is number frame across down r s =
     let on_left : child.1.left ≡ c.1.frame.left = ap (λ (f : Rect). f.left) (sym frame) in
     let on_top : child.1.top ≡ c.1.frame.top = ap (λ (f : Rect). f.top) (sym frame) in
-    let at : IsBlockTo (λ z w. view_below n tree c.0 z w) (x -ℤ c.1.frame.left) (y -ℤ c.1.frame.top) (last_right -ℤ c.1.frame.left) (last_bottom -ℤ c.1.frame.top) right bottom = rw (← on_left, ← on_top, number, ← across, ← down) s in
-    rw (on_left, on_top) (deep_block n tree v x y end_right end_bottom last_right last_bottom right bottom c is r at)
+    let at : IsBlockTo (λ z w. f (view_below n tree c.0 z w)) (x -ℤ c.1.frame.left) (y -ℤ c.1.frame.top) (last_right -ℤ c.1.frame.left) (last_bottom -ℤ c.1.frame.top) right bottom = rw (← on_left, ← on_top, number, ← across, ← down) s in
+    rw (on_left, on_top) (deep_block f n tree v x y end_right end_bottom last_right last_bottom right bottom c is r at)
 
 -- the last steps of a way
-pub inner_block : (steps : ℕ) (tree : Tree) (v : ℕ) (x y x' y' end_right end_bottom last_right last_bottom right bottom : ℤ) (child : ℕ × Rect) → 0 < steps → Some child ≡ option_map framed (last_child_at tree v x y) → x' ≡ (x -ℤ child.1.left) → y' ≡ (y -ℤ child.1.top) → IsBlockTo (λ z w. last_child_at tree v z w) x y end_right end_bottom last_right last_bottom → IsBlockTo (λ z w. view_below (steps - 1) tree child.0 z w) x' y' (last_right -ℤ child.1.left) (last_bottom -ℤ child.1.top) right bottom → IsBlockTo (λ z w. view_below steps tree v z w) x y end_right end_bottom (right +ℤ child.1.left) (bottom +ℤ child.1.top)
-inner_block steps tree v x y x' y' end_right end_bottom last_right last_bottom right bottom child some h across down r s =
+pub inner_block : {A : Type 0} (f : ℕ → A) (steps : ℕ) (tree : Tree) (v : ℕ) (x y x' y' end_right end_bottom last_right last_bottom right bottom : ℤ) (child : ℕ × Rect) → 0 < steps → Some child ≡ option_map framed (last_child_at tree v x y) → x' ≡ (x -ℤ child.1.left) → y' ≡ (y -ℤ child.1.top) → IsBlockTo (λ z w. last_child_at tree v z w) x y end_right end_bottom last_right last_bottom → IsBlockTo (λ z w. f (view_below (steps - 1) tree child.0 z w)) x' y' (last_right -ℤ child.1.left) (last_bottom -ℤ child.1.top) right bottom → IsBlockTo (λ z w. f (view_below steps tree v z w)) x y end_right end_bottom (right +ℤ child.1.left) (bottom +ℤ child.1.top)
+inner_block f steps tree v x y x' y' end_right end_bottom last_right last_bottom right bottom child some h across down r s =
     let n : suc (steps - 1) ≡ steps = omega arith in
-    let f = front_of (last_child_at tree v x y) child h in
-    subst (λ (m : ℕ). IsBlockTo (λ z w. view_below m tree v z w) x y end_right end_bottom (right +ℤ child.1.left) (bottom +ℤ child.1.top)) n (inner_at (steps - 1) tree v x y x' y' end_right end_bottom last_right last_bottom right bottom child f.0 f.1.0 f.1.1.0 f.1.1.1 across down r s)
+    let c = front_of (last_child_at tree v x y) child h in
+    subst (λ (m : ℕ). IsBlockTo (λ z w. f (view_below m tree v z w)) x y end_right end_bottom (right +ℤ child.1.left) (bottom +ℤ child.1.top)) n (inner_at f (steps - 1) tree v x y x' y' end_right end_bottom last_right last_bottom right bottom child c.0 c.1.0 c.1.1.0 c.1.1.1 across down r s)
 
 -- where the way ends in the view
-pub end_block : (steps : ℕ) (tree : Tree) (v : ℕ) (x y end_right end_bottom right bottom : ℤ) → None ≡ option_map framed (last_child_at tree v x y) → IsBlockTo (λ z w. last_child_at tree v z w) x y end_right end_bottom right bottom → IsBlockTo (λ z w. view_below steps tree v z w) x y end_right end_bottom right bottom
-end_block steps tree v x y end_right end_bottom right bottom h r =
+pub end_block : {A : Type 0} (f : ℕ → A) (steps : ℕ) (tree : Tree) (v : ℕ) (x y end_right end_bottom right bottom : ℤ) → None ≡ option_map framed (last_child_at tree v x y) → IsBlockTo (λ z w. last_child_at tree v z w) x y end_right end_bottom right bottom → IsBlockTo (λ z w. f (view_below steps tree v z w)) x y end_right end_bottom right bottom
+end_block f steps tree v x y end_right end_bottom right bottom h r =
     let none = none_framed (last_child_at tree v x y) h in
     record {
       across = r.across;
       down = r.down;
       within_right = r.within_right;
       within_bottom = r.within_bottom;
-      same = λ z w a b c d. stops steps tree v z w (r.same z w a b c d ∙ none) ∙ sym (stops steps tree v x y none);
+      same = λ z w a b c d. ap f (stops steps tree v z w (r.same z w a b c d ∙ none) ∙ sym (stops steps tree v x y none));
     }
 
--- ---- in the window
+-- ---- where the way goes on in a child behind a view, in numbers
 
-pub root_block : (tree : Tree) (root : View) (x y right bottom : ℤ) → slice_get tree 0 ≡ Some root → rect_has root.frame x y ≡ true → IsBlockTo (λ z w. view_below (length tree) tree 0 z w) x y root.frame.right root.frame.bottom right bottom → IsBlock (λ z w. view_at tree z w) x y right bottom
-root_block tree root x y right bottom got h r =
+-- the way then ends in another view
+ends_behind : (n : ℕ) (tree : Tree) (v own : ℕ) (x y : ℤ) (c : ℕ × View) → AreParentsFirst tree → last_child_at tree v x y ≡ Some c → own < c.0 → is_number own (Some (view_below (suc n) tree v x y)) ≡ false
+ends_behind n tree v own x y c first is less =
+    let on = goes_on n tree v x y c is in
+    let high = within_below n tree c.0 (view_below n tree c.0 (x -ℤ c.1.frame.left) (y -ℤ c.1.frame.top)) first (ends_within n tree c.0 (x -ℤ c.1.frame.left) (y -ℤ c.1.frame.top)) in
+    false_from_ne_true (is_number own (Some (view_below (suc n) tree v x y))) (λ e. let same = eqb-true (view_below (suc n) tree v x y) own e in omega arith)
+
+pub no_own : (steps : ℕ) (tree : Tree) (v own : ℕ) (x y : ℤ) (child : ℕ × Rect) → 0 < steps → AreParentsFirst tree → Some child ≡ option_map framed (last_child_at tree v x y) → own < child.0 → is_number own (Some (view_below steps tree v x y)) ≡ false
+no_own steps tree v own x y child some first h less =
+    let n : suc (steps - 1) ≡ steps = omega arith in
+    let c = front_of (last_child_at tree v x y) child h in
+    let number = c.1.1.0 in
+    subst (λ (m : ℕ). is_number own (Some (view_below m tree v x y)) ≡ false) n (ends_behind (steps - 1) tree v own x y c.0 first c.1.0 (omega arith))
+
+pub other_block : (steps : ℕ) (tree : Tree) (v own : ℕ) (x y end_right end_bottom right bottom : ℤ) (child : ℕ × Rect) → 0 < steps → AreParentsFirst tree → Some child ≡ option_map framed (last_child_at tree v x y) → own < child.0 → IsBlockTo (λ z w. last_child_at tree v z w) x y end_right end_bottom right bottom → IsBlockTo (λ z w. is_number own (Some (view_below steps tree v z w))) x y end_right end_bottom right bottom
+other_block steps tree v own x y end_right end_bottom right bottom child some first h less r = record {
+  across = r.across;
+  down = r.down;
+  within_right = r.within_right;
+  within_bottom = r.within_bottom;
+  same = λ z w a b c d. no_own steps tree v own z w child some first (h ∙ ap (option_map framed) (sym (r.same z w a b c d))) less ∙ sym (no_own steps tree v own x y child some first h less);
+}
+
+-- ---- in the window, for what is asked of the view at a pixel
+
+pub root_block : {A : Type 0} (f : Option ℕ → A) (tree : Tree) (root : View) (x y right bottom : ℤ) → slice_get tree 0 ≡ Some root → rect_has root.frame x y ≡ true → IsBlockTo (λ z w. f (Some (view_below (length tree) tree 0 z w))) x y root.frame.right root.frame.bottom right bottom → IsBlock (λ z w. f (view_at tree z w)) x y right bottom
+root_block f tree root x y right bottom got h r =
     let narrow = r.within_right in
     let low = r.within_bottom in
     record {
       across = r.across;
       down = r.down;
-      same = λ z w a b c d. view_in tree root z w got (in_block root.frame x y z w h a (omega (arith, ints)) c (omega (arith, ints))) ∙ ap (λ v. Some v) (r.same z w a b c d) ∙ sym (view_in tree root x y got h);
+      same = λ z w a b c d. ap f (view_in tree root z w got (in_block root.frame x y z w h a (omega (arith, ints)) c (omega (arith, ints)))) ∙ r.same z w a b c d ∙ ap f (sym (view_in tree root x y got h));
     }
 
-pub outer_block : (tree : Tree) (root : View) (x y end_right end_bottom right bottom : ℤ) → slice_get tree 0 ≡ Some root → rect_has root.frame x y ≡ false → IsBlockTo (λ z w. rect_has root.frame z w) x y end_right end_bottom right bottom → IsBlock (λ z w. view_at tree z w) x y right bottom
-outer_block tree root x y end_right end_bottom right bottom got h r = record {
+pub outer_block : {A : Type 0} (f : Option ℕ → A) (tree : Tree) (root : View) (x y end_right end_bottom right bottom : ℤ) → slice_get tree 0 ≡ Some root → rect_has root.frame x y ≡ false → IsBlockTo (λ z w. rect_has root.frame z w) x y end_right end_bottom right bottom → IsBlock (λ z w. f (view_at tree z w)) x y right bottom
+outer_block f tree root x y end_right end_bottom right bottom got h r = record {
   across = r.across;
   down = r.down;
-  same = λ z w a b c d. view_out tree root z w got (r.same z w a b c d ∙ h) ∙ sym (view_out tree root x y got h);
+  same = λ z w a b c d. ap f (view_out tree root z w got (r.same z w a b c d ∙ h) ∙ sym (view_out tree root x y got h));
 }
 
 -- the last row of a frame

@@ -1,44 +1,51 @@
-ghost use Rattle.std.specs.Prelude.{◌≡◌, ◌<◌, ◌≤◌, ◌↔◌, ℤ, pos, ◌+ℤ◌, ◌-ℤ◌, ◌≤ℤ◌, true, false, length, option_map, IfSome};
+ghost use Rattle.std.specs.Prelude.{◌≡◌, ◌<◌, ◌≤◌, ◌↔◌, ℤ, pos, ◌+ℤ◌, ◌-ℤ◌, ◌≤ℤ◌, true, false, length, Some, option_map, IfSome};
 ghost use Rattle.std.specs.Int.{int_min};
+ghost use Rattle.be_geom.specs.Numbers.{is_number};
 ghost use Rattle.be_geom.specs.Rects.{rect_has};
 ghost use Rattle.be_views.specs.Pixels.{last_child_at, view_below};
 ghost use Rattle.be_views.specs.Clips.{covers};
 ghost use Rattle.be_views.specs.Runs.{IsBlockTo};
+ghost use Rattle.be_views.specs.Whole.{AreParentsFirst};
 
 use crate::children::{last_child_at, lies_in, within};
 use crate::view::View;
 use be_geom::Rect;
 use be_region::Corner;
 
-/// The view below view `v` at a pixel, in so many steps at most, and a last column and a last row
-/// up to which that stays to the right and down, `end` at most. Columns and rows are those of `v`.
+/// Whether the view below view `v` at a pixel, in so many steps at most, is view `own`, and a last
+/// column and a last row up to which that stays to the right and down, `end` at most. Columns and rows
+/// are those of `v`. A child with a higher number than `own` isn't gone into: the numbers of the views
+/// below it are higher still.
 pub(crate) fn block_below(
     steps: usize,
     views: &[View],
     v: u16,
+    own: u16,
     place: (i32, i32),
     end: Corner,
-) -> (u16, Corner)
+) -> (bool, Corner)
     requires few { length views.now ≤ 32 }
+    requires parents { AreParentsFirst views.now }
     requires across { place.0 ≤ℤ end.right }
     requires down { place.1 ≤ℤ end.bottom }
-    ensures view { result.0 ≡ view_below steps views.now v place.0 place.1 }
-    ensures block { IsBlockTo (λ z w. view_below steps views.now v z w) place.0 place.1 end.right end.bottom
-        result.1.right result.1.bottom }
+    ensures own { result.0 ≡ is_number own (Some (view_below steps views.now v place.0 place.1)) }
+    ensures block { IsBlockTo (λ z w. is_number own (Some (view_below steps views.now v z w)))
+        place.0 place.1 end.right end.bottom result.1.right result.1.bottom }
 {
     if steps == 0 {
-        return (v, end);
+        return (v == own, end);
     }
     let (child, last) = child_block(views, v, place, end);
-    match child {
-        Some((child, frame)) => {
-            let inner = within(place, frame);
-            let end = corner_within(last, frame);
-            let (view, block) = block_below(steps - 1, views, child as u16, inner, end);
-            (view, corner_above(block, frame))
-        }
-        None => (v, last),
+    let Some((child, frame)) = child else {
+        return (v == own, last);
+    };
+    if usize::from(own) < child {
+        return (false, last);
     }
+    let inner = within(place, frame);
+    let end = corner_within(last, frame);
+    let (is_own, block) = block_below(steps - 1, views, child as u16, own, inner, end);
+    (is_own, corner_above(block, frame))
 }
 
 /// The child of view `v` that is in front at a pixel, with its frame, and a last column and a last

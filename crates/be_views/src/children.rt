@@ -17,7 +17,7 @@ pub(crate) fn last_child_at(views: &[View], v: u16, x: i32, y: i32) -> Option<(u
 {
     for k in (0..views.len()).rev() {
         let view = &views[k];
-        if lies_in(view.parent, v) && has_pixel(view.frame, x, y) {
+        if has_pixel(view.frame, x, y) && lies_in(view.parent, v) {
             return Some((k, view.frame));
         }
     }

@@ -1,3 +1,4 @@
+ghost use Rattle.be_geom.specs.Numbers.{is_number};
 ghost use Rattle.be_geom.specs.Rects.{rect_has};
 ghost use Rattle.std.specs.Prelude.{◌≡◌, ◌<◌, ◌≤◌, ◌↔◌, ◌⊎◌, ℕ, true, pos, ◌-ℤ◌, ◌≤ℤ◌, ◌∷◌, [], length, slice_get, option_map, option_and_then, vec_len, vec_capacity, IfOk, IfSome, OnOk, OnErr, IsNone, IsErr};
 ghost use Rattle.be_views.specs.Trees.{parent_of, place_of, place_from};
@@ -169,11 +170,14 @@ impl ViewTree {
         }
     }
 
-    /// The view at a pixel of the window, and a last column and a last row up to which that stays
-    /// so at least, for all pixels that are neither left of this one nor above it.
-    pub fn block_at(&self, x: i32, y: i32) -> (Option<u16>, Corner)
-        ensures answer { result.0 ≡ view_at self.now x y }
-        ensures block { IsBlock (λ z w. view_at self.now z w) x y result.1.right result.1.bottom }
+    /// Whether a view is the one at a pixel of the window, so that its drawing shows there, and a last
+    /// column and a last row up to which that stays so at least, for all pixels that are neither left of
+    /// this one nor above it. For each level down to the view it goes over the window's views twice at
+    /// most.
+    pub fn shows_at(&self, view: u16, x: i32, y: i32) -> (bool, Corner)
+        ensures answer { result.0 ≡ is_number view (view_at self.now x y) }
+        ensures block { IsBlock (λ z w. is_number view (view_at self.now z w)) x y
+            result.1.right result.1.bottom }
     {
         let root = self.views[0].frame;
         if has_pixel(root, x, y) {
@@ -181,14 +185,13 @@ impl ViewTree {
                 right: i32::from(root.right),
                 bottom: i32::from(root.bottom),
             };
-            let (view, last) = block_below(self.views.len(), &self.views, 0, (x, y), end);
-            (Some(view), last)
+            block_below(self.views.len(), &self.views, 0, view, (x, y), end)
         } else {
             let end = Corner {
                 right: LAST,
                 bottom: LAST,
             };
-            (None, frame_gap_block(root, (x, y), end))
+            (false, frame_gap_block(root, (x, y), end))
         }
     }
 

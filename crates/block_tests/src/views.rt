@@ -29,12 +29,12 @@ fn four_views(alloc: Global) -> Result<ViewTree, Fail> {
     Ok(tree)
 }
 
-/// Whether a block has one view at all its pixels, of those up to column 12 and row 12.
-fn is_alike(tree: &ViewTree, x: i32, y: i32, corner: Corner) -> bool {
-    let view = tree.view_at(x, y);
+/// Whether a view is at all pixels of a block or at none, of those up to column 12 and row 12.
+fn is_alike(tree: &ViewTree, view: u16, x: i32, y: i32, corner: Corner) -> bool {
+    let shows = tree.view_at(x, y) == Some(view);
     for w in y..=corner.bottom.min(12) {
         for z in x..=corner.right.min(12) {
-            if tree.view_at(z, w) != view {
+            if (tree.view_at(z, w) == Some(view)) != shows {
                 return false;
             }
         }
@@ -65,14 +65,19 @@ fn blocks_of_views(rt: HostRuntime) -> Result<(), Fail> {
         (2, 2, Some(3)),
         (3, 2, Some(3)),
     ] {
-        let (view, corner) = tree.block_at(x, y);
-        assert_eq!(rt; view, due, "at {x}, {y}");
         assert_eq!(rt; tree.view_at(x, y), due, "at {x}, {y}");
-        assert!(rt;
-            x <= corner.right && y <= corner.bottom,
-            "{corner:?} from {x}, {y}"
-        );
-        assert!(rt; is_alike(&tree, x, y, corner), "{corner:?} from {x}, {y}");
+        for view in 0..5u16 {
+            let (shows, corner) = tree.shows_at(view, x, y);
+            assert_eq!(rt; shows, due == Some(view), "{view} at {x}, {y}");
+            assert!(rt;
+                x <= corner.right && y <= corner.bottom,
+                "{corner:?} from {x}, {y}"
+            );
+            assert!(rt;
+                is_alike(&tree, view, x, y, corner),
+                "{view}: {corner:?} from {x}, {y}"
+            );
+        }
     }
     Ok(())
 }

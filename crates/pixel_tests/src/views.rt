@@ -157,23 +157,27 @@ fn goes_along_a_row(rt: HostRuntime) -> Result<(), Fail> {
 }
 
 #[test]
-fn goes_right_and_down(rt: HostRuntime) -> Result<(), Fail> {
+fn tells_where_a_view_shows(rt: HostRuntime) -> Result<(), Fail> {
     let tree = five_views(rt.alloc())?;
-    for (x, y, view, right, bottom) in [
-        (-5, 4, None, -1, 2147483647),
-        (-5, -5, None, 2147483647, -1),
-        (10, 0, None, 2147483647, 2147483647),
-        (0, 0, Some(0), 9, 0),
-        (8, 4, Some(0), 9, 9),
-        (1, 1, Some(3), 1, 1),
-        (2, 1, Some(1), 5, 2),
-        (3, 3, Some(2), 7, 3),
-        (4, 4, Some(4), 7, 4),
+    for (view, x, y, shows, right, bottom) in [
+        (0, -5, 4, false, -1, 2147483647),
+        (0, -5, -5, false, 2147483647, -1),
+        (3, 10, 0, false, 2147483647, 2147483647),
+        (0, 0, 0, true, 9, 0),
+        (0, 8, 4, true, 9, 9),
+        (3, 1, 1, true, 1, 1),
+        (1, 2, 1, true, 5, 2),
+        (2, 3, 3, true, 7, 3),
+        (4, 4, 4, true, 7, 4),
+        (0, 1, 1, false, 5, 2),
+        (1, 1, 1, false, 1, 1),
+        (4, 5, 5, false, 7, 7),
+        (5, 0, 0, false, 9, 0),
     ] {
         assert_eq!(rt;
-            tree.block_at(x, y),
-            (view, Corner { right, bottom }),
-            "at {x}, {y}"
+            tree.shows_at(view, x, y),
+            (shows, Corner { right, bottom }),
+            "{view} at {x}, {y}"
         );
     }
     Ok(())

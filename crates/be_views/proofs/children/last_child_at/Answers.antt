@@ -1,11 +1,12 @@
 use Rattle.std.proofs.Common.{SFits, w32, get_or, ◌-◌, ◌≤◌, ◌<◌, length, true, false, sym, ap, ◌∙◌, arith}
+use Rattle.std.proofs.lemmas.Bool.{and_right}
 use Rattle.std.proofs.lemmas.Int.{to_z-of_z}
 use Rattle.be_views.proofs.ChildLemmas.{passes_child, meets_child, both_are, first_is_not}
 use Rattle.be_views.proofs.children.last_child_at.Goals as goal
-use Rattle.be_views.proofs.children.last_child_at.Goals.{else-lies_in-via-then-lies_in+else-has_pixel, else-lies_in-via-else-lies_in}
+use Rattle.be_views.proofs.children.last_child_at.Goals.{else-has_pixel-via-then-has_pixel+else-lies_in, else-has_pixel-via-else-has_pixel}
 
-pub returns-then-has_pixel-clause-child : goal.returns-then-has_pixel-clause-child
-returns-then-has_pixel-clause-child c =
+pub returns-then-lies_in-clause-child : goal.returns-then-lies_in-clause-child
+returns-then-lies_in-clause-child c =
     let x : SFits w32 c.args.x = c.ranges.x in
     let y : SFits w32 c.args.y = c.ranges.y in
     let k = c.loop-k.k in
@@ -23,7 +24,7 @@ loop-k-preserved c =
     let some : 0 < k = omega arith in
     let within : k ≤ length c.args.views.now = c.loop-k.auto.k in
     let so_far = simp to_z-of_z at c.loop-k.invariant in
-    elim c.else-lies_in.branch [
-      | else-lies_in-via-then-lies_in+else-has_pixel w ↦ simp to_z-of_z (passes_child c.args.views.now k c.args.v c.args.x c.args.y _ some within read (both_are _ _ true false (sym c.lies_in.ensures ∙ w.if-lies_in.true) (sym (simp to_z-of_z at w.has_pixel.ensures) ∙ w.if-has_pixel.false)) so_far)
-      | else-lies_in-via-else-lies_in w ↦ simp to_z-of_z (passes_child c.args.views.now k c.args.v c.args.x c.args.y _ some within read (first_is_not _ _ (sym c.lies_in.ensures ∙ w.if-lies_in.false)) so_far)
+    elim c.else-has_pixel.branch [
+      | else-has_pixel-via-then-has_pixel+else-lies_in w ↦ simp to_z-of_z (passes_child c.args.views.now k c.args.v c.args.x c.args.y _ some within read (first_is_not _ _ (sym w.lies_in.ensures ∙ w.if-lies_in.false)) so_far)
+      | else-has_pixel-via-else-has_pixel w ↦ simp to_z-of_z (passes_child c.args.views.now k c.args.v c.args.x c.args.y _ some within read (and_right _ _ (sym (simp to_z-of_z at c.has_pixel.ensures) ∙ w.if-has_pixel.false)) so_far)
     ]
