@@ -1,5 +1,5 @@
-ghost use Rattle.std.specs.Prelude.{◌≡◌, ◌<◌};
-ghost use Rattle.be_color.specs.Pattern.{place_in_pattern, pattern_bit};
+ghost use Rattle.std.specs.Prelude.{◌≡◌, ◌<◌, ◌↔◌, ℤ, true, false, Some, IfSome};
+ghost use Rattle.be_color.specs.Pattern.{alike_rows, place_in_pattern, pattern_bit};
 
 /// Eight rows of eight bits, the top row first and the leftmost bit highest: `pattern` of the Be
 /// Book. It is laid over a window again and again, from the window's left top on.
@@ -27,6 +27,21 @@ impl Pattern {
     {
         let row = self.rows[place_in_pattern(y)];
         row >> (7 - place_in_pattern(x)) & 1 == 1
+    }
+
+    /// The bit that is the same at all pixels. None for a pattern that is neither `HIGH` nor `LOW`.
+    pub fn solid_bit(self) -> Option<bool>
+        ensures high { (result ≡ Some true) ↔ (self.rows ≡ alike_rows 255) }
+        ensures low { (result ≡ Some false) ↔ (self.rows ≡ alike_rows 0) }
+        ensures each { IfSome result (λ bit. (x y : ℤ) → pattern_bit self.rows x y ≡ bit) }
+    {
+        if self.rows == [0xff; 8] {
+            Some(true)
+        } else if self.rows == [0; 8] {
+            Some(false)
+        } else {
+            None
+        }
     }
 }
 

@@ -121,4 +121,12 @@ fn a_pattern_repeats_each_way(rt: HostRuntime) {
     ] {
         assert_eq!(rt; pattern.bit(x, y), want, "{pattern:?} at {x}, {y}");
     }
+    for (pattern, want) in [
+        (Pattern::HIGH, Some(true)),
+        (Pattern::LOW, Some(false)),
+        (Pattern::MIXED, None),
+        (corners, None),
+    ] {
+        assert_eq!(rt; pattern.solid_bit(), want, "{pattern:?}");
+    }
 }

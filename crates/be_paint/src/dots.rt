@@ -1,6 +1,5 @@
 ghost use Rattle.std.specs.Prelude.{◌≡◌, ℤ, pos, negsuc, ◌+ℤ◌, ◌-ℤ◌, ◌≤ℤ◌, true, None, IfNone, IfSome, count_by};
 ghost use Rattle.std.specs.Option.{option_map};
-ghost use Rattle.be_color.specs.Pattern.{pattern_bit};
 ghost use Rattle.be_shape.specs.Rasters.{IsSteep};
 ghost use Rattle.be_shape.specs.declared.Raster.TheVariants.{Line};
 ghost use Rattle.be_span.specs.Runs.{IsSpanOf};
@@ -18,39 +17,26 @@ use be_shape::Steep;
 use be_span::{Brush, Span, SpanBuf};
 use be_state::State;
 
-/// How a pixel gets a colour whatever it was.
-const PLAIN: Brush = Brush {
-    mode: Mode::Copy,
-    high: Color::Clear,
-    low: Color::Clear,
-};
-
 /// The colour that each pixel gets that is painted with a pattern, whatever it was. None where they may differ.
 pub(crate) fn plain_color(state: &State, pattern: &Pattern) -> Option<Rgb>
     ensures { IfSome result (λ rgb. (x y : ℤ) (c : Cell)
         → painted (brush_of state.now) (pattern_color (brush_of state.now) pattern.now.rows x y) c
         ≡ record { rgb = rgb; dirty = c.dirty }) }
 {
-    let bit = solid_bit(pattern)?;
+    let bit = pattern.solid_bit()?;
     let Color::Solid(rgb) = pick(state.mode, bit, state.high, state.low) else {
         return None;
     };
     match state.mode {
         Mode::Copy | Mode::Over => Some(rgb),
-        _ => None,
-    }
-}
-
-/// The bit that a pattern has everywhere. None where it has both.
-fn solid_bit(pattern: &Pattern) -> Option<bool>
-    ensures { IfSome result (λ bit. (x y : ℤ) → pattern_bit pattern.now.rows x y ≡ bit) }
-{
-    if pattern.rows == [0xff; 8] {
-        Some(true)
-    } else if pattern.rows == [0; 8] {
-        Some(false)
-    } else {
-        None
+        Mode::Erase
+        | Mode::Invert
+        | Mode::Add
+        | Mode::Subtract
+        | Mode::Blend
+        | Mode::Min
+        | Mode::Max
+        | Mode::Select => None,
     }
 }
 
@@ -172,5 +158,5 @@ fn draw_dot(spans: &mut SpanBuf, drawing: &Drawing<'_>, span: Span, color: Rgb, 
     ensures marks { count_by (λ c. c.dirty) spans.new.cells
         ≡ count_by (λ c. c.dirty) spans.old.cells }
 {
-    spans.paint_pixel(span, dot.x, dot.y, PLAIN, Color::Solid(color));
+    spans.paint_pixel(span, dot.x, dot.y, Brush::PLAIN, Color::Solid(color));
 }

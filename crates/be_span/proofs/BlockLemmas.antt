@@ -29,21 +29,6 @@ same_rows : (rows : List ℕ) (byte : ℕ) (x y : ℤ) → slice_index rows (pla
 unfolding pattern_bit
 same_rows rows byte x y e = ap (λ b. row_bit b x) e
 
-abbrev eight_of : ℕ → List ℕ
-eight_of b = b ∷ b ∷ b ∷ b ∷ b ∷ b ∷ b ∷ b ∷ []
-
-pub ones : (rows : List ℕ) (x y : ℤ) → rows ≡ eight_of 255 → pattern_bit rows x y ≡ true
-ones rows x y e = same_rows rows 255 x y (ap (λ l. slice_index l (place_in_pattern y)) e ∙ each (place_in_pattern y) (place_below y)) ∙ all_set x
-  where
-    each : (i : ℕ) → i < 8 → slice_index (eight_of 255) i ≡ 255
-    each i h = eqb-true (slice_index (eight_of 255) i) 255 (agree_below_at (λ n. eqb (slice_index (eight_of 255) n) 255) (λ n. true) 8 i refl h)
-
-pub zeros : (rows : List ℕ) (x y : ℤ) → rows ≡ eight_of 0 → pattern_bit rows x y ≡ false
-zeros rows x y e = same_rows rows 0 x y (ap (λ l. slice_index l (place_in_pattern y)) e ∙ each (place_in_pattern y) (place_below y)) ∙ none_set x
-  where
-    each : (i : ℕ) → i < 8 → slice_index (eight_of 0) i ≡ 0
-    each i h = eqb-true (slice_index (eight_of 0) i) 0 (agree_below_at (λ n. eqb (slice_index (eight_of 0) n) 0) (λ n. true) 8 i refl h)
-
 -- the colour of the k-th cell of a row of the pattern
 pub row_color : (brush : Brush) (rows : List ℕ) (byte : ℕ) (left column x dx y : ℤ) (k : ℕ) → byte ≡ slice_index rows (place_in_pattern y) → column ≡ left -ℤ dx → x ≡ left +ℤ pos k → source_at brush (Bits byte column) k ≡ pattern_color brush rows (x -ℤ dx) y
 row_color brush rows byte left column x dx y k e f g =

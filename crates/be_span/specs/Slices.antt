@@ -10,7 +10,7 @@ use Rattle.be_color.specs.Pixel.{picked, blended}
 use Rattle.be_span.specs.declared.Cell.{Cell}
 use Rattle.be_span.specs.declared.brush.Brush.{Brush}
 use Rattle.be_span.specs.declared.brush.Source.{Source}
-use Rattle.be_span.specs.declared.brush.Source.TheVariants.{One, Bits, Colors, Mask}
+use Rattle.be_span.specs.declared.brush.Source.TheVariants.{One, Bits, Colors}
 
 -- the bit of a pattern's row at a column, of which the highest is leftmost
 abbrev pub row_bit : ℕ → ℤ → Bool
@@ -30,7 +30,6 @@ abbrev pub source_at : Brush → Source → ℕ → Color
 source_at brush (One color) k = color
 source_at brush (Bits byte column) k = picked brush.mode (row_bit byte (column +ℤ pos k)) brush.high brush.low
 source_at brush (Colors colors) k = color_or_clear (slice_get colors.now k)
-source_at brush (Mask bits color) k = if mask_bit bits k then color else Clear
 
 -- the colour that the bit of a pattern's rows picks at a column and a row
 abbrev pub pattern_color : Brush → List ℕ → ℤ → ℤ → Color

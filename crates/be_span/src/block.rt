@@ -1,7 +1,7 @@
-ghost use Rattle.std.specs.Prelude.{◌≡◌, ℤ, ◌-ℤ◌, true, false, count_by, slice_index, IfSome};
+ghost use Rattle.std.specs.Prelude.{◌≡◌, ℤ, ◌-ℤ◌, true, false, count_by, slice_index};
 ghost use Rattle.std.specs.Option.{option_map};
 ghost use Rattle.be_geom.specs.Rects.{rect_has};
-ghost use Rattle.be_color.specs.Pattern.{pattern_bit, place_in_pattern};
+ghost use Rattle.be_color.specs.Pattern.{place_in_pattern};
 ghost use Rattle.be_color.specs.declared.colors.Color.TheVariants.{Solid};
 ghost use Rattle.be_span.specs.Spans.{cell_in};
 ghost use Rattle.be_span.specs.Runs.{IsInside, IsSpanOf};
@@ -13,19 +13,6 @@ use crate::places::width_of;
 use crate::span::Span;
 use be_color::{Color, Mode, Pattern, Rgb};
 use be_geom::{Point, Rect};
-
-/// The bit that a pattern has everywhere. None where it has both.
-pub(crate) fn solid_bit(pattern: &Pattern) -> Option<bool>
-    ensures { IfSome result (λ bit. (x y : ℤ) → pattern_bit pattern.now.rows x y ≡ bit) }
-{
-    if pattern.rows == [0xff; 8] {
-        Some(true)
-    } else if pattern.rows == [0; 8] {
-        Some(false)
-    } else {
-        None
-    }
-}
 
 /// Paints the pixels of a rectangle, all of them in this span, with the same colour.
 pub(crate) fn paint_alike(spans: &mut SpanBuf, span: Span, rect: Rect, brush: Brush, color: Color)

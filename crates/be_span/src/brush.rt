@@ -8,6 +8,15 @@ pub struct Brush {
     pub low: Color,
 }
 
+impl Brush {
+    /// Gives a pixel a colour whatever it had.
+    pub const PLAIN: Brush = Brush {
+        mode: Mode::Copy,
+        high: Color::Clear,
+        low: Color::Clear,
+    };
+}
+
 /// The colours that the cells of a row are painted with, from the left on.
 #[derive(Clone, Copy, Debug, PartialEq, Eq)]
 pub enum Source<'a> {
@@ -22,9 +31,4 @@ pub enum Source<'a> {
     },
     /// Each with its own. A cell behind those that have one stays.
     Colors(&'a [Color]),
-    /// Those whose bit is set with this colour, the first cell by the highest bit. The others stay.
-    Mask {
-        bits: u64,
-        color: Color,
-    },
 }

@@ -297,7 +297,7 @@ impl SpanBuf {
         ensures marks { count_by (λ c. c.dirty) self.new.cells
             ≡ count_by (λ c. c.dirty) self.old.cells }
     {
-        match block::solid_bit(pattern) {
+        match pattern.solid_bit() {
             Some(bit) => {
                 let color = pick(brush.mode, bit, brush.high, brush.low);
                 block::paint_alike(self, span, rect, brush, color);

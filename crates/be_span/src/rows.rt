@@ -9,13 +9,6 @@ use crate::brush::{Brush, Source};
 use crate::slices::{paint_cells, paint_each, paint_each_marked};
 use be_color::{Color, Mode, Rgb, blend};
 
-/// How a cell gets a colour whatever it had.
-const PLAIN: Brush = Brush {
-    mode: Mode::Copy,
-    high: Color::Clear,
-    low: Color::Clear,
-};
-
 /// Writes over the cells from `start` on, by a row of which `more` are dirty. How many of all are
 /// dirty is told and given back.
 pub(crate) fn overwrite(
@@ -96,7 +89,7 @@ pub(crate) fn fill_part(cells: &mut [Cell], start: usize, count: usize, rgb: Rgb
     ensures marks { count_by (λ c. c.dirty) cells.new ≡ count_by (λ c. c.dirty) cells.old }
 {
     if count == 1 {
-        paint_cell(cells, start, PLAIN, Color::Solid(rgb));
+        paint_cell(cells, start, Brush::PLAIN, Color::Solid(rgb));
         return;
     }
     let some = &mut cells[start..start + count];

@@ -3,7 +3,7 @@ ghost use Rattle.std.specs.Option.{option_map};
 ghost use Rattle.std.specs.Int.{bit_at};
 ghost use Rattle.be_color.specs.declared.colors.Color.TheVariants.{Solid, Clear};
 ghost use Rattle.be_color.specs.Pattern.{place_in_pattern};
-ghost use Rattle.be_span.specs.declared.brush.Source.TheVariants.{Bits, Mask};
+ghost use Rattle.be_span.specs.declared.brush.Source.TheVariants.{Bits};
 ghost use Rattle.be_span.specs.Slices.{source_at, mask_bit, color_or_clear, painted, painted_by_bit};
 
 use crate::Cell;
@@ -21,7 +21,6 @@ pub fn paint_cells(cells: &mut [Cell], brush: Brush, source: Source<'_>)
         Source::One(color) => paint_one(cells, brush, color),
         Source::Bits { byte, column } => paint_byte(cells, brush, byte, column),
         Source::Colors(colors) => paint_colors(cells, brush, colors),
-        Source::Mask { bits, color } => paint_mask(cells, brush, bits, color),
     }
 }
 
@@ -184,41 +183,6 @@ fn color_at(colors: &[Color], place: usize) -> Color
     ensures { result ≡ color_or_clear (slice_get colors.now place) }
 {
     colors[place]
-}
-
-/// Paints the cells whose bit of the mask is set with the same colour.
-fn paint_mask(cells: &mut [Cell], brush: Brush, bits: u64, color: Color)
-    ensures { (k : ℕ) → slice_get cells.new k
-        ≡ option_map (painted brush (source_at brush (Mask bits color) k)) (slice_get cells.old k) }
-{
-    let source = match color {
-        Color::Solid(rgb) => rgb,
-        Color::Clear => return,
-    };
-    let count = cells.len().min(64);
-    paint_marked(&mut cells[..count], brush, bits, source);
-}
-
-/// The same where each cell has a bit.
-fn paint_marked(cells: &mut [Cell], brush: Brush, bits: u64, source: Rgb)
-    requires { length cells.old ≤ 64 }
-    ensures { (k : ℕ) → slice_get cells.new k
-        ≡ option_map (painted brush (if mask_bit bits k then Solid source else Clear))
-        (slice_get cells.old k) }
-{
-    let Brush { mode, high, low } = brush;
-    match mode {
-        Mode::Copy => paint_each_marked(cells, Mode::Copy, bits, source, high, low),
-        Mode::Over => paint_each_marked(cells, Mode::Over, bits, source, high, low),
-        Mode::Erase => paint_each_marked(cells, Mode::Erase, bits, source, high, low),
-        Mode::Invert => paint_each_marked(cells, Mode::Invert, bits, source, high, low),
-        Mode::Add => paint_each_marked(cells, Mode::Add, bits, source, high, low),
-        Mode::Subtract => paint_each_marked(cells, Mode::Subtract, bits, source, high, low),
-        Mode::Blend => paint_each_marked(cells, Mode::Blend, bits, source, high, low),
-        Mode::Min => paint_each_marked(cells, Mode::Min, bits, source, high, low),
-        Mode::Max => paint_each_marked(cells, Mode::Max, bits, source, high, low),
-        Mode::Select => paint_each_marked(cells, Mode::Select, bits, source, high, low),
-    }
 }
 
 /// The same in a mode, from set bit to set bit. Each caller has a loop of its own, for its mode.

@@ -185,10 +185,6 @@ fn rows_are_painted_in_a_span(rt: HostRuntime) -> Result<(), Fail> {
         column: -2,
     };
     let each = Source::Colors(&colors);
-    let mask = Source::Mask {
-        bits: 0xb800000000000000,
-        color: Color::Solid(BLUE),
-    };
     for (mode, source, picture) in [
         (Mode::Copy, one, "......--../.rrrr.--../......--.."),
         (Mode::Over, one, "......--../.rrrr.--../......--.."),
@@ -198,8 +194,6 @@ fn rows_are_painted_in_a_span(rt: HostRuntime) -> Result<(), Fail> {
         (Mode::Over, bits, "......--../..hh..--../......--.."),
         (Mode::Copy, each, "......--../.r.b..--../......--.."),
         (Mode::Over, each, "......--../.r.b..--../......--.."),
-        (Mode::Copy, mask, "......--../.b.bb.--../......--.."),
-        (Mode::Over, mask, "......--../.b.bb.--../......--.."),
     ] {
         let mut spans = two_rects(rt.alloc())?;
         assert!(rt; paint_in(&mut spans, 1, 4, 1, brush_of(mode), source));

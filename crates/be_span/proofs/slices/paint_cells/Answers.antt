@@ -10,7 +10,3 @@ returns-in-Bits-clause-marks c =
 pub returns-in-Colors-clause-marks : goal.returns-in-Colors-clause-marks
 returns-in-Colors-clause-marks c =
     marks_same _ c.args.cells.now c.paint_colors.new.cells c.paint_colors.ensures (λ k d. refl)
-
-pub returns-in-Mask-clause-marks : goal.returns-in-Mask-clause-marks
-returns-in-Mask-clause-marks c =
-    marks_same _ c.args.cells.now c.paint_mask.new.cells c.paint_mask.ensures (λ k d. refl)
