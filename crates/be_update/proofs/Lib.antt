@@ -6,3 +6,5 @@ pub mod WindowLemmas
 pub mod FrameLemmas
 pub mod PlaceLemmas
 pub mod ListingLemmas
+pub mod ListLemmas
+pub mod NoticeLemmas

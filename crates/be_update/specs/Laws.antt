@@ -1,20 +1,37 @@
 -- What begins in a pane begins in the window for which it stands (this project's own).
-use Rattle.std.specs.Prelude.{◌≡◌, ℕ, ℤ, Bool, ◌&&◌, List, None}
+use Rattle.std.specs.Prelude.{◌≡◌, ◌↔◌, ℕ, ℤ, Bool, true, false, ◌&&◌, List, Some, None}
 use Rattle.std.specs.List.{list_any}
 use Rattle.be_geom.specs.declared.point.Point.{Point}
 use Rattle.be_geom.specs.Places.{at_pixel, same_point}
 use Rattle.be_span.specs.declared.Cell.{Cell}
+use Rattle.be_span.specs.Screen.{cell_at}
 use Rattle.be_views.specs.Trees.{Tree}
 use Rattle.be_pane.specs.Panes as machine
 use Rattle.be_pane.specs.declared.pane.Pane.{Pane}
+use Rattle.be_pane.specs.Owed.{IsOwed}
 use Rattle.be_pane.specs.StandsFor.{PaneStandsFor}
-use Rattle.be_update.specs.Sessions.{session_of, with_session, passed, cleaned_cell}
+use Rattle.be_update.specs.Sessions.{dirty_pixels, is_owed, session_of, with_session, passed, cleaned_cell}
 use Rattle.be_update.specs.Listing.{listed_views}
 use Rattle.be_update.specs.Surveys.{Surveyed, IsSurveyOf, HasBegun, without_notice}
 
 -- the list has the pixels that the window owns and that wait, and no others
 abbrev pub AreDirty : (ℤ → ℤ → Bool) → (ℤ → ℤ → Cell) → List Point → Type 0
 AreDirty owned cells dirty = (x y : ℤ) → list_any (same_point (at_pixel x y)) dirty ≡ (owned x y && (cells x y).dirty)
+
+-- the machine's list has them, where each pixel that the window owns has its cell on the screen
+abbrev pub ListedAsDirty : Type 0
+ListedAsDirty =
+    (width : ℕ) (owned : ℤ → ℤ → Bool) (screen : List Cell) (cells : ℤ → ℤ → Cell) →
+    ((x y : ℤ) → owned x y ≡ true → cell_at width screen x y ≡ Some (cells x y)) →
+    AreDirty owned cells (dirty_pixels width owned screen)
+
+-- A pane owes a notice exactly where the machine says that the window for which it stands is owed one. A window that is
+-- closed owns no pixel.
+abbrev pub OwedAsTheMachine : Type 0
+OwedAsTheMachine =
+    (pane : Pane) (w : ℕ) (corner : Point) (kept : machine.Pane) (tree : Tree) (owned : ℤ → ℤ → Bool) (cells : ℤ → ℤ → Cell) (dirty : List Point) (closed : Bool) →
+    PaneStandsFor pane w corner kept tree owned cells → AreDirty owned cells dirty →
+    (closed ≡ true → (x y : ℤ) → owned x y ≡ false) → IsOwed pane ↔ (is_owed closed dirty kept ≡ true)
 
 -- the cells once the window's wait no more
 abbrev pub cleaned : (ℤ → ℤ → Bool) → (ℤ → ℤ → Cell) → ℤ → ℤ → Cell
