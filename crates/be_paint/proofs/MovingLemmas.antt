@@ -27,7 +27,6 @@ use Rattle.be_paint.specs.declared.copying.Copying.{Copying}
 use Rattle.be_paint.specs.declared.pixel.Pixel.{Pixel}
 use Rattle.be_paint.specs.declared.reach.Site.{Site}
 use Rattle.be_paint.proofs.AreaLemmas.{moved_has, moved_twice, less_three}
-use Rattle.be_paint.proofs.ReachLemmas.{is_drawn}
 use Rattle.be_paint.proofs.RowLemmas.{row_by, row_more, row_before}
 use Rattle.be_paint.proofs.SeenLemmas.{seen_on, seen_at, session_same}
 
@@ -44,10 +43,6 @@ own_of true false e = cc
 own_of false own e = cc
 
 -- ---- what the window owns
-
-pub changed_owned : (rects : List Rect) (d : Copying) (x y : ℤ) → (change_at rects d x y ≡ Stay → ⊥) → region_has rects x y ≡ true
-changed_owned rects d x y h =
-    is_drawn rects d.reach.now d.view x y (free_of (may_draw rects d.reach.now d.view x y) (is_own rects d.reach.now (x -ℤ d.way.x) (y -ℤ d.way.y)) h)
 
 pub copied_owned : (rects : List Rect) (d : Copying) (x y : ℤ) → change_at rects d x y ≡ Copy → region_has rects (x -ℤ d.way.x) (y -ℤ d.way.y) ≡ true
 copied_owned rects d x y e =

@@ -50,10 +50,6 @@ edges_in : (low z high : ℤ) → between low z high ≡ true → ((between low 
 edges_in low z high e (inl h) = (h.1, h.2)
 edges_in low z high e (inr h) = absurd (let a = h.0 in cc)
 
-beside_none : (f : Rect) (x : ℤ) → (x <ℤ f.left) ⊎ (f.right <ℤ x) → f.left ≤ℤ x → x ≤ℤ f.right → ⊥
-beside_none f x (inl h) a b = absurd (omega (arith, ints))
-beside_none f x (inr h) a b = absurd (omega (arith, ints))
-
 pub edges : (low z high : ℤ) → between low z high ≡ true → (low ≤ℤ z) × (z ≤ℤ high)
 edges low z high e = edges_in low z high e (between_tells low z high)
 

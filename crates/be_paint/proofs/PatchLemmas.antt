@@ -1,11 +1,11 @@
 -- Answers that hold in a rectangle: moved from one kind of coordinates to another, and joined.
-use Rattle.std.proofs.Common.{◌≡◌, ℤ, pos, negsuc, ◌+ℤ◌, ◌-ℤ◌, ◌≤ℤ◌, ◌⊎◌, Bool, true, false, ◌&&◌, SFits, w16, w32, arith, rules, sym, ap, ◌∙◌}
+use Rattle.std.proofs.Common.{◌≡◌, ℤ, pos, negsuc, ◌+ℤ◌, ◌-ℤ◌, ◌≤ℤ◌, ◌⊎◌, Bool, true, ◌&&◌, SFits, w16, w32, arith, rules, sym, ◌∙◌}
 use Rattle.std.proofs.lemmas.Int.{ints}
 use Rattle.be_region.specs.Runs.{IsBlock}
 use Rattle.be_views.specs.Places.{IsNear}
 use Rattle.be_paint.specs.Stretches.{IsCoordinate, IsBeyond, IsWithin, IsPatch}
 use Rattle.be_paint.specs.declared.pixel.Pixel.{Pixel}
-use Rattle.be_paint.proofs.StretchLemmas.{both_false, both_true}
+use Rattle.be_paint.proofs.StretchLemmas.{both_true}
 
 -- ---- numbers
 
@@ -65,14 +65,6 @@ nearer_within at mid last x y (right, bottom) h =
 pub further : (a b c : Pixel) → IsBeyond a b → IsBeyond b c → IsBeyond a c
 further a b c (right, down) (more, lower) = (omega (arith, ints), omega (arith, ints))
 
--- where the first says no, both do
-pub no_patch : (f g : ℤ → ℤ → Bool) (at end last : Pixel) → IsPatch f at end last → f at.x at.y ≡ false → IsPatch (λ z w. f z w && g z w) at end last
-no_patch f g at end last h first = record {
-  forward = h.forward;
-  within = h.within;
-  same = λ z w in_it. both_false (f z w) (g z w) (h.same z w in_it ∙ first) ∙ sym (both_false (f at.x at.y) (g at.x at.y) first);
-}
-
 -- where the first says yes, the second decides
 pub yes_patch : (f g : ℤ → ℤ → Bool) (at end mid last : Pixel) → IsPatch f at end mid → f at.x at.y ≡ true → IsPatch g at mid last → IsPatch (λ z w. f z w && g z w) at end last
 yes_patch f g at end mid last h first k = record {
@@ -82,10 +74,6 @@ yes_patch f g at end mid last h first k = record {
       both_true (f z w) (g z w) (h.same z w (nearer_within at mid last z w k.within in_it) ∙ first)
       ∙ k.same z w in_it ∙ sym (both_true (f at.x at.y) (g at.x at.y) first);
 }
-
--- what follows from an answer stays as long
-pub mapped_patch : {A B : Type 0} (g : A → B) (f : ℤ → ℤ → A) (at end last : Pixel) → IsPatch f at end last → IsPatch (λ z w. g (f z w)) at end last
-mapped_patch g f at end last h = record { forward = h.forward; within = h.within; same = λ z w in_it. ap g (h.same z w in_it) }
 
 -- a pixel is in its own block
 pub itself : (at last : Pixel) → IsBeyond at last → IsWithin at last at.x at.y

@@ -171,7 +171,7 @@ impl Drawing<'_> {
         })
     }
 
-    /// The same of whether the window owns the pixels and the view is at them.
+    /// The span with a pixel, where the window owns it and the view is at it, and a last pixel up to which that stays so.
     fn own_block(&self, spans: &SpanBuf, at: Pixel, known: &mut Known) -> (Option<Span>, Pixel)
         requires far { IsInRange self.now.far }
         requires from { IsInRange at }

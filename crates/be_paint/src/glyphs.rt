@@ -19,8 +19,8 @@ const LAST_PEN: i32 = 32767;
 /// More columns than there are from any pen to the end of a glyph where it stops.
 const MOST_COLUMNS: usize = 65544;
 
-/// The last of the pixels that have a bit.
-const LAST_BIT: i32 = 63;
+/// The last of the pixels that a mask has a bit for.
+pub(crate) const LAST_BIT: i32 = 63;
 
 /// Which of 64 pixels of each row of the glyphs, from a column of drawing on, they cover, the first one by the highest bit.
 /// It takes a few steps for each glyph among them, and for each one where the pen stopped.
@@ -67,7 +67,8 @@ fn columns_before(pen: i16, x: i32) -> u16
     if last < pen { 0 } else { (last - pen) as u16 }
 }
 
-/// The same of glyphs from a pen on. It goes through them in turn up to the first one that begins behind the pixels.
+/// Which of 64 pixels of each row the glyphs from a pen on cover. It goes through them in turn up to the first one that
+/// begins behind the pixels.
 #[inline(always)]
 fn masks_of(codes: &[u8], pen: i16, x: i32) -> [u64; 7]
     requires { IsNear 62 x }

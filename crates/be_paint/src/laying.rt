@@ -7,7 +7,7 @@ ghost use Rattle.be_paint.specs.Seen.{IsBase, IsPlace};
 ghost use Rattle.be_paint.specs.Stretches.{IsBeyond, IsInRange};
 
 use crate::drawing::Drawing;
-use crate::glyphs::{ASCENT, masks_at};
+use crate::glyphs::{ASCENT, LAST_BIT, masks_at};
 use crate::ink::Ink;
 use crate::pixel::{Pixel, columns, steps};
 use be_bitmap::Bitmap;
@@ -15,9 +15,6 @@ use be_color::{Pattern, Rgb};
 use be_geom::{Point, Rect};
 use be_span::{Brush, Source, Span, SpanBuf};
 use be_state::State;
-
-/// The last of the pixels that a mask has bits for.
-pub(crate) const LAST_BIT: i32 = 63;
 
 /// Draws on the pixels from one on to another, on each of which the view may draw, all in one rectangle of the region.
 #[inline(always)]
@@ -204,7 +201,8 @@ pub(crate) fn top_of(drawing: &Drawing<'_>) -> i32
     drawing.first_row() + i32::from(drawing.reach.states.top().pen.y) - ASCENT
 }
 
-/// The same with the pixels of a picture.
+/// Draws the pixels of a picture from one to another, on each of which the view may draw, all in one rectangle of the
+/// region.
 fn lay_picture(
     spans: &mut SpanBuf,
     drawing: &Drawing<'_>,
@@ -272,7 +270,7 @@ fn part_of(bitmap: &Bitmap, left_top: Pixel, at: Pixel, last: Pixel) -> (Pixel, 
     )
 }
 
-/// The same of pixels of which none is left of the picture or above it.
+/// Draws the pixels of a picture from one on that is neither left of it nor above it.
 fn lay_pixels(
     spans: &mut SpanBuf,
     drawing: &Drawing<'_>,

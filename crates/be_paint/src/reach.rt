@@ -154,7 +154,7 @@ impl Reach<'_> {
         last_pixel(corner, HERE, end)
     }
 
-    /// The same of any window.
+    /// Whether the view is at a pixel, whatever views the window has, and a last pixel up to which that stays so.
     fn view_block(&self, at: Pixel, end: Pixel) -> (bool, Pixel)
         requires from { IsInRange at }
         requires forward { IsBeyond at end }

@@ -4,8 +4,8 @@ ghost use Rattle.be_paint.specs.Seen.{IsBase, IsPlace};
 ghost use Rattle.be_paint.specs.Stretches.{IsBeyond, IsInRange};
 
 use crate::drawing::{Drawing, Known};
-use crate::glyphs::{ASCENT, is_set, masks_at};
-use crate::laying::{LAST_BIT, brush_of, glyph_row, top_of};
+use crate::glyphs::{ASCENT, LAST_BIT, is_set, masks_at};
+use crate::laying::{brush_of, glyph_row, top_of};
 use crate::pixel::{Pixel, steps};
 use be_span::SpanBuf;
 
