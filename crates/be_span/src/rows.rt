@@ -1,4 +1,4 @@
-ghost use Rattle.std.specs.Prelude.{◌≡◌, ◌<◌, ◌≤◌, ◌+◌, ◌⊎◌, ℕ, length, map, slice_get, count_by, if◌then◌else◌};
+ghost use Rattle.std.specs.Prelude.{◌≡◌, ◌<◌, ◌≤◌, ◌+◌, ◌⊎◌, ℕ, false, Some, length, map, slice_get, count_by, if◌then◌else◌};
 ghost use Rattle.std.specs.Option.{option_map};
 ghost use Rattle.be_span.specs.Cells.{unmarked};
 ghost use Rattle.be_color.specs.declared.colors.Color.TheVariants.{Solid, Clear};
@@ -76,7 +76,7 @@ pub(crate) fn paint_same_part(
     paint_each(&mut cells[start..start + count], mode, source, high, low);
 }
 
-/// Gives `count` cells from `start` on a colour, where no cell is dirty. A cell is read only where there is one alone.
+/// Gives `count` cells from `start` on a colour, where no cell is dirty. No cell is read.
 #[inline(always)]
 pub(crate) fn fill_part(cells: &mut [Cell], start: usize, count: usize, rgb: Rgb)
     requires fits { start + count ≤ length cells.old }
@@ -88,12 +88,20 @@ pub(crate) fn fill_part(cells: &mut [Cell], start: usize, count: usize, rgb: Rgb
         → slice_get cells.new q ≡ slice_get cells.old q }
     ensures marks { count_by (λ c. c.dirty) cells.new ≡ count_by (λ c. c.dirty) cells.old }
 {
-    if count == 1 {
-        paint_cell(cells, start, Brush::PLAIN, Color::Solid(rgb));
-        return;
-    }
     let some = &mut cells[start..start + count];
-    some.fill(Cell { rgb, dirty: false });
+    fill_each(some, Cell { rgb, dirty: false });
+}
+
+/// Makes all cells the same. One alone takes no loop.
+#[inline(always)]
+fn fill_each(cells: &mut [Cell], cell: Cell)
+    ensures len { length cells.new ≡ length cells.old }
+    ensures each { (k : ℕ) → k < length cells.old → slice_get cells.new k ≡ Some cell }
+{
+    match cells {
+        [one] => *one = cell,
+        _ => cells.fill(cell),
+    }
 }
 
 /// Paints those of `count` cells from `start` on whose bit of the mask is set. Each caller has a loop
@@ -136,16 +144,17 @@ pub(crate) fn fill_marked_part(cells: &mut [Cell], start: usize, count: usize, r
     ensures marks { count_by (λ c. c.dirty) cells.new ≡ count_by (λ c. c.dirty) cells.old }
 {
     let some = &mut cells[start..start + count];
-    fill_each_marked(some, mask, rgb);
+    fill_each_marked(some, mask, Cell { rgb, dirty: false });
 }
 
-/// Gives each cell whose bit is set a colour, from set bit to set bit, where no cell is dirty. No cell
-/// is read.
+/// Puts a clean cell in the place of each whose bit is set, from set bit to set bit, where no cell is
+/// dirty. No cell is read, and the new one is stored as a whole.
 #[inline(always)]
-fn fill_each_marked(cells: &mut [Cell], bits: u64, rgb: Rgb)
-    requires { count_by (λ c. c.dirty) cells.old ≡ 0 }
+fn fill_each_marked(cells: &mut [Cell], bits: u64, cell: Cell)
+    requires new { cell.dirty ≡ false }
+    requires clean { count_by (λ c. c.dirty) cells.old ≡ 0 }
     ensures { (k : ℕ) → slice_get cells.new k
-        ≡ option_map (painted plain (if mask_bit bits k then Solid rgb else Clear))
+        ≡ option_map (painted plain (if mask_bit bits k then Solid cell.rgb else Clear))
         (slice_get cells.old k) }
 {
     let mut rest = bits;
@@ -156,7 +165,7 @@ fn fill_each_marked(cells: &mut [Cell], bits: u64, rgb: Rgb)
         if place >= cells.len() {
             return;
         }
-        cells[place] = Cell { rgb, dirty: false };
+        cells[place] = cell;
         place += 1;
         rest = rest << gap << 1;
     }

@@ -117,13 +117,13 @@ fn paint_each_bit(cells: &mut [Cell], mode: Mode, byte: u8, first: usize, high: 
 {
     let set = pick(mode, true, high, low);
     let unset = pick(mode, false, high, low);
-    let mut place = first;
+    let mut bits = byte.rotate_left(first as u32);
     for cell in cells.iter_mut() {
-        let color = if has_bit(byte, place) { set } else { unset };
+        let color = if has_first_bit(bits) { set } else { unset };
         if let Color::Solid(source) = color {
             *cell = painted(*cell, mode, source, high, low);
         }
-        place = (place + 1) % 8;
+        bits = bits.rotate_left(1);
     }
 }
 
@@ -213,12 +213,11 @@ pub(crate) fn paint_each_marked(
     }
 }
 
-/// Whether the byte has this bit, counted from the left.
-fn has_bit(byte: u8, place: usize) -> bool
-    requires { place < 8 }
-    ensures { result ≡ (bit_at byte (7 - place) == 1) }
+/// Whether the leftmost bit of the byte is set.
+fn has_first_bit(byte: u8) -> bool
+    ensures { result ≡ (bit_at byte 7 == 1) }
 {
-    byte >> (7 - place) & 1 == 1
+    byte >> 7 & 1 == 1
 }
 
 /// Where a column falls in a pattern's row, 0 to 7.

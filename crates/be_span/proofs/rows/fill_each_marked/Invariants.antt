@@ -10,7 +10,7 @@ abbrev pub invariant-bits : goal.invariant-bits
 invariant-bits l = record {
   place : l.place ≤ 64;
   rest : IsRestOf l.fn.bits l.rest l.place;
-  cells : IsDoneTo (λ k. painted plain (if mask_bit l.fn.bits k then Solid l.fn.rgb else Clear)) l.fn.cells l.cells l.place;
+  cells : IsDoneTo (λ k. painted plain (if mask_bit l.fn.bits k then Solid l.fn.cell.rgb else Clear)) l.fn.cells l.cells l.place;
 }
 
 abbrev pub decreases-bits : goal.decreases-bits

@@ -9,8 +9,8 @@ use Rattle.be_span.proofs.MaskLemmas.{by_mask}
 use Rattle.be_span.proofs.SliceLemmas.{marks_same}
 use Rattle.be_span.proofs.rows.fill_marked_part.Goals as goal
 
-pub fill_each_marked-requires : goal.fill_each_marked-requires
-fill_each_marked-requires c =
+pub fill_each_marked-requires-clause-clean : goal.fill_each_marked-requires-clause-clean
+fill_each_marked-requires-clause-clean c =
     let part = part_sum (λ (x : Cell). cond x.dirty 1 0) c.args.start (c.args.start + c.args.count - c.args.start) c.args.cells.now in
     let none = c.requires.clean in
     omega arith
