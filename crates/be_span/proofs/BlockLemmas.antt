@@ -1,9 +1,9 @@
 -- The pixels of a rectangle, painted row by row.
-use Rattle.std.proofs.Common.{◌≡◌, ℕ, ◌<◌, ℤ, pos, negsuc, ◌+ℤ◌, ◌-ℤ◌, ◌≤ℤ◌, ◌<ℤ◌, true, false, eqb, inl, inr, List, [], ◌∷◌, refl, sym, ap, ◌∙◌, subst, arith}
+use Rattle.std.proofs.Common.{◌≡◌, ℕ, ◌<◌, ℤ, pos, negsuc, ◌+ℤ◌, ◌-ℤ◌, ◌≤ℤ◌, ◌<ℤ◌, true, false, inl, inr, List, refl, sym, ap, ◌∙◌, subst, arith}
 use Rattle.std.specs.Prelude.{unsigned_abs, slice_index}
 use Rattle.std.specs.Option.{option_map}
 use Rattle.std.proofs.lemmas.Int.{ints, by_lt_z}
-use Rattle.std.proofs.lemmas.Bool.{agree_below_at, eqb-true, true≢false}
+use Rattle.std.proofs.lemmas.Bool.{true≢false}
 use Rattle.be_geom.specs.declared.rect.Rect.{Rect}
 use Rattle.be_geom.specs.Rects.{rect_has}
 use Rattle.be_color.specs.Pattern.{place_in_pattern, pattern_bit}
@@ -15,7 +15,6 @@ use Rattle.be_span.specs.Runs.{IsBeside}
 use Rattle.be_span.specs.Slices.{pattern_color, row_bit, source_at}
 use Rattle.be_span.specs.Spans.{Spans, cell_in}
 use Rattle.be_span.proofs.GridLemmas.{IsIn, in_from, has_from, pos_abs}
-use Rattle.be_span.proofs.SliceLemmas.{all_set, none_set}
 
 -- ---- patterns
 

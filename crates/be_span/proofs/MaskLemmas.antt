@@ -1,23 +1,18 @@
--- The bits of a mask, from set bit to set bit.
-use Rattle.std.proofs.Common.{◌≡◌, ℕ, suc, ℤ, pos, ◌+ℤ◌, ◌-ℤ◌, ◌+◌, ◌-◌, ◌*◌, ◌/◌, ◌%◌, ◌^◌, ◌<◌, ◌≤◌, true, false, eqb, cond, ◌⊎◌, inl, inr, List, sym, ap, ◌∙◌, arith}
+-- The bits of a mask, from the last set bit to the first.
+use Rattle.std.proofs.Common.{◌≡◌, ℕ, zero, suc, ℤ, pos, ◌+ℤ◌, ◌-ℤ◌, ◌-◌, ◌/◌, ◌%◌, ◌^◌, ◌<◌, ◌≤◌, min, true, false, eqb, cond, inl, inr, List, Some, None, length, get_or, set, slice_get, refl, sym, ap, ◌∙◌, arith, w64, bit_and}
 use Rattle.std.specs.Prelude.{◌&&◌, slice_index}
-use Rattle.std.specs.Int.{bit_at}
-use Rattle.std.specs.Int.Count.{count_leading_zeros}
-use Rattle.std.proofs.lemmas.Bool.{cases_lt, lt-ltb, le-ltb, true≢false}
+use Rattle.std.specs.Option.{option_map}
+use Rattle.std.specs.Int.{bit_at, trailing_zeros}
+use Rattle.std.proofs.lemmas.Bool.{cases_lt, cases_order, lt-ltb, le-ltb, true≢false}
 use Rattle.std.proofs.lemmas.Int.{ints}
-use Rattle.std.proofs.lemmas.Nat.{shr_split, leading_top, pow_pos}
-use Rattle.std.proofs.lemmas.Nat.Bits.{bit_at-zero, bit_at_cat_low, bit_at_cat_high, bit_at_above}
-use Rattle.std.proofs.Math.Nat.{div-eq_of_lt-le, pow-suc}
+use Rattle.std.proofs.lemmas.Nat.Bits.{bit_at-zero, bit_at-suc, bit_at_lowest, bit_at_and, bit_at-trailing_zeros}
+use Rattle.std.proofs.lemmas.Option.{slice_get-get_or, slice_get_past}
 use Rattle.be_color.specs.declared.colors.Color.{Color}
 use Rattle.be_color.specs.declared.colors.Color.TheVariants.{Clear}
 use Rattle.be_span.specs.declared.Cell.{Cell}
 use Rattle.be_span.specs.declared.brush.Brush.{Brush}
 use Rattle.be_span.specs.Slices.{mask_bit, masked_color, painted}
-use Rattle.be_span.proofs.SliceLemmas.{IsDoneTo, done_skip}
-
--- the bits of a mask from a place on, moved to the front
-pub record IsRestOf (bits rest place : ℕ) : Type 0 where
-  pub same : (k : ℕ) → mask_bit rest k ≡ mask_bit bits (place + k)
+use Rattle.be_span.proofs.SliceLemmas.{slice_get-set_same, slice_get-set_other, stays}
 
 mask_at : (bits k : ℕ) → k < 64 → mask_bit bits k ≡ eqb (bit_at bits (63 - k)) 1
 mask_at bits k less = ap (λ b. b && eqb (bit_at bits (63 - k)) 1) (lt-ltb k 64 less)
@@ -29,78 +24,66 @@ mask_unset : (bits k : ℕ) → bit_at bits (63 - k) ≡ 0 → mask_bit bits k �
 mask_unset bits k e =
     elim (cases_lt k 64) [ inl h ↦ mask_at bits k h ∙ ap (λ b. eqb b 1) e | inr h ↦ mask_past bits k h ]
 
--- a mask has as many bits as are kept
-within : (n w i : ℕ) → i < w → bit_at (n % 2 ^ w) i ≡ bit_at n i
-within n w i less = sym (bit_at_cat_low (n / 2 ^ w) w (n % 2 ^ w) i less) ∙ ap (λ m. bit_at m i) (shr_split n w)
+-- a number less one, from the lowest bit that is set on
+below_one : (z n : ℕ) → bit_at n z ≡ 1 → ((i : ℕ) → i < z → bit_at n i ≡ 0) → bit_at (n - 1) z ≡ 0
+below_one zero n one none =
+    let odd : n % 2 ≡ 1 = sym (bit_at_lowest n) ∙ one in
+    bit_at_lowest (n - 1) ∙ omega arith
+below_one (suc z) n one none =
+    let even : n % 2 ≡ 0 = sym (bit_at_lowest n) ∙ none 0 (omega arith) in
+    let half : (n - 1) / 2 ≡ n / 2 - 1 = omega arith in
+    bit_at-suc (n - 1) z ∙ ap (λ m. bit_at m z) half ∙ below_one z (n / 2) (sym (bit_at-suc n z) ∙ one) (λ i less. sym (bit_at-suc n i) ∙ none (suc i) (omega arith))
 
-low_zeros : (bits s i : ℕ) → i < s → bit_at (bits * 2 ^ s) i ≡ 0
-low_zeros bits s i less =
-    ap (λ m. bit_at m i) (more (bits * 2 ^ s)) ∙ bit_at_cat_low bits s 0 i less ∙ bit_at-zero i
-  where
-    more : (m : ℕ) → m ≡ m + 0
-    more m = omega arith
+below_others : (z n i : ℕ) → bit_at n z ≡ 1 → ((i : ℕ) → i < z → bit_at n i ≡ 0) → z < i → bit_at (n - 1) i ≡ bit_at n i
+below_others z n zero one none above = absurd (omega arith)
+below_others zero n (suc i) one none above =
+    let odd : n % 2 ≡ 1 = sym (bit_at_lowest n) ∙ one in
+    let half : (n - 1) / 2 ≡ n / 2 = omega arith in
+    bit_at-suc (n - 1) i ∙ ap (λ m. bit_at m i) half ∙ sym (bit_at-suc n i)
+below_others (suc z) n (suc i) one none above =
+    let even : n % 2 ≡ 0 = sym (bit_at_lowest n) ∙ none 0 (omega arith) in
+    let half : (n - 1) / 2 ≡ n / 2 - 1 = omega arith in
+    bit_at-suc (n - 1) i ∙ ap (λ m. bit_at m i) half
+    ∙ below_others z (n / 2) i (sym (bit_at-suc n z) ∙ one) (λ j less. sym (bit_at-suc n j) ∙ none (suc j) (omega arith)) (omega arith)
+    ∙ sym (bit_at-suc n i)
 
-high_bits : (bits s i j : ℕ) → i ≡ s + j → bit_at (bits * 2 ^ s) i ≡ bit_at bits j
-high_bits bits s i j e =
-    ap (λ m. bit_at m i) (more (bits * 2 ^ s)) ∙ bit_at_cat_high bits s 0 i (pow_pos s) (omega arith) ∙ ap (bit_at bits) (omega arith)
-  where
-    more : (m : ℕ) → m ≡ m + 0
-    more m = omega arith
+-- the last bit that is set is taken away
+pub record IsWithout (bits place rest : ℕ) : Type 0 where
+  pub within : place < 64
+  pub set : mask_bit bits place ≡ true
+  pub gone : mask_bit rest place ≡ false
+  pub others : (k : ℕ) → (k ≡ place → ⊥) → mask_bit rest k ≡ mask_bit bits k
 
-pub shifted : (bits s k : ℕ) → mask_bit (bits * 2 ^ s % 2 ^ 64) k ≡ mask_bit bits (s + k)
-shifted bits s k =
-    elim (cases_lt (s + k) 64) [
-      | inl h ↦ mask_at _ k (omega arith) ∙ ap (λ b. eqb b 1) (within (bits * 2 ^ s) 64 (63 - k) (omega arith) ∙ high_bits bits s (63 - k) (63 - (s + k)) (omega arith)) ∙ sym (mask_at bits (s + k) h)
-      | inr h ↦ behind h (cases_lt k 64)
-    ]
-  where
-    behind : 64 ≤ s + k → (k < 64) ⊎ (64 ≤ k) → mask_bit (bits * 2 ^ s % 2 ^ 64) k ≡ mask_bit bits (s + k)
-    behind h (inl less) = mask_unset (bits * 2 ^ s % 2 ^ 64) k (within (bits * 2 ^ s) 64 (63 - k) (omega arith) ∙ low_zeros bits s (63 - k) (omega arith)) ∙ sym (mask_past bits (s + k) h)
-    behind h (inr past) = mask_past (bits * 2 ^ s % 2 ^ 64) k past ∙ sym (mask_past bits (s + k) h)
-
-rest_at : (bits rest place k : ℕ) → IsRestOf bits rest place → place ≤ k → mask_bit bits k ≡ mask_bit rest (k - place)
-rest_at bits rest place k is from = ap (mask_bit bits) (at from) ∙ sym (is.same (k - place))
-  where
-    at : place ≤ k → k ≡ place + (k - place)
-    at h = omega arith
-
--- no bit is set
-pub none_set : (bits rest place k : ℕ) → IsRestOf bits rest place → rest ≡ 0 → place ≤ k → mask_bit bits k ≡ false
-none_set bits rest place k is e from =
-    rest_at bits rest place k is from ∙ ap (λ m. mask_bit m (k - place)) e ∙ mask_unset 0 (k - place) (bit_at-zero (63 - (k - place)))
-
--- the first that is set
-pub record IsGap (rest gap : ℕ) : Type 0 where
-  pub some : gap < 64
-  pub set : mask_bit rest gap ≡ true
-  pub none : (k : ℕ) → k < gap → mask_bit rest k ≡ false
-
-one_at : (n j : ℕ) → 2 ^ j ≤ n → n < 2 ^ suc j → bit_at n j ≡ 1
-one_at n j low high =
-    ap (λ m. m % 2) (div-eq_of_lt-le {k = 1} (2 ^ j) (omega arith) (let twice = pow-suc 2 j in omega arith))
-
-gap_of : (rest : ℕ) → 0 < rest → rest < 2 ^ 64 → IsGap rest (count_leading_zeros 64 rest)
-gap_of rest some fits =
-    let top = leading_top 64 rest some fits in
-    let j = top.0 in
-    let counted = top.1 in
-    let low = top.2 in
-    let high = top.3 in
-    let at : 63 - count_leading_zeros 64 rest ≡ j = omega arith in
+pub last_gone : (bits : ℕ) → 0 < bits → bits < 2 ^ 64 → IsWithout bits (63 - trailing_zeros w64 bits) (bit_and bits (bits - 1))
+last_gone bits some fits =
+    let low = bit_at-trailing_zeros w64 bits some fits in
+    let z = trailing_zeros w64 bits in
+    let less : z < 64 = low.0 in
+    let one : bit_at bits z ≡ 1 = low.1 in
+    let none : (i : ℕ) → i < z → bit_at bits i ≡ 0 = low.2 in
+    let there : 63 - (63 - z) ≡ z = omega arith in
+    let rest = bit_and bits (bits - 1) in
+    let bit_of : (i : ℕ) → bit_at rest i ≡ min (bit_at bits i) (bit_at (bits - 1) i) = bit_at_and bits (bits - 1) in
     record {
-      some = omega arith;
-      set = mask_at rest (count_leading_zeros 64 rest) (omega arith) ∙ ap (λ b. eqb b 1) (ap (bit_at rest) at ∙ one_at rest j low high);
-      none = λ k less. mask_unset rest k (bit_at_above rest (suc j) (63 - k) high (omega arith));
+      within = omega arith;
+      set = mask_at bits (63 - z) (omega arith) ∙ ap (λ b. eqb b 1) (ap (bit_at bits) there ∙ one);
+      gone = mask_unset rest (63 - z) (ap (bit_at rest) there ∙ bit_of z ∙ min_zero (bit_at bits z) _ (below_one z bits one none));
+      others = λ k other. elim (cases_lt k 64) [
+        | inl h ↦ mask_at rest k h ∙ ap (λ b. eqb b 1) (bit_of (63 - k) ∙ kept z (63 - k) one none (λ same. other (omega arith))) ∙ sym (mask_at bits k h)
+        | inr h ↦ mask_past rest k h ∙ sym (mask_past bits k h)
+      ];
     }
-
--- what is left behind it
-pub rest_next : (bits rest place gap : ℕ) → IsRestOf bits rest place → IsRestOf bits (rest * 2 ^ gap % 2 ^ 64 * 2 % 2 ^ 64) (place + gap + 1)
-rest_next bits rest place gap is = record {
-  same = λ k. shifted (rest * 2 ^ gap % 2 ^ 64) 1 k ∙ shifted rest gap (1 + k) ∙ is.same (gap + (1 + k)) ∙ ap (mask_bit bits) (at k);
-}
   where
-    at : (k : ℕ) → place + (gap + (1 + k)) ≡ place + gap + 1 + k
-    at k = omega arith
+    min_zero : (a b : ℕ) → b ≡ 0 → min a b ≡ 0
+    min_zero a b e = omega arith
+
+    kept : (z i : ℕ) → bit_at bits z ≡ 1 → ((i : ℕ) → i < z → bit_at bits i ≡ 0) → (i ≡ z → ⊥) → min (bit_at bits i) (bit_at (bits - 1) i) ≡ bit_at bits i
+    kept z i one none other =
+        elim (cases_order z i) [
+          | inl same ↦ absurd (other (sym same))
+          | inr (inl above) ↦ let e = below_others z bits i one none above in omega arith
+          | inr (inr below) ↦ let e = none i below in omega arith
+        ]
 
 -- a cell without a bit stays
 abbrev pub by_mask : Brush → Color → ℕ → ℕ → Cell → Cell
@@ -109,28 +92,58 @@ by_mask brush color bits k = painted brush (cond (mask_bit bits k) color Clear)
 pub unset_stays : (brush : Brush) (color : Color) (bits k : ℕ) (c : Cell) → mask_bit bits k ≡ false → by_mask brush color bits k c ≡ c
 unset_stays brush color bits k c e = ap (λ b. painted brush (cond b color Clear) c) e
 
-pub set_painted : (brush : Brush) (color : Color) (bits k : ℕ) (c : Cell) → mask_bit bits k ≡ true → painted brush color c ≡ by_mask brush color bits k c
-set_painted brush color bits k c e = sym (ap (λ b. painted brush (cond b color Clear) c) e)
+-- the cells whose bit isn't left are painted, and the others are as they were
+pub record IsPaintedBut (brush : Brush) (color : Color) (bits rest : ℕ) (old new : List Cell) : Type 0 where
+  pub some : (k : ℕ) → mask_bit rest k ≡ true → mask_bit bits k ≡ true
+  pub left : (k : ℕ) → mask_bit rest k ≡ true → slice_get new k ≡ slice_get old k
+  pub done : (k : ℕ) → mask_bit rest k ≡ false → slice_get new k ≡ option_map (by_mask brush color bits k) (slice_get old k)
 
-set_within : (bits k : ℕ) → mask_bit bits k ≡ true → k < 64
-set_within bits k e =
-    elim (cases_lt k 64) [ inl h ↦ h | inr h ↦ absurd (true≢false (sym e ∙ mask_past bits k h)) ]
+pub all_left : (brush : Brush) (color : Color) (bits : ℕ) (cells : List Cell) → IsPaintedBut brush color bits bits cells cells
+all_left brush color bits cells = record {
+  some = λ k e. e;
+  left = λ k e. refl;
+  done = λ k e. stays (by_mask brush color bits k) (slice_get cells k) (λ c. unset_stays brush color bits k c e);
+}
 
--- up to the next set bit
-pub record IsNextTo (brush : Brush) (color : Color) (bits place : ℕ) (old new : List Cell) : Type 0 where
-  pub some : place < 64
-  pub set : mask_bit bits place ≡ true
-  pub done : IsDoneTo (by_mask brush color bits) old new place
+pub none_left : (brush : Brush) (color : Color) (bits rest : ℕ) (old new : List Cell) (k : ℕ) → rest ≡ 0 → IsPaintedBut brush color bits rest old new → slice_get new k ≡ option_map (by_mask brush color bits k) (slice_get old k)
+none_left brush color bits rest old new k e is = is.done k (ap (λ n. mask_bit n k) e ∙ mask_unset 0 k (bit_at-zero (63 - k)))
 
-pub next_of : (brush : Brush) (color : Color) (bits rest place : ℕ) (old new : List Cell) → IsRestOf bits rest place → 0 < rest → rest < 2 ^ 64 → IsDoneTo (by_mask brush color bits) old new place → IsNextTo brush color bits (place + count_leading_zeros 64 rest) old new
-next_of brush color bits rest place old new is some fits so_far =
-    let gap = gap_of rest some fits in
-    let set = sym (is.same (count_leading_zeros 64 rest)) ∙ gap.set in
-    record {
-      some = set_within bits (place + count_leading_zeros 64 rest) set;
-      set = set;
-      done = done_skip (by_mask brush color bits) old new place (place + count_leading_zeros 64 rest) (λ k c from less. unset_stays brush color bits k c (rest_at bits rest place k is from ∙ gap.none (k - place) (omega arith))) (omega arith) so_far;
-    }
+one_less : (brush : Brush) (color : Color) (bits rest place next : ℕ) (old new after : List Cell) → IsWithout rest place next → IsPaintedBut brush color bits rest old new → ((k : ℕ) → (k ≡ place → ⊥) → slice_get after k ≡ slice_get new k) → slice_get after place ≡ option_map (painted brush color) (slice_get old place) → IsPaintedBut brush color bits next old after
+one_less brush color bits rest place next old new after without is same here = record {
+  some = λ k e. is.some k (sym (without.others k (apart k e)) ∙ e);
+  left = λ k e. same k (apart k e) ∙ is.left k (sym (without.others k (apart k e)) ∙ e);
+  done = λ k e. elim (cases_order k place) [
+    | inl at ↦ ap (slice_get after) at ∙ here ∙ painted_at k at
+    | inr (inl less) ↦ same k (λ at. omega arith) ∙ is.done k (sym (without.others k (λ at. omega arith)) ∙ e)
+    | inr (inr more) ↦ same k (λ at. omega arith) ∙ is.done k (sym (without.others k (λ at. omega arith)) ∙ e)
+  ];
+}
+  where
+    apart : (k : ℕ) → mask_bit next k ≡ true → k ≡ place → ⊥
+    apart k e at = true≢false (sym e ∙ ap (mask_bit next) at ∙ without.gone)
+
+    painted_at : (k : ℕ) → k ≡ place → option_map (painted brush color) (slice_get old place) ≡ option_map (by_mask brush color bits k) (slice_get old k)
+    painted_at k at =
+        ap (λ b. option_map (painted brush (cond b color Clear)) (slice_get old place)) (sym (is.some place without.set))
+        ∙ ap (λ q. option_map (by_mask brush color bits q) (slice_get old q)) (sym at)
+
+-- the last of the bits that are left is painted
+pub last_painted : (brush : Brush) (color : Color) (bits rest : ℕ) (old new : List Cell) (d x : Cell) → 0 < rest → rest < 2 ^ 64 → 63 - trailing_zeros w64 rest < length new → IsPaintedBut brush color bits rest old new → x ≡ painted brush color (get_or new (63 - trailing_zeros w64 rest) d) → IsPaintedBut brush color bits (bit_and rest (rest - 1)) old (set new (63 - trailing_zeros w64 rest) x)
+last_painted brush color bits rest old new d x some fits less is e =
+    let place = 63 - trailing_zeros w64 rest in
+    let without = last_gone rest some fits in
+    one_less brush color bits rest place (bit_and rest (rest - 1)) old new (set new place x) without is
+    (λ k other. slice_get-set_other new place k x (λ same. other (sym same)))
+    (slice_get-set_same new place x less ∙ ap Some e ∙ ap (option_map (painted brush color)) (sym (slice_get-get_or new place d less) ∙ is.left place without.set))
+
+-- or it has no cell
+pub last_past : (brush : Brush) (color : Color) (bits rest : ℕ) (old new : List Cell) → 0 < rest → rest < 2 ^ 64 → length old ≤ 63 - trailing_zeros w64 rest → IsPaintedBut brush color bits rest old new → IsPaintedBut brush color bits (bit_and rest (rest - 1)) old new
+last_past brush color bits rest old new some fits past is =
+    let place = 63 - trailing_zeros w64 rest in
+    let without = last_gone rest some fits in
+    let none : slice_get old place ≡ None = slice_get_past old place past in
+    one_less brush color bits rest place (bit_and rest (rest - 1)) old new new without is (λ k other. refl)
+    (is.left place without.set ∙ none ∙ sym (ap (option_map (painted brush color)) none))
 
 -- ---- rows
 

@@ -56,21 +56,9 @@ module _ {X : Type 0} where
         | inr h ↦ let past = slice_get_past old k (omega arith) in so_far.rest k h ∙ past ∙ sym (ap (option_map (f k)) past)
       ]
 
-  stays : (g : X → X) (o : Option X) → ((x : X) → g x ≡ x) → o ≡ option_map g o
+  pub stays : (g : X → X) (o : Option X) → ((x : X) → g x ≡ x) → o ≡ option_map g o
   stays g None h = refl
   stays g (Some x) h = ap Some (sym (h x))
-
-  -- the elements from a place up to another stay
-  pub done_skip : (f : ℕ → X → X) (old new : List X) (i j : ℕ) → ((k : ℕ) (x : X) → i ≤ k → k < j → f k x ≡ x) → i ≤ j → IsDoneTo f old new i → IsDoneTo f old new j
-  done_skip f old new i j same order so_far = record {
-    done = λ k h. elim (cases_lt k i) [ inl less ↦ so_far.done k less | inr from ↦ so_far.rest k from ∙ stays (f k) (slice_get old k) (λ x. same k x from h) ];
-    rest = λ k h. so_far.rest k (omega arith);
-  }
-
-  -- all elements from a place on stay
-  pub done_rest : (f : ℕ → X → X) (old new : List X) (i k : ℕ) → ((x : X) → i ≤ k → f k x ≡ x) → IsDoneTo f old new i → slice_get new k ≡ option_map (f k) (slice_get old k)
-  done_rest f old new i k same so_far =
-      elim (cases_lt k i) [ inl less ↦ so_far.done k less | inr from ↦ so_far.rest k from ∙ stays (f k) (slice_get old k) (λ x. same x from) ]
 
 -- ---- marks
 

@@ -21,10 +21,10 @@ turned n k i byte turn place =
     let second : k ≡ m / 8 % 8 = omega arith in
     let third : i ≡ m % 8 = omega arith in
     eqb-true _ _ (
-      ap (λ q. is_turned q k i) first
-      ∙ ap (λ q. is_turned (m / 64) q i) second
-      ∙ ap (is_turned (m / 64) (m / 8 % 8)) third
-      ∙ turned_at m (omega arith))
+    ap (λ q. is_turned q k i) first
+    ∙ ap (λ q. is_turned (m / 64) q i) second
+    ∙ ap (is_turned (m / 64) (m / 8 % 8)) third
+    ∙ turned_at m (omega arith))
 
 -- the leftmost bit is the one at a place of the byte, and the others follow
 pub record IsTurned (byte bits place : ℕ) : Type 0 where
@@ -63,5 +63,6 @@ picked_first brush byte bits place bit color is e picks =
   where
     first : bit_at bits 7 ≡ bit_at bits (7 - 0)
     first = refl
+
     there : 7 - (place + 0) % 8 ≡ 7 - place % 8
     there = omega arith

@@ -276,7 +276,7 @@ impl SpanBuf {
     /// Paints the pixels of a rectangle, all of them in this span, each with the colour that its bit
     /// of the pattern picks. The pattern is laid over the screen from `origin` on. Their marks stay.
     /// It takes no search, and where the pattern is of one colour, one choice of the mode. Where that
-    /// colour takes the place of each pixel's and no pixel is dirty, a cell is read only in a row of one alone.
+    /// colour takes the place of each pixel's and no pixel is dirty, no cell is read.
     pub fn paint_block(
         &mut self,
         span: Span,
@@ -307,7 +307,7 @@ impl SpanBuf {
     }
 
     /// Gives the pixels of a rectangle, all of them in this span, a colour, whatever they had. Their
-    /// marks stay. It takes no search, and where no pixel is dirty a cell is read only in a row of one alone.
+    /// marks stay. It takes no search, and where no pixel is dirty no cell is read.
     pub fn recolor_block(&mut self, span: Span, rect: Rect, rgb: Rgb)
         requires span { IsSpanOf self.old.rects span }
         requires inside { IsInside rect span.rect }
@@ -373,7 +373,7 @@ impl SpanBuf {
     }
 
     /// Gives the `count` pixels from (x, y) on to the right, all of them in this span, a colour, where no
-    /// pixel is dirty. A cell is read only where there is one alone.
+    /// pixel is dirty. No cell is read.
     #[inline(always)]
     pub(crate) fn fill_clean(&mut self, span: Span, x: i32, y: i32, count: usize, rgb: Rgb)
         requires span { IsSpanOf self.old.rects span }

@@ -147,8 +147,8 @@ pub(crate) fn fill_marked_part(cells: &mut [Cell], start: usize, count: usize, r
     fill_each_marked(some, mask, Cell { rgb, dirty: false });
 }
 
-/// Puts a clean cell in the place of each whose bit is set, from set bit to set bit, where no cell is
-/// dirty. No cell is read, and the new one is stored as a whole.
+/// Puts a clean cell in the place of each whose bit is set, from the last to the first, where no cell
+/// is dirty. No cell is read, and the new one is stored as a whole.
 #[inline(always)]
 fn fill_each_marked(cells: &mut [Cell], bits: u64, cell: Cell)
     requires new { cell.dirty ≡ false }
@@ -158,16 +158,12 @@ fn fill_each_marked(cells: &mut [Cell], bits: u64, cell: Cell)
         (slice_get cells.old k) }
 {
     let mut rest = bits;
-    let mut place = 0;
     'bits: while rest != 0 {
-        let gap = rest.leading_zeros() as usize;
-        place += gap;
-        if place >= cells.len() {
-            return;
+        let place = 63 - rest.trailing_zeros() as usize;
+        if place < cells.len() {
+            cells[place] = cell;
         }
-        cells[place] = cell;
-        place += 1;
-        rest = rest << gap << 1;
+        rest &= rest - 1;
     }
 }
 

@@ -185,7 +185,8 @@ fn color_at(colors: &[Color], place: usize) -> Color
     colors[place]
 }
 
-/// The same in a mode, from set bit to set bit. Each caller has a loop of its own, for its mode.
+/// Paints each cell whose bit is set, from the last to the first. Each caller has a loop of its own, for
+/// its mode.
 #[inline(always)]
 pub(crate) fn paint_each_marked(
     cells: &mut [Cell],
@@ -200,16 +201,12 @@ pub(crate) fn paint_each_marked(
         (if mask_bit bits k then Solid source else Clear)) (slice_get cells.old k) }
 {
     let mut rest = bits;
-    let mut place = 0;
     'bits: while rest != 0 {
-        let gap = rest.leading_zeros() as usize;
-        place += gap;
-        if place >= cells.len() {
-            return;
+        let place = 63 - rest.trailing_zeros() as usize;
+        if place < cells.len() {
+            cells[place] = painted(cells[place], mode, source, high, low);
         }
-        cells[place] = painted(cells[place], mode, source, high, low);
-        place += 1;
-        rest = rest << gap << 1;
+        rest &= rest - 1;
     }
 }
 

@@ -1,11 +1,7 @@
 -- A part filled.
-use Rattle.std.specs.Prelude.{slice_get}
-use Rattle.std.specs.Option.{option_map}
-use Rattle.be_span.specs.Slices.{recolored}
-use Rattle.std.proofs.Common.{◌≡◌, ℕ, subst, arith, cond, ◌+◌, ◌-◌, ◌<◌, ◌≤◌, ◌⊎◌, Some, ap, ◌∙◌, sym, refl}
-use Rattle.std.proofs.lemmas.Option.{slice_get-get_or}
+use Rattle.std.proofs.Common.{arith, cond, ◌+◌, ◌-◌, ◌<◌, ◌≤◌, ◌⊎◌, ap, ◌∙◌, sym, refl}
 use Rattle.be_span.specs.declared.Cell.{Cell}
-use Rattle.be_span.specs.Spans.{clean_cell, is_dirty}
+use Rattle.be_span.specs.Spans.{is_dirty}
 use Rattle.be_span.proofs.CellLemmas.{put_sum, part_sum, put_inside, put_others, part_length}
 use Rattle.be_span.proofs.MarkLemmas.{recolored_clean, all_clean}
 use Rattle.be_span.proofs.rows.fill_part.Goals as goal

@@ -1,7 +1,6 @@
 -- From bit to bit of a byte.
 use Rattle.std.proofs.Common.{◌≡◌, ℕ, ◌<◌, length, ◌+◌, ◌-◌, ◌%◌, ◌==◌, true, false, get_or, subst, ap, sym, ◌∙◌, arith}
 use Rattle.std.specs.Int.{bit_at}
-use Rattle.be_color.specs.declared.colors.Color.TheVariants.{Solid, Clear}
 use Rattle.be_color.specs.Pixel.{picked}
 use Rattle.be_span.specs.declared.Cell.{Cell}
 use Rattle.be_span.specs.declared.brush.Brush.{Brush}
@@ -23,10 +22,10 @@ loop-cell-preserved c =
     let place = c.args.first + c.loop-cell.cell-index in
     let turned = c.loop-cell.invariant.bits in
     let picks : c.if-has_first_bit.color ≡ picked brush.mode (bit_at c.args.byte (7 - place % 8) == 1) brush.high brush.low =
-        elim c.if-has_first_bit.branch [
-          | then-has_first_bit w ↦ picked_first brush c.args.byte c.loop-cell.bits place true c.if-has_first_bit.color turned (sym c.has_first_bit.ensures ∙ w.if-has_first_bit.true) (w.color-is ∙ c.pick-set.ensures)
-          | else-has_first_bit w ↦ picked_first brush c.args.byte c.loop-cell.bits place false c.if-has_first_bit.color turned (sym c.has_first_bit.ensures ∙ w.if-has_first_bit.false) (w.color-is ∙ c.pick-unset.ensures)
-        ] in
+    elim c.if-has_first_bit.branch [
+      | then-has_first_bit w ↦ picked_first brush c.args.byte c.loop-cell.bits place true c.if-has_first_bit.color turned (sym c.has_first_bit.ensures ∙ w.if-has_first_bit.true) (w.color-is ∙ c.pick-set.ensures)
+      | else-has_first_bit w ↦ picked_first brush c.args.byte c.loop-cell.bits place false c.if-has_first_bit.color turned (sym c.has_first_bit.ensures ∙ w.if-has_first_bit.false) (w.color-is ∙ c.pick-unset.ensures)
+    ] in
     let k = c.loop-cell.cell-index in
     let at : ℕ → Cell → Cell = λ q. painted_by_bit brush c.args.byte (c.args.first + q) in
     let none : Cell = record { rgb = record { red = 0; green = 0; blue = 0 }; dirty = false } in
