@@ -12,7 +12,7 @@ use Rattle.be_geom.specs.Numbers.{is_number}
 use Rattle.be_geom.specs.Rects.{rect_has, moved_rect}
 use Rattle.be_geom.specs.declared.change.Change.{Change}
 use Rattle.be_pane.specs.SameStacks.{SameStacks}
-use Rattle.be_pane.specs.StandsFor.{SameSession}
+use Rattle.be_region.specs.Sessions.{SameSession}
 use Rattle.be_region.specs.Regions.{region_has}
 use Rattle.be_span.specs.Cells.{Lookup, desktop_cell}
 use Rattle.be_span.specs.Spans.{Spans, cell_in}

@@ -2,7 +2,7 @@
 use Rattle.std.proofs.Common.{◌≡◌, ℤ, ◌+ℤ◌, ◌-ℤ◌, ◌≤ℤ◌, ◌⊎◌, Bool, true, false, ◌&&◌, Option, None, cond, SFits, w16, w32, arith, rules, sym, ap, ◌∙◌, refl}
 use Rattle.std.proofs.lemmas.Int.{ints}
 use Rattle.be_region.specs.Runs.{IsRun}
-use Rattle.be_span.specs.Laid.{IsNear}
+use Rattle.be_span.specs.Laid.{IsShift}
 use Rattle.be_desk.specs.Exposing.{IsCoordinate, IsStretch}
 
 -- ---- numbers
@@ -10,7 +10,7 @@ use Rattle.be_desk.specs.Exposing.{IsCoordinate, IsStretch}
 pub less_fits : (x w : ℤ) → IsCoordinate x → SFits w16 w → SFits w32 (x -ℤ w)
 less_fits x w (low, high) f = search rules
 
-pub way_fits : (x d : ℤ) → IsCoordinate x → IsNear d → SFits w32 (x -ℤ d)
+pub way_fits : (x d : ℤ) → IsCoordinate x → IsShift d → SFits w32 (x -ℤ d)
 way_fits x d (low, high) (least, most) = search rules
 
 -- ---- stretches

@@ -8,7 +8,7 @@ use Rattle.be_color.specs.declared.colors.Color.TheVariants.{Solid, Clear}
 use Rattle.be_region.specs.Regions.{region_has}
 use Rattle.be_span.specs.declared.Cell.{Cell}
 use Rattle.be_span.specs.Cells.{desktop_cell, exposed_as}
-use Rattle.be_span.specs.Laid.{IsNear}
+use Rattle.be_span.specs.Laid.{IsShift}
 use Rattle.be_span.specs.Spans.{Spans, cell_in}
 use Rattle.be_views.specs.Trees.{Tree, place_of}
 use Rattle.be_views.specs.Pixels.{view_at}
@@ -83,7 +83,7 @@ exposed_by r x y c = exposed_as (exposure r x y) c
 -- a way on the screen, where the window moves
 abbrev pub IsNearBy : Motion → Type 0
 IsNearBy Still = Unit {0}
-IsNearBy (Moving dx dy) = IsNear dx × IsNear dy
+IsNearBy (Moving dx dy) = IsShift dx × IsShift dy
 IsNearBy Resizing = Unit {0}
 
 -- each pixel of the region has a view afterwards, and the view a colour

@@ -1,6 +1,6 @@
 ghost use Rattle.std.specs.Prelude.{◌≡◌, ℤ, negsuc, pos, ◌+ℤ◌, ◌-ℤ◌, ◌≤ℤ◌, ◌⊎◌, ◌&&◌, Option, option_map};
 ghost use Rattle.be_geom.specs.declared.point.Point as points;
-ghost use Rattle.be_span.specs.Laid.{IsNear};
+ghost use Rattle.be_span.specs.Laid.{IsShift};
 ghost use Rattle.be_views.specs.Places.{pair_of};
 ghost use Rattle.be_desk.specs.Changes as changes;
 ghost use Rattle.be_desk.specs.Exposing.{IsCoordinate, IsStretch};
@@ -41,8 +41,8 @@ impl Renewal<'_> {
 
     /// The same where the window goes `dx` further right and `dy` further down.
     fn moved_run(&self, dx: i32, dy: i32, x: i32, y: i32, end: i32) -> (bool, i32)
-        requires across { IsNear dx }
-        requires down { IsNear dy }
+        requires across { IsShift dx }
+        requires down { IsShift dy }
         requires row { IsCoordinate y }
         requires left { negsuc 32767 ≤ℤ x }
         requires forward { x ≤ℤ end }

@@ -1,6 +1,6 @@
 ghost use Rattle.std.specs.Prelude.{◌≡◌, ◌<◌, ◌-ℤ◌, true, List, Contains, IfOk, IfErr, Ok, Some, length, map, slice_get};
 ghost use Rattle.be_input.specs.Pointing.{corner_of};
-ghost use Rattle.be_span.specs.Laid.{IsNear};
+ghost use Rattle.be_span.specs.Laid.{IsShift};
 ghost use Rattle.be_views.specs.Trees.{Tree};
 ghost use Rattle.be_desk.specs.Affected.{HasAltered};
 ghost use Rattle.be_desk.specs.Changes as machine;
@@ -200,7 +200,7 @@ fn moving(old: Point, new: Point) -> Motion
 /// How far it is from one coordinate to another.
 fn way(old: i16, new: i16) -> i32
     ensures way { result ≡ new -ℤ old }
-    ensures near { IsNear result }
+    ensures near { IsShift result }
 {
     i32::from(new) - i32::from(old)
 }

@@ -19,7 +19,8 @@ use Rattle.be_paint.specs.Copies.{rect_holds, copied_or_exposed, copied_cell}
 use Rattle.be_paint.specs.Moving.{change_at, changed_by, moved_cell}
 use Rattle.be_paint.specs.Reach as reach
 use Rattle.be_paint.specs.Reach.{is_reached, in_drawing}
-use Rattle.be_paint.specs.Seen.{IsSession, IsSeenAs, IsSite, is_own, is_allowed, may_draw, view_on}
+use Rattle.be_region.specs.Sessions.{SameSession}
+use Rattle.be_paint.specs.Seen.{IsSeenAs, IsSite, is_own, is_allowed, may_draw, view_on}
 use Rattle.be_paint.specs.Stretches.{IsStretch}
 use Rattle.be_paint.specs.declared.copying.Change.{Change}
 use Rattle.be_paint.specs.declared.copying.Change.TheVariants.{Stay, Expose, Copy}
@@ -96,7 +97,7 @@ copied_at rects d area old x y c =
     else c
 
 -- the same, by what the code's reach stands for
-by_seen : (rects : List Rect) (d : Copying) (origin : Pixel) (session : Option (List Point)) (source area : Rect) (old : Lookup) (x y : ℤ) (c : Cell) → IsSession (option_map (λ r. r.now) d.reach.now.session) session → IsSite d.reach.now (record { view = d.view; origin = origin }) → moved_rect (moved_rect source d.way.x d.way.y) origin.x origin.y ≡ area → (let s = seen_on d.reach.now (record { view = d.view; origin = origin }) session in if is_reached (region_has rects) s x y && rect_holds (moved_rect source d.way.x d.way.y) (in_drawing s x y) then copied_or_exposed (region_has rects) s d.color old (x -ℤ d.way.x) (y -ℤ d.way.y) c else c) ≡ copied_at rects d area old x y c
+by_seen : (rects : List Rect) (d : Copying) (origin : Pixel) (session : Option (List Point)) (source area : Rect) (old : Lookup) (x y : ℤ) (c : Cell) → SameSession (option_map (λ r. r.now) d.reach.now.session) session → IsSite d.reach.now (record { view = d.view; origin = origin }) → moved_rect (moved_rect source d.way.x d.way.y) origin.x origin.y ≡ area → (let s = seen_on d.reach.now (record { view = d.view; origin = origin }) session in if is_reached (region_has rects) s x y && rect_holds (moved_rect source d.way.x d.way.y) (in_drawing s x y) then copied_or_exposed (region_has rects) s d.color old (x -ℤ d.way.x) (y -ℤ d.way.y) c else c) ≡ copied_at rects d area old x y c
 unfolding is_reached copied_at
 by_seen rects d origin session source area old x y c h is e =
     let g = d.reach.now in

@@ -2,7 +2,7 @@
 use Rattle.std.proofs.Common.{◌≡◌, ℤ, pos, negsuc, ◌+ℤ◌, ◌-ℤ◌, ◌≤ℤ◌, ◌⊎◌, Bool, true, ◌&&◌, SFits, w16, w32, arith, rules, sym, ◌∙◌}
 use Rattle.std.proofs.lemmas.Int.{ints}
 use Rattle.be_region.specs.Runs.{IsBlock}
-use Rattle.be_views.specs.Places.{IsNear}
+use Rattle.be_geom.specs.Places.{IsNear}
 use Rattle.be_paint.specs.Stretches.{IsCoordinate, IsBeyond, IsWithin, IsPatch}
 use Rattle.be_paint.specs.declared.pixel.Pixel.{Pixel}
 use Rattle.be_paint.proofs.StretchLemmas.{both_true}

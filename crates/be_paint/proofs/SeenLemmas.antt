@@ -13,13 +13,14 @@ use Rattle.be_views.specs.Trees.{Tree}
 use Rattle.be_views.specs.Places.{pair_of}
 use Rattle.be_paint.specs.Reach.{Reach, session_has, is_reached}
 use Rattle.be_paint.specs.Inks.{source_at, laid_on_cell, painted_cell}
-use Rattle.be_paint.specs.Seen.{IsSession, IsSeenAs, IsSite, is_own, is_allowed, has_session}
+use Rattle.be_region.specs.Sessions.{SameSession}
+use Rattle.be_paint.specs.Seen.{IsSeenAs, IsSite, is_own, is_allowed, has_session}
 use Rattle.be_paint.specs.Laying.{ink_of, source_in, drawn_cell}
 use Rattle.be_paint.specs.declared.drawing.Drawing.{Drawing}
 use Rattle.be_paint.specs.declared.reach.Reach as given
 use Rattle.be_paint.specs.declared.reach.Site.{Site}
 
-pub session_same : (o : Option (List Rect)) (s : Option (List Point)) → IsSession o s → (x y : ℤ) → has_session o x y ≡ session_has s (at_pixel x y)
+pub session_same : (o : Option (List Rect)) (s : Option (List Point)) → SameSession o s → (x y : ℤ) → has_session o x y ≡ session_has s (at_pixel x y)
 session_same (Some rects) (Some pixels) h x y = h x y
 session_same (Some rects) None h x y = absurd h
 session_same None (Some pixels) h x y = absurd h
@@ -42,7 +43,7 @@ pub seen_at : {A : Type 0} (F : Reach → A) (g : given.Reach) (site : Site) (se
 seen_at F g site seen h is =
     seen_as F seen g.window (at_pixel site.view.x site.view.y) g.tree.now g.view g.states.now h.window (same_Some seen.place (at_pixel site.view.x site.view.y) (sym h.place ∙ is.place)) h.tree h.view h.stack
 
-drawn_at : (rects : List Rect) (d : Drawing) (session : Option (List Point)) (old : Lookup) (x y : ℤ) (c : Cell) → IsSession (option_map (λ r. r.now) d.reach.now.session) session → d.base.x ≡ (base_of d.reach.now.states.now).x → d.base.y ≡ (base_of d.reach.now.states.now).y → drawn_cell rects d x y c ≡ painted_cell (region_has rects) (record { window = d.reach.now.window; place = at_pixel d.view.x d.view.y; tree = d.reach.now.tree.now; view = d.reach.now.view; stack = d.reach.now.states.now; session = session }) (ink_of d.ink.now) old x y c
+drawn_at : (rects : List Rect) (d : Drawing) (session : Option (List Point)) (old : Lookup) (x y : ℤ) (c : Cell) → SameSession (option_map (λ r. r.now) d.reach.now.session) session → d.base.x ≡ (base_of d.reach.now.states.now).x → d.base.y ≡ (base_of d.reach.now.states.now).y → drawn_cell rects d x y c ≡ painted_cell (region_has rects) (record { window = d.reach.now.window; place = at_pixel d.view.x d.view.y; tree = d.reach.now.tree.now; view = d.reach.now.view; stack = d.reach.now.states.now; session = session }) (ink_of d.ink.now) old x y c
 unfolding is_reached painted_cell
 drawn_at rects d session old x y c h bx by =
     let s = d.reach.now.states.now.top.state in

@@ -4,7 +4,7 @@ use Rattle.std.proofs.lemmas.Int.{ints, clamps}
 use Rattle.std.specs.Prelude.{if◌then◌else◌}
 use Rattle.std.specs.Int.{int_min}
 use Rattle.be_region.specs.Runs.{IsRun}
-use Rattle.be_views.specs.Places.{IsNear}
+use Rattle.be_geom.specs.Places.{IsNear}
 use Rattle.be_paint.specs.Stretches.{IsStretch, IsCoordinate}
 
 -- ---- numbers

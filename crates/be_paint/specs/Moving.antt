@@ -4,7 +4,7 @@ use Rattle.be_geom.specs.declared.rect.Rect.{Rect}
 use Rattle.be_color.specs.declared.colors.Color.{Color}
 use Rattle.be_span.specs.declared.Cell.{Cell}
 use Rattle.be_span.specs.Cells.{Lookup, colored_as, exposed_cell}
-use Rattle.be_views.specs.Places.{IsNear}
+use Rattle.be_geom.specs.Places.{IsNear}
 use Rattle.be_paint.specs.Seen.{is_own, may_draw, IsPlace}
 use Rattle.be_paint.specs.declared.copying.Change.{Change}
 use Rattle.be_paint.specs.declared.copying.Change.TheVariants.{Stay, Expose, Copy}

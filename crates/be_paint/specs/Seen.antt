@@ -1,28 +1,20 @@
 -- What the code's reach stands for, and what it says of a pixel of the screen (this project's own).
 use Rattle.std.specs.Prelude.{◌≡◌, ℕ, ℤ, Bool, true, ◌&&◌, ◌+ℤ◌, ◌-ℤ◌, List, Option, Some, None, option_map}
-use Rattle.std.specs.List.{list_any}
 use Rattle.be_geom.specs.declared.point.Point.{Point}
 use Rattle.be_geom.specs.declared.rect.Rect.{Rect}
 use Rattle.be_geom.specs.Numbers.{is_number}
-use Rattle.be_geom.specs.Places.{at_pixel, same_point}
+use Rattle.be_geom.specs.Places.{at_pixel, IsNear}
 use Rattle.be_region.specs.Regions.{region_has}
+use Rattle.be_region.specs.Sessions.{SameSession}
 use Rattle.be_state.specs.Stacks.{allows, base_of}
 use Rattle.be_views.specs.Trees.{place_of}
 use Rattle.be_views.specs.Pixels.{view_at}
-use Rattle.be_views.specs.Places.{IsNear}
 use Rattle.be_paint.specs.Reach as reach
 use Rattle.be_paint.specs.declared.reach.Reach.{Reach}
 use Rattle.be_paint.specs.declared.reach.Site.{Site}
 use Rattle.be_paint.specs.declared.pixel.Pixel.{Pixel}
 
 -- ---- what it stands for
-
--- a region has the pixels of a list, and no others; where there is no region there is no list
-abbrev pub IsSession : Option (List Rect) → Option (List Point) → Type 0
-IsSession (Some rects) (Some pixels) = (x y : ℤ) → region_has rects x y ≡ list_any (same_point (at_pixel x y)) pixels
-IsSession (Some rects) None = ⊥
-IsSession None (Some pixels) = ⊥
-IsSession None None = Unit {0}
 
 -- the same window, view, place, tree and states, and a session of the same pixels
 pub record IsSeenAs (given : Reach) (seen : reach.Reach) : Type 0 where
@@ -31,7 +23,7 @@ pub record IsSeenAs (given : Reach) (seen : reach.Reach) : Type 0 where
   pub tree : seen.tree ≡ given.tree.now
   pub view : seen.view ≡ given.view
   pub stack : seen.stack ≡ given.states.now
-  pub session : IsSession (option_map (λ r. r.now) given.session) seen.session
+  pub session : SameSession (option_map (λ r. r.now) given.session) seen.session
 
 -- ---- what it says of a pixel
 

@@ -1,6 +1,6 @@
 ghost use Rattle.std.specs.Prelude.{◌≡◌, ◌≤ℤ◌, ◌+ℤ◌, IfSome, IfNone};
 ghost use Rattle.be_geom.specs.Rects.{moved_rect, AreDisjoint, HasPixelsOfBoth};
-ghost use Rattle.be_views.specs.Places.{IsNear};
+ghost use Rattle.be_geom.specs.Places.{IsNear};
 ghost use Rattle.be_paint.specs.Areas.{HaveNone, AreInner};
 
 use crate::pixel::Pixel;

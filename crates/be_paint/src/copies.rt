@@ -2,7 +2,7 @@ ghost use Rattle.std.specs.Prelude.{◌≡◌, ◌<◌, ◌≢◌, ℤ, ◌+ℤ�
 ghost use Rattle.std.specs.Option.{option_map};
 ghost use Rattle.be_region.specs.Regions.{region_has};
 ghost use Rattle.be_span.specs.Spans.{cell_in};
-ghost use Rattle.be_views.specs.Places.{IsNear};
+ghost use Rattle.be_geom.specs.Places.{IsNear};
 ghost use Rattle.be_paint.specs.Areas.{IsRowChanged, IsAreaChanged};
 ghost use Rattle.be_paint.specs.Copies.{copied_cell};
 ghost use Rattle.be_paint.specs.Moving.{moved_cell, changed_by, IsMovable};

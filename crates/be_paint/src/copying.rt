@@ -1,5 +1,5 @@
 ghost use Rattle.std.specs.Prelude.{◌≡◌, ℤ, ◌-ℤ◌, ◌≤ℤ◌};
-ghost use Rattle.be_views.specs.Places.{IsNear};
+ghost use Rattle.be_geom.specs.Places.{IsNear};
 ghost use Rattle.be_paint.specs.Moving.{change_at, IsMovable};
 ghost use Rattle.be_paint.specs.Seen.{is_own};
 ghost use Rattle.be_paint.specs.Stretches.{IsStretch, IsCoordinate};

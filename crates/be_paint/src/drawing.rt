@@ -1,6 +1,6 @@
 ghost use Rattle.std.specs.Prelude.{◌≡◌, ℤ, ◌+ℤ◌, ◌≤ℤ◌, ◌<ℤ◌, ◌⊎◌, true, None, Some, IfNone, IfSome, MatchOption};
 ghost use Rattle.be_shape.specs.Rows.{IsRow};
-ghost use Rattle.be_views.specs.Places.{IsNear};
+ghost use Rattle.be_geom.specs.Places.{IsNear};
 ghost use Rattle.be_paint.specs.Laying.{AreLeft, IsBand, IsFreePart, IsKnown, IsOwnPart, IsShapeOf, source_in};
 ghost use Rattle.be_paint.specs.Seen.{IsPlace, IsBase};
 ghost use Rattle.be_paint.specs.Stretches.{IsBeyond, IsCoordinate, IsInRange};

@@ -1,7 +1,7 @@
 ghost use Rattle.std.specs.Prelude.{◌≡◌, ℕ, ℤ, pos, ◌<◌, ◌+ℤ◌, ◌-ℤ◌, ◌*ℤ◌, ◌≤ℤ◌, ◌<ℤ◌, ◌||◌, false, length, slice_index};
 ghost use Rattle.be_font.specs.Runs.{row_bit};
 ghost use Rattle.be_span.specs.Slices.{mask_bit};
-ghost use Rattle.be_views.specs.Places.{IsNear};
+ghost use Rattle.be_geom.specs.Places.{IsNear};
 ghost use Rattle.be_paint.specs.Inks.{glyph_covers, text_has};
 ghost use Rattle.be_paint.specs.Laying.{AreMasksOf};
 

@@ -1,5 +1,5 @@
 ghost use Rattle.std.specs.Prelude.{◌≡◌, pos, ◌+ℤ◌, ◌-ℤ◌, MatchOption, IfSome};
-ghost use Rattle.be_views.specs.Places.{IsNear};
+ghost use Rattle.be_geom.specs.Places.{IsNear};
 ghost use Rattle.be_paint.specs.Inks.{shape, text, image};
 ghost use Rattle.be_state.specs.declared.State as states;
 ghost use Rattle.be_color.specs.declared.patterns.Pattern as patterns;

@@ -1,7 +1,7 @@
 ghost use Rattle.std.specs.Prelude.{◌≡◌, ℤ, pos, ◌+ℤ◌, ◌-ℤ◌, ◌≤ℤ◌, IfSome, count_by};
 ghost use Rattle.std.specs.Int.{int_max, int_min};
 ghost use Rattle.be_span.specs.Runs.{IsSpanOf};
-ghost use Rattle.be_views.specs.Places.{IsNear};
+ghost use Rattle.be_geom.specs.Places.{IsNear};
 ghost use Rattle.be_paint.specs.Laying.{across_in, brush_of, down_in, AreFree, AreGlyphRows, AreInked, IsDrawnWithin, IsInSpan, IsPatternOf, IsPictureOf, IsPlain, IsTextOf};
 ghost use Rattle.be_paint.specs.Seen.{IsBase, IsPlace};
 ghost use Rattle.be_paint.specs.Stretches.{IsBeyond, IsInRange};

@@ -7,7 +7,7 @@ ghost use Rattle.be_paint.specs.Inks.{painted_cell};
 ghost use Rattle.be_region.specs.Frames.{IsFrame};
 ghost use Rattle.be_shape.specs.Rows.{IsRow, IsSpan};
 ghost use Rattle.be_shape.specs.declared.Raster.TheVariants.{Fill};
-ghost use Rattle.be_views.specs.Places.{IsNear};
+ghost use Rattle.be_geom.specs.Places.{IsNear};
 ghost use Rattle.be_paint.specs.Laying.{ink_of, drawn_cell, AreInked, HasNoneBeside, IsBand, IsColoredBy, IsDrawnWithin, IsInkedRun, IsKnown, IsRunDrawn, IsShapeOf, IsThere};
 ghost use Rattle.be_paint.specs.Seen.{IsSeenAs, IsPlace, IsBase};
 ghost use Rattle.be_paint.specs.Stretches.{IsBeyond, IsInRange};

@@ -1,6 +1,7 @@
 ghost use Rattle.std.specs.Prelude.{◌≡◌, ◌≤◌, option_map, IfSome};
 ghost use Rattle.be_views.specs.Trees.{place_from, place_of};
-ghost use Rattle.be_views.specs.Places.{pair_of, IsNear};
+ghost use Rattle.be_views.specs.Places.{pair_of};
+ghost use Rattle.be_geom.specs.Places.{IsNear};
 
 use be_views::ViewTree;
 

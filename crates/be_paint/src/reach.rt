@@ -1,7 +1,7 @@
 ghost use Rattle.std.specs.Prelude.{◌≡◌, ℤ, pos, negsuc, ◌+ℤ◌, ◌-ℤ◌, ◌≤ℤ◌, ◌&&◌, None, Some, IfNone, IfSome};
 ghost use Rattle.be_geom.specs.Numbers.{is_number};
 ghost use Rattle.be_state.specs.Stacks.{allows};
-ghost use Rattle.be_views.specs.Places.{IsNear};
+ghost use Rattle.be_geom.specs.Places.{IsNear};
 ghost use Rattle.be_views.specs.Trees.{place_of};
 ghost use Rattle.be_paint.specs.Seen.{view_on, is_own, is_allowed, is_open, may_draw, IsPlace, IsOrigin, IsSite};
 ghost use Rattle.be_region.specs.Regions.{region_has};

@@ -10,7 +10,8 @@ use Rattle.be_span.proofs.GridLemmas.{either}
 use Rattle.be_views.specs.Trees.{Tree}
 use Rattle.be_pane.specs.Panes as machine
 use Rattle.be_pane.specs.declared.pane.Pane.{Pane}
-use Rattle.be_pane.specs.StandsFor.{PaneStandsFor, SameSession}
+use Rattle.be_region.specs.Sessions.{SameSession}
+use Rattle.be_pane.specs.StandsFor.{PaneStandsFor}
 use Rattle.be_pane.specs.Owed.{IsClean}
 use Rattle.be_pane.specs.Laws.{OwedByPixels}
 

@@ -1,24 +1,16 @@
 -- What a pane stands for: what the machine keeps of a window, with the pixels that the window owns (this project's own).
 use Rattle.std.specs.Prelude.{◌≡◌, ℕ, ℤ, Bool, true, List, length, Option, Some, None, slice_get}
-use Rattle.std.specs.List.{list_any}
 use Rattle.be_geom.specs.declared.point.Point.{Point}
 use Rattle.be_geom.specs.declared.rect.Rect.{Rect}
-use Rattle.be_geom.specs.Places.{at_pixel, same_point}
 use Rattle.be_geom.specs.Rects.{rect_has, moved_rect}
 use Rattle.be_region.specs.Regions.{region_has}
+use Rattle.be_region.specs.Sessions.{SameSession}
 use Rattle.be_span.specs.declared.Cell.{Cell}
 use Rattle.be_span.specs.Spans.{cell_in}
 use Rattle.be_views.specs.Trees.{Tree, View}
 use Rattle.be_pane.specs.Panes as machine
 use Rattle.be_pane.specs.SameStacks.{SameStacks}
 use Rattle.be_pane.specs.declared.pane.Pane.{Pane}
-
--- a region has the pixels of a list, and no others; where there is no region there is no list
-abbrev pub SameSession : Option (List Rect) → Option (List Point) → Type 0
-SameSession (Some rects) (Some pixels) = (x y : ℤ) → region_has rects x y ≡ list_any (same_point (at_pixel x y)) pixels
-SameSession (Some rects) None = ⊥
-SameSession None (Some pixels) = ⊥
-SameSession None None = Unit {0}
 
 -- The pane of a window that has this number, whose frame has its left top at the corner, of which the machine keeps
 -- this, with these views, and which owns the pixels that pass the test. The cells are given for each pixel of the

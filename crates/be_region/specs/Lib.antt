@@ -7,3 +7,4 @@ pub mod Rows
 pub mod Spans
 pub mod Places
 pub mod Parts
+pub mod Sessions

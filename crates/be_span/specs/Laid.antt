@@ -6,8 +6,8 @@ use Rattle.be_span.specs.Runs.{IsBeside}
 use Rattle.be_span.specs.Spans.{Spans, cell_in, laid}
 
 -- no further than from one pixel of a region to another
-abbrev pub IsNear : ℤ → Type 0
-IsNear d = (negsuc 65534 ≤ℤ d) × (d ≤ℤ pos 65535)
+abbrev pub IsShift : ℤ → Type 0
+IsShift d = (negsuc 65534 ≤ℤ d) × (d ≤ℤ pos 65535)
 
 -- each of the n pixels from (x, y) on to the right has what is laid on it, and all others stay
 pub record IsLaidRun (cells : ℕ → Option Cell) (old new : Spans) (x y : ℤ) (n : ℕ) : Type 0 where

@@ -1,7 +1,7 @@
 ghost use Rattle.std.specs.Prelude.{◌≡◌, ◌<◌, ◌≤◌, ℕ, ℤ, pos, negsuc, ◌+ℤ◌, ◌-ℤ◌, ◌≤ℤ◌, ◌<ℤ◌, ◌⊎◌, true, false, None, if◌then◌else◌};
 ghost use Rattle.be_geom.specs.Rects.{rect_has};
 ghost use Rattle.be_region.specs.Regions.{region_has, IsNotEmpty};
-ghost use Rattle.be_span.specs.Laid.{IsNear, IsLaidRun};
+ghost use Rattle.be_span.specs.Laid.{IsShift, IsLaidRun};
 ghost use Rattle.be_span.specs.Runs.{HasRun};
 ghost use Rattle.be_span.specs.Spans.{cell_in, laid};
 
@@ -92,8 +92,8 @@ fn is_far(least: Pixel, way: Pixel, most: Pixel) -> bool
 /// Gives each pixel of `to` the cell of the pixel so much further left and up in `from`, where
 /// there is one, and a pixel of the one region may come to be one of the other.
 fn lay_near(from: &SpanBuf, way: Pixel, to: &mut SpanBuf)
-    requires across { IsNear way.x }
-    requires down { IsNear way.y }
+    requires across { IsShift way.x }
+    requires down { IsShift way.y }
     ensures region { to.new.rects ≡ to.old.rects }
     ensures cells { (x y : ℤ) → cell_in to.new x y
         ≡ laid (cell_in from.now (x -ℤ way.x) (y -ℤ way.y)) (cell_in to.old x y) }
@@ -106,8 +106,8 @@ fn lay_near(from: &SpanBuf, way: Pixel, to: &mut SpanBuf)
 
 /// The same on the pixels of a rectangle.
 fn lay_rect(from: &SpanBuf, way: Pixel, to: &mut SpanBuf, rect: Rect)
-    requires across { IsNear way.x }
-    requires down { IsNear way.y }
+    requires across { IsShift way.x }
+    requires down { IsShift way.y }
     requires some { IsNotEmpty rect }
     requires inside { (x y : ℤ) → rect_has rect x y ≡ true → region_has to.old.rects x y ≡ true }
     ensures region { to.new.rects ≡ to.old.rects }
@@ -137,8 +137,8 @@ pub(crate) fn row_of(rect: Rect, row: usize) -> Pixel
 
 /// The pixel before it was moved.
 fn moved_back(pixel: Pixel, way: Pixel) -> Pixel
-    requires across { IsNear way.x }
-    requires down { IsNear way.y }
+    requires across { IsShift way.x }
+    requires down { IsShift way.y }
     requires left { negsuc 32767 ≤ℤ pixel.x }
     requires right { pixel.x ≤ℤ pos 32767 }
     requires top { negsuc 32767 ≤ℤ pixel.y }

@@ -8,7 +8,7 @@ use Rattle.be_region.specs.Regions.{region_has, HasNone}
 use Rattle.be_region.specs.Frames.{IsFrame}
 use Rattle.be_region.specs.Runs.{IsRun}
 use Rattle.be_region.proofs.MoveLemmas.{moved_region}
-use Rattle.be_state.specs.Limits.{IsNear}
+use Rattle.be_geom.specs.Places.{IsNear}
 use Rattle.be_state.specs.Clips.{IsFramed}
 use Rattle.be_state.specs.Parts.{IsPart}
 use Rattle.be_state.proofs.PartLemmas.{none_part}

@@ -3,7 +3,7 @@ ghost use Rattle.be_geom.specs.Rects.{moved_rect};
 ghost use Rattle.be_region.specs.Regions.{region_has};
 ghost use Rattle.be_region.specs.Runs.{IsBlock};
 ghost use Rattle.be_state.specs.Parts.{IsPart};
-ghost use Rattle.be_state.specs.Limits.{IsNear};
+ghost use Rattle.be_geom.specs.Places.{IsNear};
 
 use be_geom::Rect;
 use be_region::{Corner, Region};
@@ -34,7 +34,7 @@ impl Model for Clip {
     ghost use Rattle.be_geom.specs.declared.rect.Rect.{Rect};
     ghost use Rattle.be_geom.specs.Rects.{moved_rect};
     ghost use Rattle.be_state.specs.Clips.{IsFramed};
-    ghost use Rattle.be_state.specs.Limits.{IsNear};
+    ghost use Rattle.be_geom.specs.Places.{IsNear};
 
     ghost Value = { List Rect };
 

@@ -4,7 +4,8 @@ ghost use Rattle.be_geom.specs.Rects.{moved_rect};
 ghost use Rattle.be_region.specs.Runs.{IsBlock};
 ghost use Rattle.be_state.specs.Stacks.{clip_has, next_layer, first_stack};
 ghost use Rattle.be_state.specs.Parts.{IsPart};
-ghost use Rattle.be_state.specs.Limits.{IsNear, IsPenSize};
+ghost use Rattle.be_state.specs.Limits.{IsPenSize};
+ghost use Rattle.be_geom.specs.Places.{IsNear};
 
 use crate::State;
 use crate::clip::{Clip, LAST_COLUMN, LAST_CORNER};

@@ -3,9 +3,9 @@ ghost use Rattle.std.specs.List.{list_all};
 ghost use Rattle.std.specs.Int.{int_min};
 ghost use Rattle.be_region.specs.Runs.{IsRun, IsBlock};
 ghost use Rattle.be_state.specs.Stacks.{first_stack, base_of, allows, clip_has, with_state, with_clip, can_push, pushed, popped, origin_point};
-ghost use Rattle.be_geom.specs.Places.{sum_of};
+ghost use Rattle.be_geom.specs.Places.{sum_of, IsNear};
 ghost use Rattle.be_state.specs.Parts.{IsPart};
-ghost use Rattle.be_state.specs.Limits.{IsNear, IsPenSize};
+ghost use Rattle.be_state.specs.Limits.{IsPenSize};
 
 use crate::State;
 use crate::clip::{LAST_COLUMN, LAST_CORNER};

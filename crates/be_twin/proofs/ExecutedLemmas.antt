@@ -13,7 +13,8 @@ use Rattle.be_paint.specs.Reach.{Reach}
 use Rattle.be_pane.specs.Panes.{Pane}
 use Rattle.be_pane.specs.declared.pane.Pane as code
 use Rattle.be_pane.specs.SameStacks.{SameStacks}
-use Rattle.be_pane.specs.StandsFor.{PaneStandsFor, IsWhole, SameSession}
+use Rattle.be_region.specs.Sessions.{SameSession}
+use Rattle.be_pane.specs.StandsFor.{PaneStandsFor, IsWhole}
 use Rattle.be_pane.proofs.SameLemmas.{stacks_equal, stacks_length, stacks_set, stacks_trans}
 use Rattle.be_region.specs.Regions.{region_has}
 use Rattle.be_span.specs.Cells.{Lookup}

@@ -16,7 +16,7 @@ use Rattle.be_paint.specs.Reach.{Reach}
 use Rattle.be_paint.specs.Seen.{IsSeenAs}
 use Rattle.be_paint.specs.declared.reach.Reach as given
 use Rattle.be_pane.specs.SameStacks.{SameClip, SameStacks}
-use Rattle.be_pane.specs.StandsFor.{SameSession}
+use Rattle.be_region.specs.Sessions.{SameSession}
 use Rattle.be_pane.specs.declared.pane.Pane.{Pane}
 use Rattle.be_pane.proofs.SameLemmas.{stacks_equal, stacks_set, stacks_trans, stack_self}
 use Rattle.be_region.specs.Regions.{region_has}

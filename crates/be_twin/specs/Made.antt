@@ -9,7 +9,7 @@ use Rattle.be_paint.specs.Copies.{copied_cell, invalidated_cell}
 use Rattle.be_paint.specs.Inks.{Ink, painted_cell}
 use Rattle.be_paint.specs.Reach.{Reach}
 use Rattle.be_pane.specs.SameStacks.{SameStacks}
-use Rattle.be_pane.specs.StandsFor.{SameSession}
+use Rattle.be_region.specs.Sessions.{SameSession}
 use Rattle.be_pane.specs.declared.pane.Pane.{Pane}
 use Rattle.be_region.specs.Regions.{region_has}
 use Rattle.be_span.specs.Cells.{Lookup}

@@ -16,7 +16,8 @@ use Rattle.be_views.specs.Trees.{Tree}
 use Rattle.be_pane.specs.Panes as machine
 use Rattle.be_pane.specs.SameStacks.{SameStacks}
 use Rattle.be_pane.specs.declared.pane.Pane.{Pane}
-use Rattle.be_pane.specs.StandsFor.{PaneStandsFor, SameSession}
+use Rattle.be_region.specs.Sessions.{SameSession}
+use Rattle.be_pane.specs.StandsFor.{PaneStandsFor}
 use Rattle.be_update.specs.Sessions.{session_of, with_session}
 use Rattle.be_update.specs.Listing.{listed_views}
 use Rattle.be_update.specs.Surveys.{Surveyed, IsSurveyOf, HasBegun}

@@ -21,7 +21,7 @@ use Rattle.be_views.specs.Pixels.{view_at}
 use Rattle.be_views.specs.Places.{pair_of}
 use Rattle.be_views.specs.Clips.{IsClip}
 use Rattle.be_views.specs.Whole.{IsTree}
-use Rattle.be_pane.specs.StandsFor.{SameSession}
+use Rattle.be_region.specs.Sessions.{SameSession}
 use Rattle.be_update.specs.Listing.{pixels_of, rect_in, rect_round, stopped_rect}
 use Rattle.be_update.proofs.PixelLemmas.{has_pixel}
 use Rattle.be_update.proofs.FrameLemmas.{round_back, round_is, round_none}

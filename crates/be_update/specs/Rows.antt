@@ -10,7 +10,7 @@ use Rattle.be_region.specs.Regions.{region_has}
 use Rattle.be_span.specs.declared.Cell.{Cell}
 use Rattle.be_span.specs.Spans.{is_dirty}
 use Rattle.be_views.specs.Trees.{Tree}
-use Rattle.be_pane.specs.StandsFor.{SameSession}
+use Rattle.be_region.specs.Sessions.{SameSession}
 use Rattle.be_update.specs.Listing.{rect_in}
 
 -- the new rectangles have the pixels of the old ones, and those that pass the test

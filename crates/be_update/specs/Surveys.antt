@@ -9,7 +9,7 @@ use Rattle.be_span.specs.Cells.{unmarked}
 use Rattle.be_span.specs.Spans.{cell_in, is_dirty}
 use Rattle.be_views.specs.Trees.{Tree}
 use Rattle.be_pane.specs.declared.pane.Pane.{Pane}
-use Rattle.be_pane.specs.StandsFor.{SameSession}
+use Rattle.be_region.specs.Sessions.{SameSession}
 use Rattle.be_update.specs.Listing.{listed_views}
 
 -- ---- before an update begins

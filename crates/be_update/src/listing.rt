@@ -2,7 +2,7 @@ ghost use Rattle.std.specs.Prelude.{◌≡◌, ◌+ℤ◌, ◌≤ℤ◌, neg_ℤ
 ghost use Rattle.be_geom.specs.Rects.{moved_rect};
 ghost use Rattle.be_geom.specs.declared.point.Point.{Point};
 ghost use Rattle.be_views.specs.Whole.{IsTree};
-ghost use Rattle.be_pane.specs.StandsFor.{SameSession};
+ghost use Rattle.be_region.specs.Sessions.{SameSession};
 ghost use Rattle.be_update.specs.Listing.{rect_in, stopped, stopped_rect};
 ghost use Rattle.be_update.specs.Rows.{AreAmong};
 ghost use Rattle.be_update.specs.Surveys.{AreListed};

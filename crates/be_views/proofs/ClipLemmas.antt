@@ -15,7 +15,7 @@ use Rattle.be_geom.proofs.Between.{between_tells}
 use Rattle.be_region.proofs.LineLemmas.{is_between, not_between_left, not_between_right}
 use Rattle.be_region.specs.Regions.{region_has, IsDifference, IsIntersection}
 use Rattle.be_views.specs.Clips.{covers, IsClip, IsInRange, HasPixelsMoved, IsUncovered, ComesBy, IsOutside, IsReach}
-use Rattle.be_views.specs.Places.{IsNear}
+use Rattle.be_geom.specs.Places.{IsNear}
 use Rattle.be_views.proofs.ChildLemmas.{in_frame, between_parts}
 use Rattle.be_views.specs.Trees.{View, Tree, parent_of, lies_within}
 use Rattle.be_views.specs.Pixels.{last_child_at, view_below, view_at}

@@ -4,9 +4,9 @@ use Rattle.std.proofs.Common.{◌≡◌, ℕ, zero, suc, ◌-◌, ◌<◌, ◌�
 use Rattle.std.proofs.lemmas.Option.{none-some, same_Some, slice_get_read}
 use Rattle.be_geom.specs.declared.point.Point.{Point}
 use Rattle.be_geom.specs.declared.rect.Rect.{Rect}
-use Rattle.be_geom.specs.Places.{sum_of}
+use Rattle.be_geom.specs.Places.{sum_of, IsNear}
 use Rattle.be_views.specs.Trees.{View, Tree, left_top, corner_in, place_from}
-use Rattle.be_views.specs.Places.{pair_of, IsNear}
+use Rattle.be_views.specs.Places.{pair_of}
 
 pub near_fits : (steps : ℕ) (a b : ℤ) → SFits w16 a → 0 < steps → steps ≤ 32 → IsNear (steps - 1) b → SFits w32 (a +ℤ b)
 near_fits steps a b f some few near =

@@ -2,7 +2,7 @@ ghost use Rattle.std.specs.Prelude.{◌≡◌, ◌<◌, ◌≤◌, ℤ, ◌-ℤ�
 ghost use Rattle.be_geom.specs.Points.{in_range, between};
 ghost use Rattle.be_region.specs.Regions.{HasPixelsOf};
 ghost use Rattle.be_views.specs.Clips.{IsClip, IsInRange, HasPixelsMoved, IsUncovered, IsReach, edges_have};
-ghost use Rattle.be_views.specs.Places.{IsNear};
+ghost use Rattle.be_geom.specs.Places.{IsNear};
 ghost use Rattle.be_views.specs.Whole.{AreParentsFirst};
 
 use crate::children::lies_in;

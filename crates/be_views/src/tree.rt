@@ -7,7 +7,8 @@ ghost use Rattle.be_region.specs.Runs.{IsRun, IsBlock};
 ghost use Rattle.be_views.specs.Clips.{IsClip};
 ghost use Rattle.be_views.specs.Resizing.{resized};
 ghost use Rattle.be_views.specs.Whole.{IsTree, root_view, with_view, depth_from, depth_of};
-ghost use Rattle.be_views.specs.Places.{pair_of, IsNear};
+ghost use Rattle.be_views.specs.Places.{pair_of};
+ghost use Rattle.be_geom.specs.Places.{IsNear};
 
 use crate::block::{block_below, frame_gap_block};
 use crate::children::{has_pixel, last_child_at, within};

@@ -1,7 +1,6 @@
 use Rattle.std.proofs.Common.{◌≡◌, map, fold, take}
-use Rattle.be_geom.specs.Places.{sum_of}
+use Rattle.be_geom.specs.Places.{sum_of, IsNear}
 use Rattle.be_state.specs.Stacks.{origin_point}
-use Rattle.be_state.specs.Limits.{IsNear}
 use Rattle.be_state.proofs.stack.sum_of_origins.Given as goal
 
 abbrev pub invariant-loop-layer : goal.invariant-loop-layer

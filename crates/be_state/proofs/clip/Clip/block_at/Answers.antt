@@ -1,7 +1,7 @@
 use Rattle.std.proofs.Common.{rules, ◌≡◌, ℤ, pos, negsuc, ◌+ℤ◌, ◌-ℤ◌, ◌≤ℤ◌, ◌<ℤ◌, inl, inr, FitsSigned, SFits, to_z, of_z, w16, w32, sym, ◌∙◌, arith}
 use Rattle.std.specs.Prelude.{int_lt, false}
 use Rattle.std.proofs.lemmas.Int.{ints, to_z-of_z}
-use Rattle.be_state.specs.Limits.{IsNear}
+use Rattle.be_geom.specs.Places.{IsNear}
 use Rattle.be_state.proofs.ClipLemmas.{framed_none, framed_some, empty_none, outside_none, shown_at, difference_is, cut_is, IsOutside}
 use Rattle.be_state.proofs.BlockLemmas.{empty_block, outside_block, inside_block, IsCut}
 use Rattle.be_state.proofs.clip.Clip.block_at.Goals as goal
