@@ -1,11 +1,11 @@
--- What holds of every tree: parents stand before their children, and no view is deeper than 8.
+-- What holds of every tree: its root begins at (0, 0), parents stand before their children, and no view is deeper than 8.
 use Rattle.std.specs.Prelude.{slice_get, option_map, option_and_then, is_some}
-use Rattle.std.proofs.Common.{◌≡◌, ℕ, ◌+◌, ◌<◌, ◌≤◌, zero, suc, ◌↔◌, ◌⊎◌, inl, inr, false, [], ◌∷◌, ◌++◌, Option, Some, None, IfSome, length, arith, refl, sym, ap, ◌∙◌}
+use Rattle.std.proofs.Common.{◌≡◌, ℕ, ◌+◌, ◌<◌, ◌≤◌, zero, suc, pos, ◌↔◌, ◌⊎◌, inl, inr, false, [], ◌∷◌, ◌++◌, Option, Some, None, IfSome, length, arith, refl, sym, ap, ◌∙◌}
 use Rattle.std.proofs.lemmas.Bool.{cases_lt, cases_order}
 use Rattle.std.proofs.lemmas.Option.{none-some, same_Some, slice_get_past}
 use Rattle.be_geom.specs.declared.point.Point.{Point}
 use Rattle.be_geom.specs.declared.rect.Rect.{Rect}
-use Rattle.be_geom.specs.Places.{sum_of}
+use Rattle.be_geom.specs.Places.{at_pixel, sum_of}
 use Rattle.be_views.specs.Trees.{View, Tree, parent_of, left_top, corner_in, place_from, place_of}
 use Rattle.be_views.specs.Places.{pair_of}
 use Rattle.be_views.specs.Whole.{AreParentsFirst, IsTree, depth_above, depth_in, depth_from, depth_of}
@@ -88,10 +88,11 @@ depth_one : (w : View) → w.parent ≡ None → (v : ℕ) → depth_from 1 (w �
 depth_one w is zero = rw is (omega arith)
 depth_one w is (suc v) = omega arith
 
-pub tree_of_one : (w : View) → w.parent ≡ None → IsTree (w ∷ [])
+pub tree_of_one : (w : View) → w.parent ≡ None → left_top w.frame ≡ at_pixel (pos 0) (pos 0) → IsTree (w ∷ [])
 unfolding depth_of
-tree_of_one w is = record {
+tree_of_one w is corner = record {
   some = omega arith;
+  begins = record { corner = λ root is. ap (λ (v : View). left_top v.frame) (sym (same_Some w root is)) ∙ corner };
   few = omega arith;
   parents = record { rooted = λ v h k. omega arith; below = below_one w is };
   depths = depth_one w is;
@@ -101,6 +102,7 @@ pub tree_of_push : (tree : Tree) (w : View) (p : ℕ) → IsTree tree → w.pare
 unfolding depth_of
 tree_of_push tree w p t is h low room = record {
   some = let n = length_more tree w in omega arith;
+  begins = record { corner = λ root is. t.begins.corner root (sym (got_front tree w 0 t.some) ∙ is) };
   few = let n = length_more tree w in omega arith;
   parents = first_of_push tree w p t.parents is h;
   depths = depths_of_push tree w p t.parents is h low t.depths;

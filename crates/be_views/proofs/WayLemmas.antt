@@ -3,16 +3,17 @@ use Rattle.std.specs.Prelude.{slice_get}
 use Rattle.std.specs.List.{list_all}
 use Rattle.std.proofs.Common.{◌≡◌, ℕ, ◌+◌, ◌<◌, ◌≤◌, zero, suc, ℤ, pos, ◌↔◌, inl, inr, false, cond, List, [], ◌∷◌, ◌++◌, Option, Some, None, length, get_or, take, drop, arith, refl, sym, ap, ◌∙◌}
 use Rattle.std.proofs.lemmas.Bool.{cases_lt, cond-true, cond-false, true_from_ne_false, false_from_ne_true}
-use Rattle.std.proofs.lemmas.Option.{none-some, cond_some, slice_get_past, slice_get-get_or}
+use Rattle.std.proofs.lemmas.Option.{none-some, same_Some, cond_some, slice_get_past, slice_get-get_or}
 use Rattle.std.proofs.lemmas.List.{append_assoc, append-nil, length_push, take_at}
+use Rattle.be_geom.specs.Places.{at_pixel}
 use Rattle.be_geom.specs.declared.rect.Rect.{Rect}
 use Rattle.be_geom.specs.Rects.{rect_fits}
 use Rattle.be_follow.proofs.WayLemmas.{any_way}
 use Rattle.be_views.proofs.ResizeLemmas.{length-with_frames}
-use Rattle.be_views.specs.Trees.{View, Tree, parent_of}
+use Rattle.be_views.specs.Trees.{View, Tree, left_top, parent_of}
 use Rattle.be_views.specs.Resizing.{frame_in, frame_after, frames_from, frames_after, root_frame, with_frames, resized, pixel_width, pixel_height}
 use Rattle.be_views.specs.Ways.{AnyWayIsTheSame}
-use Rattle.be_views.specs.Whole.{IsTree, depth_above, depth_in, depth_from, depth_of}
+use Rattle.be_views.specs.Whole.{AreParentsFirst, IsTree, depth_above, depth_in, depth_from, depth_of}
 
 -- ---- the frames of what is left
 
@@ -156,14 +157,37 @@ parent-with_frames (view ∷ tree) [] v h = absurd (omega arith)
 parent-with_frames (view ∷ tree) (frame ∷ frames) zero h = refl
 parent-with_frames (view ∷ tree) (frame ∷ frames) (suc v) h = parent-with_frames tree frames v (omega arith)
 
-pub tree_of_frames : (tree : Tree) (frames : List Rect) → length tree ≤ length frames → IsTree tree → IsTree (with_frames tree frames)
+-- the root lies in no view, so its new frame is the given one
+root_alone : (root : Rect) (tree : Tree) (view : View) (o : Option ℕ) → ((p : ℕ) → o ≡ Some p → p < 0) → frame_in root tree [] view o ≡ root
+root_alone root tree view None below = refl
+root_alone root tree view (Some p) below = let none = below p refl in absurd (omega arith)
+
+root_in : (view : View) (rest : List View) (width height : ℤ) → AreParentsFirst (view ∷ rest) → slice_get (frames_after (view ∷ rest) width height) 0 ≡ Some (root_frame width height)
+root_in view rest width height first =
+    ap (λ l. slice_get l 0) (after_is (view ∷ rest) width height) ∙ ap Some (root_alone (root_frame width height) (view ∷ rest) view view.parent (first.below 0))
+
+root_first : (tree : Tree) (width height : ℤ) (frames : List Rect) → 0 < length tree → AreParentsFirst tree → take (length tree) frames ≡ frames_after tree width height → slice_get frames 0 ≡ Some (root_frame width height)
+root_first [] width height frames some first e = absurd (omega arith)
+root_first (view ∷ rest) width height [] some first e =
+    absurd (none-some (root_frame width height) (sym (sym (root_in view rest width height first) ∙ ap (λ l. slice_get l 0) (sym e))))
+root_first (view ∷ rest) width height (frame ∷ frames) some first e =
+    ap (λ l. slice_get l 0) e ∙ root_in view rest width height first
+
+root_begins : (tree : Tree) (width height : ℤ) (frames : List Rect) → 0 < length tree → slice_get frames 0 ≡ Some (root_frame width height) → (root : View) → slice_get (with_frames tree frames) 0 ≡ Some root → left_top root.frame ≡ at_pixel (pos 0) (pos 0)
+root_begins [] width height frames some is root got = absurd (omega arith)
+root_begins (view ∷ rest) width height [] some is root got = absurd (none-some (root_frame width height) is)
+root_begins (view ∷ rest) width height (frame ∷ frames) some is root got =
+    ap (λ (v : View). left_top v.frame) (sym (same_Some (record view { frame = frame }) root got)) ∙ ap left_top (same_Some frame (root_frame width height) is)
+
+pub tree_of_frames : (tree : Tree) (width height : ℤ) (frames : List Rect) → length tree ≤ length frames → take (length tree) frames ≡ frames_after tree width height → IsTree tree → IsTree (with_frames tree frames)
 unfolding depth_of
-tree_of_frames tree frames h t =
+tree_of_frames tree width height frames h e t =
     let long = length-with_frames tree frames h in
     let some = t.some in
     let few = t.few in
     record {
       some = omega arith;
+      begins = record { corner = root_begins tree width height frames t.some (root_first tree width height frames t.some t.parents e) };
       few = omega arith;
       parents = record { rooted = λ v within none. t.parents.rooted v (omega arith) (sym (parent-with_frames tree frames v h) ∙ none); below = λ v p at. t.parents.below v p (sym (parent-with_frames tree frames v h) ∙ at) };
       depths = λ v. rw (long, depth-with_frames (length tree) tree frames v h) (t.depths v);

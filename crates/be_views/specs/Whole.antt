@@ -1,10 +1,11 @@
 -- What holds of every tree, and the tree with one more view.
-use Rattle.std.specs.Prelude.{◌≡◌, ◌+◌, ◌<◌, ◌≤◌, ℕ, zero, suc, ℤ, [], ◌∷◌, ◌++◌, length, Option, Some, None, slice_get}
+use Rattle.std.specs.Prelude.{◌≡◌, ◌+◌, ◌<◌, ◌≤◌, ℕ, zero, suc, ℤ, pos, [], ◌∷◌, ◌++◌, length, Option, Some, None, slice_get}
+use Rattle.be_geom.specs.Places.{at_pixel}
 use Rattle.be_geom.specs.declared.rect.Rect.{Rect}
 use Rattle.be_follow.specs.declared.mode.Follow.{Follow}
 use Rattle.be_follow.specs.declared.mode.Across.TheVariants as across
 use Rattle.be_follow.specs.declared.mode.Down.TheVariants as down
-use Rattle.be_views.specs.Trees.{View, Tree, parent_of}
+use Rattle.be_views.specs.Trees.{View, Tree, left_top, parent_of}
 use Rattle.be_views.specs.Resizing.{root_frame}
 
 -- the root of a window whose last edges are so far from its first; it follows nothing
@@ -38,10 +39,15 @@ pub record AreParentsFirst (tree : Tree) : Type 0 where
   pub rooted : (v : ℕ) → v < length tree → parent_of tree v ≡ None → v ≡ 0
   pub below : (v parent : ℕ) → parent_of tree v ≡ Some parent → parent < v
 
--- there are at most 32 views, a root among them, parents stand before their children, and none is deeper than 8 (the
--- limits are this project's own)
+-- the root's left top is the window's
+pub record BeginsAtZero (tree : Tree) : Type 0 where
+  pub corner : (root : View) → slice_get tree 0 ≡ Some root → left_top root.frame ≡ at_pixel (pos 0) (pos 0)
+
+-- there are at most 32 views, a root among them that begins at (0, 0), parents stand before their children, and none is
+-- deeper than 8 (the limits are this project's own)
 pub record IsTree (tree : Tree) : Type 0 where
   pub some : 0 < length tree
+  pub begins : BeginsAtZero tree
   pub few : length tree ≤ 32
   pub parents : AreParentsFirst tree
   pub depths : (v : ℕ) → depth_of tree v ≤ 8

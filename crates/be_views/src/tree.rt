@@ -139,6 +139,8 @@ impl ViewTree {
     pub fn place_of(&self, view: u16) -> Option<(i32, i32)>
         ensures none { IsNone result ↔ (length self.now ≤ view) }
         ensures place { result ≡ option_map pair_of (place_of self.now view) }
+        ensures across { IfSome result (λ place. IsNear 32 place.0) }
+        ensures down { IfSome result (λ place. IsNear 32 place.1) }
     {
         place_from(self.views.len(), &self.views, view)
     }

@@ -1,4 +1,4 @@
-use Rattle.std.proofs.Common.{SFits, w32, get_or, ◌-◌, ◌≤◌, ◌<◌, length, true, false, sym, ap, ◌∙◌, arith}
+use Rattle.std.proofs.Common.{SFits, w32, get_or, ◌-◌, ◌≤◌, ◌<◌, length, true, sym, ap, ◌∙◌, arith}
 use Rattle.std.proofs.lemmas.Bool.{and_right}
 use Rattle.std.proofs.lemmas.Int.{to_z-of_z}
 use Rattle.be_views.proofs.ChildLemmas.{passes_child, meets_child, both_are, first_is_not}

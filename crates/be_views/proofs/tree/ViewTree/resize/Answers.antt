@@ -17,8 +17,11 @@ pub invariant_of-self : goal.invariant_of-self
 invariant_of-self c =
     let room : length c.deref_mut.result.now ≤ length c.in_ok-frames.frames = search rules in
     let e = written_back c.self.inside.views.items c.deref_mut.result.now c.set_frames.new.views c.in_ok-frames.frames c.self.inside.views.len c.deref_mut.ensures.value c.deref_mut.ensures.len room c.set_frames.ensures in
+    let f = c.ranges.width in
+    let g = c.ranges.height in
+    let frames = rw c.deref.ensures.value at (simp to_z-of_z at c.in_ok-frames.ensures.frames) in
     let t : IsTree c.self.inside.views.items = c.self.invariant in
-    rw e (tree_of_frames c.self.inside.views.items c.in_ok-frames.frames (search rules) t)
+    rw e (tree_of_frames c.self.inside.views.items c.args.width c.args.height c.in_ok-frames.frames (search rules) frames t)
 
 pub returns-clause-resized : goal.returns-clause-resized
 returns-clause-resized c =
