@@ -1,6 +1,5 @@
 pub mod StretchLemmas
 pub mod PatchLemmas
-pub mod PlaceLemmas
 pub mod ReachLemmas
 pub mod AreaLemmas
 pub mod RowLemmas

@@ -17,7 +17,6 @@ use crate::drawing::{Drawing, Known, covering};
 use crate::ink::{Ink, image_columns, text_columns};
 use crate::laying::lay;
 use crate::pixel::{Pixel, nearer};
-use crate::place::place_of;
 use crate::reach::Reach;
 use crate::texts::draw_glyphs;
 use be_color::Pattern;
@@ -36,7 +35,7 @@ pub fn paint(spans: &mut SpanBuf, reach: &Reach<'_>, ink: &Ink<'_>)
     ensures marks { count_by (λ c. c.dirty) spans.new.cells
         ≡ count_by (λ c. c.dirty) spans.old.cells }
 {
-    let Some((x, y)) = place_of(reach.tree, reach.view) else {
+    let Some((x, y)) = reach.tree.place_of(reach.view) else {
         return;
     };
     let base = reach.states.base();

@@ -8,7 +8,6 @@ ghost use Rattle.be_region.specs.Regions.{region_has};
 ghost use Rattle.be_paint.specs.Stretches.{IsStretch, IsPatch, IsBeyond, IsInRange, IsCoordinate, IsWithin};
 
 use crate::pixel::{Pixel, last_column, last_pixel};
-use crate::place::place_of;
 use be_geom::Point;
 use be_region::Region;
 use be_state::StateStack;
@@ -45,7 +44,7 @@ impl Reach<'_> {
         ensures some { IfSome result (λ site. IsSite self.now site) }
         ensures near { IfSome result (λ site. IsPlace site.view × IsOrigin site.origin) }
     {
-        let (x, y) = place_of(self.tree, self.view)?;
+        let (x, y) = self.tree.place_of(self.view)?;
         let (right, down) = self.states.base();
         Some(Site {
             view: Pixel { x, y },
