@@ -10,7 +10,8 @@ use Rattle.be_hall.specs.declared.view.View.{View}
 use Rattle.be_hall.specs.declared.view.About.{About}
 use Rattle.be_hall.specs.Numbers.{total}
 use Rattle.be_hall.specs.Machine.{AllFit, Machine}
-use Rattle.be_hall.specs.Views.{Has, blank}
+use Rattle.be_hall.specs.Views.{Has, HasPlace, blank}
+use Rattle.be_hall.specs.Misses.{IsNamed}
 use Rattle.be_hall.specs.Logs.{logged, InHistory}
 use Rattle.be_hall.specs.History.{Knows}
 use Rattle.be_hall.specs.Rule.{Kept}
@@ -82,6 +83,10 @@ module _ {P M E T : Type 0} (machine : P → Machine M E) (meaning : T → M) (l
         sound = sound;
         in_logs = λ p l e. let t = map_from log parts p l e in subst (InHistory []) (sym (no_log parts logs p t.0 t.1) ∙ t.2) tt;
         in_one_log = λ n. none_logged parts logs n;
+        misses = record {
+          had = λ j v e p h. absurd (only_one (λ (u : View P M E). HasPlace u.marks p → ⊥) (blank a) (λ k. k.1) j v e h);
+          missed = λ j v e p h. absurd (only_one (λ (u : View P M E). IsNamed u.missed p → ⊥) (blank a) (λ k. k) j v e h);
+        };
         stops = record { bit = inl (zero_at 8); told = λ j v e says. absurd (only_one (λ (u : View P M E). (u.raised ≡ true) ⊎ (u.knows ≡ true) → ⊥) (blank a) (λ k. ⊎_elim (λ z. grind rules) (λ z. grind rules) k) j v e says); raiser = λ one. let z = zero_at 8 in absurd (omega arith) };
         about = λ j v b e about_b. only_one (λ (u : View P M E). u.about ≡ b ∷ [] → b ≡ a) (blank a) (λ k. let f = ap (λ (l : List (About P M)). first_of b l) k in sym f) j v e about_b;
       } where

@@ -16,7 +16,9 @@ use Rattle.be_hall.specs.Stop.{Stops}
 use Rattle.be_hall.specs.Rule.{HoldsMark, Tied, Kept}
 use Rattle.be_hall.proofs.Stopping.{stop_parted, stop_joined}
 use Rattle.be_hall.proofs.Growth.{total_set, each_append, rises_append}
+use Rattle.be_hall.specs.Misses.{Misses}
 use Rattle.be_hall.proofs.Marked.{held_renewed}
+use Rattle.be_hall.proofs.MissLemmas.{missed_parted, missed_joined}
 
 pub total_append : {A : Type 0} (f : A → ℕ) (l m : List A) → total f (l ++ m) ≡ total f l + total f m
 total_append f [] m = omega arith
@@ -48,9 +50,9 @@ module _ {P M E T : Type 0} (machine : P → Machine M E) (meaning : T → M) (l
   good s r j v at = (r.marked j v at, r.knows j v at, λ b is. r.about j v b at is)
 
   -- other views, in which each number stands as often
-  viewed : (s : St) (r : Rule s) (views : List V) → ((j : ℕ) (v : V) → get_elem? views j ≡ some v → Good s r j v) → ((p j : ℕ) → get_elem? r.holders p ≡ some (some j) → HoldsMark views j p) → ((n : ℕ) → total (counted n) views ≡ total (counted n) s.views) → Stops (slice_index s.words 8) views
+  viewed : (s : St) (r : Rule s) (views : List V) → ((j : ℕ) (v : V) → get_elem? views j ≡ some v → Good s r j v) → ((p j : ℕ) → get_elem? r.holders p ≡ some (some j) → HoldsMark views j p) → ((n : ℕ) → total (counted n) views ≡ total (counted n) s.views) → Misses views → Stops (slice_index s.words 8) views
       → Rule record { words = s.words; homes = s.homes; views = views }
-  viewed s r views all has same stops = record {
+  viewed s r views all has same misses stops = record {
     history = r.history;
     holders = r.holders;
     logs = r.logs;
@@ -72,6 +74,7 @@ module _ {P M E T : Type 0} (machine : P → Machine M E) (meaning : T → M) (l
     sound = r.sound;
     in_logs = r.in_logs;
     in_one_log = r.in_one_log;
+    misses = misses;
     stops = stops;
     about = λ j v b at. (all j v at).2 b;
   }
@@ -84,6 +87,7 @@ module _ {P M E T : Type 0} (machine : P → Machine M E) (meaning : T → M) (l
       (λ j u e. ⊎_elim (λ old. good s r j u old) (λ (t : parted v ≡ u). let k = r.knows id v at in subst (Good s r j) t ((λ y h. absurd h), (k.0, tt, tt, tt, tt), λ b is. r.about id v b at is)) (at_snoc s.views (parted v) u j e))
       (λ p j e. let h = r.held p j e in (h.0, at_longer s.views (parted v ∷ []) j h.0 h.1, h.2))
       (λ n. let t = total_append (counted n) s.views (parted v ∷ []) in omega arith)
+      (missed_parted s.views id v at r.misses)
       (stop_parted (slice_index s.words 8) s.views v r.stops))
 
   pub joins : (id : ℕ) (v : V) (other : ℕ) (w : V) → w.marks ≡ [] → Joins Rule id v other w (joined v w) spent
@@ -106,4 +110,5 @@ module _ {P M E T : Type 0} (machine : P → Machine M E) (meaning : T → M) (l
       (at_set vs other j spent u e))
       (λ p j e. held_renewed vs other w spent p j there (λ h. absurd (subst (λ (l : List (Mark M E)). HasPlace l p) bare h).1) (held_renewed s.views id v (joined v w) p j at (λ h. h) (r.held p j e)))
       (λ n. let one = total_set (counted n) s.views id v (joined v w) at in let two = total_set (counted n) vs other w spent there in let three = total_append (times n) v.ended (w.own ∷ w.ended) in omega arith)
+      (missed_joined s.views id other v w at apart w_at r.misses)
       (stop_joined (slice_index s.words 8) s.views id other v w at apart w_at r.stops)

@@ -1,5 +1,5 @@
 -- Marking a place and giving it back keep the rule.
-use Rattle.std.proofs.Common.{◌≡◌, ℕ, ◌+◌, ◌*◌, ◌-◌, ◌/◌, ◌<◌, ◌≤◌, ◌≢◌, eqb, List, [], ◌∷◌, ◌++◌, length, get_or, set, Option, Some, sym, refl, ap, ◌∙◌, subst, ⊎_elim, arith, length-set, get_or-set_other, get_or-set_same, eq-eqb, ne_eqb}
+use Rattle.std.proofs.Common.{◌≡◌, inl, ℕ, ◌+◌, ◌*◌, ◌-◌, ◌/◌, ◌<◌, ◌≤◌, ◌≢◌, eqb, List, [], ◌∷◌, ◌++◌, length, get_or, set, Option, Some, sym, refl, ap, ◌∙◌, subst, ⊎_elim, arith, length-set, get_or-set_other, get_or-set_same, eq-eqb, ne_eqb}
 use mathlib.Core.Logic.{dite}
 use mathlib.Core.Option.{none, some, some-injective, some-ne-none}
 use mathlib.Core.Option as opt
@@ -19,6 +19,8 @@ use Rattle.be_hall.specs.History.{Knows, RisesOver, EachRises, AllStand, EachSta
 use Rattle.be_hall.specs.Rule.{HoldsMark, Tied, AtHome, Kept}
 use Rattle.be_hall.specs.Steps.{tries, lets_go, looks, glances, Sees}
 use Rattle.be_hall.proofs.Stopping.{stop_set}
+use Rattle.be_hall.specs.Misses.{IsHadElsewhere, Misses}
+use Rattle.be_hall.proofs.MissLemmas.{still_missed, marked_more, missed_more, marked_less}
 use Rattle.be_hall.proofs.Marked.{has_snoc, has_left, has_last, but_last_snoc, place_before, held_renewed}
 use Rattle.be_hall.proofs.Growth.{there, inside, total_set, fits_known, fits_logs}
 
@@ -79,8 +81,8 @@ module _ {P M E T : Type 0} (machine : P → Machine M E) (meaning : T → M) (l
       (at_set s.views id j w u e)
 
   -- a step that changes no lock word, no home and no mark
-  unmoved : (s : St) (r : Rule s) (i id : ℕ) (me : Own) (w : V) → get_elem? s.views id ≡ some me.0 → Alike me.0 w → w.marks ≡ me.0.marks → Rule (stepped s i (get_or s.words i 0) id me.1 w keeps)
-  unmoved s r i id me w at same marks = subst (λ (ws : List ℕ). Rule record { words = ws; homes = s.homes; views = set s.views id w }) (sym (set-get_or s.words i 0)) record {
+  unmoved : (s : St) (r : Rule s) (i id : ℕ) (me : Own) (w : V) → get_elem? s.views id ≡ some me.0 → Alike me.0 w → w.marks ≡ me.0.marks → Misses (set s.views id w) → Rule (stepped s i (get_or s.words i 0) id me.1 w keeps)
+  unmoved s r i id me w at same marks misses = subst (λ (ws : List ℕ). Rule record { words = ws; homes = s.homes; views = set s.views id w }) (sym (set-get_or s.words i 0)) record {
     history = r.history;
     holders = r.holders;
     logs = r.logs;
@@ -105,6 +107,7 @@ module _ {P M E T : Type 0} (machine : P → Machine M E) (meaning : T → M) (l
     sound = r.sound;
     in_logs = r.in_logs;
     in_one_log = r.in_one_log;
+    misses = misses;
     stops = stop_set (get_or s.words 8 0) (get_or s.words 8 0) s.views id me.0 w refl at same.raised same.knows r.stops;
     about = still_about s r id me.0 w at same;
   }
@@ -167,14 +170,15 @@ module _ {P M E T : Type 0} (machine : P → Machine M E) (meaning : T → M) (l
         sound = r.sound;
         in_logs = r.in_logs;
         in_one_log = r.in_one_log;
+        misses = marked_more s.views id me.0 at r.misses (mark p (meaning y) (log y));
         stops = stop_set (get_or s.words 8 0) (get_or (set s.words (8 * p + 16) b) 8 0) s.views id me.0 w (get_or-set_other s.words (8 * p + 16) 8 b 0 (λ z. omega arith)) at same.raised same.knows r.stops;
         about = still_about s r id me.0 w at same;
       }
 
   -- a marked place stays so, and its lock word is b
-  slept : (s : St) (r : Rule s) (p b id : ℕ) (me : Own) (w : V) → 0 < b → p < length s.homes → 0 < get_or s.words (8 * p + 16) 0 → get_elem? s.views id ≡ some me.0 → Alike me.0 w → w.marks ≡ me.0.marks
+  slept : (s : St) (r : Rule s) (p b id : ℕ) (me : Own) (w : V) → 0 < b → p < length s.homes → 0 < get_or s.words (8 * p + 16) 0 → get_elem? s.views id ≡ some me.0 → Alike me.0 w → w.marks ≡ me.0.marks → Misses (set s.views id w)
       → Rule (stepped s (8 * p + 16) b id me.1 w keeps)
-  slept s r p b id me w above inn busy at same marks =
+  slept s r p b id me w above inn busy at same marks misses =
       let wide = r.wide in
       record {
         history = r.history;
@@ -207,6 +211,7 @@ module _ {P M E T : Type 0} (machine : P → Machine M E) (meaning : T → M) (l
         sound = r.sound;
         in_logs = r.in_logs;
         in_one_log = r.in_one_log;
+        misses = misses;
         stops = stop_set (get_or s.words 8 0) (get_or (set s.words (8 * p + 16) b) 8 0) s.views id me.0 w (get_or-set_other s.words (8 * p + 16) 8 b 0 (λ z. omega arith)) at same.raised same.knows r.stops;
         about = still_about s r id me.0 w at same;
       }
@@ -216,8 +221,18 @@ module _ {P M E T : Type 0} (machine : P → Machine M E) (meaning : T → M) (l
   free_if s r p h zero_word = let long = r.long in let t = there r.holders p (omega arith) in
       by_option (λ o. get_elem? r.holders p ≡ some o → get_elem? r.holders p ≡ some none) (λ e. e) (λ id e. let o = r.out p id e in absurd (omega arith)) t.0 t.1
 
-  tries_keep : (slots id : ℕ) (me : Own) (p : ℕ) → p < slots → Allows Rule slots id me (8 * p + 16) (λ n. either (eqb n 0) 1 n) (tries meaning log (step slots (8 * p + 16) 0 1 none) me)
-  tries_keep slots id me p fits s r count at _ =
+  -- another pass has a place whose lock word isn't 0, where this one hasn't marked it
+  missed_by : (s : St) (r : Rule s) (p id : ℕ) (me : Own) → p < length s.homes → get_or s.words (8 * p + 16) 0 ≢ 0 → get_elem? s.views id ≡ some me.0 → (HasPlace me.0.marks p → ⊥) → IsHadElsewhere s.views id p
+  missed_by s r p id me within busy at apart = let long = r.long in let t = there r.holders p (omega arith) in
+      by_option (λ (o : Spot). get_elem? r.holders p ≡ some o → IsHadElsewhere s.views id p)
+      (λ free. absurd (busy (r.home p free).0))
+      (λ j out.
+      let h = r.held p j out in
+      (j, h.0, (λ is. apart (subst (λ (z : V). HasPlace z.marks p) (some-injective h.0 me.0 (sym h.1 ∙ (ap (get_elem? s.views) is ∙ at))) h.2)), h.1, inl (r.misses.had j h.0 h.1 p h.2)))
+      t.0 t.1
+
+  tries_keep : (slots id : ℕ) (me : Own) (p : ℕ) → p < slots → (HasPlace me.0.marks p → ⊥) → Allows Rule slots id me (8 * p + 16) (λ n. either (eqb n 0) 1 n) (tries meaning log (step slots (8 * p + 16) 0 1 none) me)
+  tries_keep slots id me p fits apart s r count at _ =
       let n : ℕ = get_or s.words (8 * p + 16) 0 in
       let back : p ≡ ((8 * p + 16) - 16) / 8 = omega arith in
       let now : List M = leads x a.opening r.history in
@@ -240,16 +255,16 @@ module _ {P M E T : Type 0} (machine : P → Machine M E) (meaning : T → M) (l
         missing me.0 p,
         keeps,
         tt,
-        subst (λ b. Rule (stepped s (8 * p + 16) (either b 1 n) id me.1 (missing me.0 p) keeps)) (sym (ne_eqb n 0 miss)) (unmoved s r (8 * p + 16) id me (missing me.0 p) at record { about = refl; seen = refl; own = refl; ended = refl; raised = refl; knows = refl } refl),
+        subst (λ b. Rule (stepped s (8 * p + 16) (either b 1 n) id me.1 (missing me.0 p) keeps)) (sym (ne_eqb n 0 miss)) (unmoved s r (8 * p + 16) id me (missing me.0 p) at record { about = refl; seen = refl; own = refl; ended = refl; raised = refl; knows = refl } refl (missed_more s.views id me.0 at r.misses p (missed_by s r p id me (omega arith) miss at apart))),
         ((λ hit. absurd (miss hit)), λ _. (refl, ap (missing me.0) back)),
       ))
 
-  pub tries_keep_at : (slots id : ℕ) (me : Own) (p word : ℕ) → word ≡ 8 * p + 16 → p < slots → Allows Rule slots id me word (λ n. either (eqb n 0) 1 n) (tries meaning log (step slots word 0 1 none) me)
-  tries_keep_at slots id me p word is fits = subst (λ (w : ℕ). Allows Rule slots id me w (λ n. either (eqb n 0) 1 n) (tries meaning log (step slots w 0 1 none) me)) (sym is) (tries_keep slots id me p fits)
+  pub tries_keep_at : (slots id : ℕ) (me : Own) (p word : ℕ) → word ≡ 8 * p + 16 → p < slots → (HasPlace me.0.marks p → ⊥) → Allows Rule slots id me word (λ n. either (eqb n 0) 1 n) (tries meaning log (step slots word 0 1 none) me)
+  tries_keep_at slots id me p word is fits apart = subst (λ (w : ℕ). Allows Rule slots id me w (λ n. either (eqb n 0) 1 n) (tries meaning log (step slots w 0 1 none) me)) (sym is) (tries_keep slots id me p fits apart)
 
   -- the same where the lock word becomes 2 in any case
-  waits_keep : (slots id : ℕ) (me : Own) (p : ℕ) → p < slots → Allows Rule slots id me (8 * p + 16) (λ _. 2) (tries meaning log (step slots (8 * p + 16) 2 0 none) me)
-  waits_keep slots id me p fits s r count at _ =
+  waits_keep : (slots id : ℕ) (me : Own) (p : ℕ) → p < slots → (HasPlace me.0.marks p → ⊥) → Allows Rule slots id me (8 * p + 16) (λ _. 2) (tries meaning log (step slots (8 * p + 16) 2 0 none) me)
+  waits_keep slots id me p fits apart s r count at _ =
       let n : ℕ = get_or s.words (8 * p + 16) 0 in
       let back : p ≡ ((8 * p + 16) - 16) / 8 = omega arith in
       dite (ℕ_discrete n 0)
@@ -271,12 +286,12 @@ module _ {P M E T : Type 0} (machine : P → Machine M E) (meaning : T → M) (l
         missing me.0 p,
         keeps,
         tt,
-        slept s r p 2 id me (missing me.0 p) (omega arith) (omega arith) (omega arith) at record { about = refl; seen = refl; own = refl; ended = refl; raised = refl; knows = refl } refl,
+        slept s r p 2 id me (missing me.0 p) (omega arith) (omega arith) (omega arith) at record { about = refl; seen = refl; own = refl; ended = refl; raised = refl; knows = refl } refl (missed_more s.views id me.0 at r.misses p (missed_by s r p id me (omega arith) miss at apart)),
         ((λ hit. absurd (miss hit)), λ _. (refl, ap (missing me.0) back)),
       ))
 
-  pub waits_keep_at : (slots id : ℕ) (me : Own) (p word : ℕ) → word ≡ 8 * p + 16 → p < slots → Allows Rule slots id me word (λ _. 2) (tries meaning log (step slots word 2 0 none) me)
-  waits_keep_at slots id me p word is fits = subst (λ (w : ℕ). Allows Rule slots id me w (λ _. 2) (tries meaning log (step slots w 2 0 none) me)) (sym is) (waits_keep slots id me p fits)
+  pub waits_keep_at : (slots id : ℕ) (me : Own) (p word : ℕ) → word ≡ 8 * p + 16 → p < slots → (HasPlace me.0.marks p → ⊥) → Allows Rule slots id me word (λ _. 2) (tries meaning log (step slots word 2 0 none) me)
+  waits_keep_at slots id me p word is fits apart = subst (λ (w : ℕ). Allows Rule slots id me w (λ _. 2) (tries meaning log (step slots w 2 0 none) me)) (sym is) (waits_keep slots id me p fits apart)
 
   -- the seat id gives back the place that it marked last
   lets_it_go : (s : St) (r : Rule s) (p id : ℕ) (me : Own) (y : T) (carried : List (ℕ × Option T)) (init : List (Mark M E)) → get_elem? s.views id ≡ some me.0
@@ -335,6 +350,7 @@ module _ {P M E T : Type 0} (machine : P → Machine M E) (meaning : T → M) (l
         sound = r.sound;
         in_logs = r.in_logs;
         in_one_log = r.in_one_log;
+        misses = marked_less s.views id me.0 at r.misses;
         stops = stop_set (get_or s.words 8 0) (get_or (set s.words (8 * p + 16) 0) 8 0) s.views id me.0 w (get_or-set_other s.words (8 * p + 16) 8 0 0 (λ z. omega arith)) at same.raised same.knows r.stops;
         about = still_about s r id me.0 w at same;
       }
@@ -381,7 +397,7 @@ module _ {P M E T : Type 0} (machine : P → Machine M E) (meaning : T → M) (l
     me.0,
     keeps,
     tt,
-    unmoved s r 0 id me me.0 at record { about = refl; seen = refl; own = refl; ended = refl; raised = refl; knows = refl } refl,
+    unmoved s r 0 id me me.0 at record { about = refl; seen = refl; own = refl; ended = refl; raised = refl; knows = refl } refl (still_missed s.views id me.0 at r.misses me.0 refl refl refl refl),
     (
       refl,
       λ b about_b. let same : b ≡ a = r.about id me.0 b at about_b in subst (λ (z : About P M). Sees machine slots z (get_or s.words 0 0) me.0) (sym same) (sees s r slots id me.0 at count),
@@ -393,7 +409,7 @@ module _ {P M E T : Type 0} (machine : P → Machine M E) (meaning : T → M) (l
     me.0,
     keeps,
     tt,
-    unmoved s r 8 id me me.0 at record { about = refl; seen = refl; own = refl; ended = refl; raised = refl; knows = refl } refl,
+    unmoved s r 8 id me me.0 at record { about = refl; seen = refl; own = refl; ended = refl; raised = refl; knows = refl } refl (still_missed s.views id me.0 at r.misses me.0 refl refl refl refl),
     (
       refl,
       λ b about_b. (

@@ -2,6 +2,7 @@ mod Rising
 mod HandLists
 mod Growth
 mod Marked
+mod MissLemmas
 mod Stopping
 mod KeepPlaces
 mod KeepCommit

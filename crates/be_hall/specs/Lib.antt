@@ -6,6 +6,7 @@ pub mod Views
 pub mod Logs
 pub mod History
 pub mod Stop
+pub mod Misses
 pub mod Rule
 pub mod Steps
 pub mod Passes

@@ -123,7 +123,7 @@ impl<P: Parts + Drop> Hall<P> {
         ensures same { pass.new.seat.me.0 ≡ pass.old.seat.me.0 }
         ensures held { meant P.meaning pass.new.held.parts ≡ meant P.meaning pass.old.held.parts }
         ensures logs { meant P.log pass.new.held.parts ≡ meant P.log pass.old.held.parts }
-        ensures answer { IfOk result (Answers (P.machine self.now.rules) (meant P.meaning pass.new.held.parts) (meant P.spare pass.new.held.parts) P.entry_of P.seen_by entry.now) }
+        ensures answer { IfOk result (Answers (P.machine self.now.rules) (meant P.meaning pass.new.held.parts) (meant P.spare pass.new.held.parts) P.entry_of P.seen_by (P.prepared self.now.rules pass.new.held.parts) entry.now) }
     {
         self.glance(&mut pass.seat);
         self.rules.prepare(&mut pass.held, entry)
@@ -144,6 +144,7 @@ impl<P: Parts + Drop> Hall<P> {
     pub fn commit(&self, pass: &mut Pass<P>, ready: P::Ready) -> u64
         requires hall { IsOf P.meaning self.now.table.shared.table_id self.now.table.shared.key pass.old.seat }
         requires seen { P.seen_by ready ≡ meant P.meaning pass.old.held.parts }
+        requires prepared { P.prepared self.now.rules pass.old.held.parts ready }
         requires permitted { IsReady (P.machine self.now.rules) (P.seen_by ready) (P.entry_of ready) }
         requires spare { HasSpare ((P.machine self.now.rules).keeper (P.entry_of ready)) (meant P.spare pass.old.held.parts) }
         ensures hall { IsOf P.meaning self.now.table.shared.table_id self.now.table.shared.key pass.new.seat }

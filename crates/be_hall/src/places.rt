@@ -1,9 +1,10 @@
 //! How parts are taken and given back.
-ghost use Rattle.std.specs.Prelude.{◌≡◌, ◌≢◌, ℕ, ◌+◌, ◌<◌, ◌++◌, List, [], ◌∷◌, length, true, false, None, Some, All, IfOk, IfErr, IfSome, Contains};
+ghost use Rattle.std.specs.Prelude.{◌≡◌, ◌≢◌, ℕ, ◌+◌, ◌^◌, ◌<◌, ◌++◌, List, [], ◌∷◌, length, true, false, None, Some, All, IfOk, IfErr, IfSome, Contains};
 ghost use Rattle.atomic_table.specs.Table.{rest};
 ghost use Rattle.be_hall.specs.declared.view.Mark.{Mark};
-ghost use Rattle.be_hall.specs.Hands.{places_of, rises_from};
-ghost use Rattle.be_hall.specs.Views.{Has, mark, marking, missing, letting_go};
+ghost use Rattle.be_hall.specs.Hands.{places_of, rises_from, meant};
+ghost use Rattle.be_hall.specs.Machine.{SomeFits, HeldFit};
+ghost use Rattle.be_hall.specs.Views.{Has, HasPlace, mark, marking, missing, letting_go};
 ghost use Rattle.be_hall.specs.Passes.{IsOf, IsAlike, Gives, about_of};
 
 use crate::hall::Hall;
@@ -32,7 +33,8 @@ enum Knock {
 impl<P: Parts + Drop> Hall<P> {
     // Tries to mark a place. Where it does, the part is in the seat's slot.
     fn mark(&self, seat: &mut Place<P>, place: u32, knock: Knock) -> bool
-        requires { (seat.old.table_id ≡ self.now.table.shared.table_id) × (place < self.now.places) }
+        requires same { (seat.old.table_id ≡ self.now.table.shared.table_id) × (place < self.now.places) }
+        requires apart { ¬ HasPlace seat.old.me.0.marks place }
         ensures seat { (seat.new.table_id ≡ seat.old.table_id) × (seat.new.id ≡ seat.old.id) }
         ensures marked { result ≡ true → (x : P.Part) × (seat.new.me.1 ≡ (place, Some x) ∷ seat.old.me.1) × (seat.new.me.0 ≡ marking seat.old.me.0 (mark place (P.meaning x) (P.log x))) }
         ensures missed { result ≡ false → (seat.new.me.1 ≡ seat.old.me.1) × (seat.new.me.0 ≡ missing seat.old.me.0 place) }
@@ -99,6 +101,7 @@ impl<P: Parts + Drop> Hall<P> {
         ensures known { IsAlike pass.old.seat.me.0 pass.new.seat.me.0 }
         ensures held { places_of pass.new.held.parts ≡ places.now }
         ensures gives { Gives P.machine P.meaning (about_of P.meaning self.now.table.shared.key) pass.new.seat.me.0 pass.new.held.parts }
+        ensures askable { SomeFits (P.machine self.now.rules) (meant P.meaning pass.new.held.parts) × HeldFit (P.machine self.now.rules).fits (2 ^ 62) (meant P.meaning pass.new.held.parts) }
     {
         for i in 0..places.len() {
             self.take_one(rt, pass, places[i]);
@@ -116,6 +119,7 @@ impl<P: Parts + Drop> Hall<P> {
         ensures known { IsAlike pass.old.seat.me.0 pass.new.seat.me.0 }
         ensures held { IfOk result (λ _. (places_of pass.new.held.parts ≡ places.now) × (pass.new.seat.me.0.missed ≡ pass.old.seat.me.0.missed)) }
         ensures gives { IfOk result (λ _. Gives P.machine P.meaning (about_of P.meaning self.now.table.shared.key) pass.new.seat.me.0 pass.new.held.parts) }
+        ensures askable { IfOk result (λ _. SomeFits (P.machine self.now.rules) (meant P.meaning pass.new.held.parts) × HeldFit (P.machine self.now.rules).fits (2 ^ 62) (meant P.meaning pass.new.held.parts)) }
         ensures busy { IfErr result (λ b. (pass.new.held.parts ≡ []) × (pass.new.seat.me.0.missed ≡ pass.old.seat.me.0.missed ++ b.place ∷ []) × Contains places.now b.place) }
     {
         for i in 0..places.len() {
@@ -134,6 +138,7 @@ impl<P: Parts + Drop> Hall<P> {
         ensures hall { IsOf P.meaning self.now.table.shared.table_id self.now.table.shared.key pass.new.seat }
         ensures same { (pass.new.seat.me.0 ≡ pass.old.seat.me.0) × (pass.new.held ≡ pass.old.held) }
         ensures gives { Gives P.machine P.meaning (about_of P.meaning self.now.table.shared.key) pass.new.seat.me.0 pass.new.held.parts }
+        ensures askable { SomeFits (P.machine self.now.rules) (meant P.meaning pass.new.held.parts) × HeldFit (P.machine self.now.rules).fits (2 ^ 62) (meant P.meaning pass.new.held.parts) }
     {
         self.glance(&mut pass.seat);
     }

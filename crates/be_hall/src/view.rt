@@ -45,6 +45,10 @@ pub struct View<P, M, E> {
     pub ended: LinkedList<LinkedList<Commit<M, E>>>,
     pub marks: LinkedList<Mark<M, E>>,
     pub missed: LinkedList<u32>,
+    /// The places that it ever marked.
+    pub had: LinkedList<u32>,
+    /// Those that passes marked which were joined into it.
+    pub met: LinkedList<u32>,
     pub raised: bool,
     /// It knows that stop was raised.
     pub knows: bool,

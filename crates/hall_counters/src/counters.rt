@@ -1,5 +1,5 @@
 //! Counters that pass units to each other, as parts of a hall.
-ghost use Rattle.std.specs.Prelude.{◌≡◌, ℕ, ◌+◌, ◌-◌, ◌^◌, ◌<◌, ◌≤◌, ◌++◌, List, [], ◌∷◌, Some, IfOk, IfSome, IfNone, OnOk, option_map};
+ghost use Rattle.std.specs.Prelude.{⊤, ◌≡◌, ℕ, ◌+◌, ◌-◌, ◌^◌, ◌<◌, ◌≤◌, ◌++◌, List, [], ◌∷◌, Some, IfOk, IfSome, IfNone, OnOk, option_map};
 ghost use Rattle.std.specs.VecDeque.{deque_len, deque_capacity};
 ghost use Rattle.be_hall.specs.Hands.{part_at, with_part, meant};
 ghost use Rattle.hall_counters.specs.Counting.{counting, gave, got};
@@ -56,6 +56,8 @@ impl Parts for Counters {
     ghost entry_of = { λ r. r.transfer };
 
     ghost seen_by = { λ r. meant (λ x. x.count) r.seen.value.parts };
+
+    ghost prepared = { λ it held r. ⊤ };
 
     ghost lawful = { λ it. counting_lawful it.places };
 

@@ -30,6 +30,7 @@ perform-requires g c =
       number = (omega arith, omega arith);
       fits = simp unary_clauses (subst (λ r. HeldFit (g.P.Parts.machine r).fits c.tick-number.result (meant g.P.Parts.meaning it.held.parts)) c.args.self.now.same_rules s.fit);
       seen = c.requires.seen;
+      prepared = c.requires.prepared;
       permitted = c.requires.permitted;
       above = s.above _;
       spare = c.requires.spare;

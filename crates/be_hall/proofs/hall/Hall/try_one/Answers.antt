@@ -3,9 +3,16 @@ use Rattle.atomic_table.specs.Table.{rest}
 use Rattle.be_hall.specs.Hands.{places_of, rises_from, all_below}
 use Rattle.be_hall.specs.Views.{mark, gathered}
 use Rattle.be_hall.specs.Passes.{emptied, marks_of}
-use Rattle.be_hall.proofs.InHand.{emptied_snoc, places_snoc, places_many, marks_snoc, room_left}
+use Rattle.be_hall.specs.Views.{HasPlace}
+use Rattle.be_hall.proofs.InHand.{last_apart, emptied_snoc, places_snoc, places_many, marks_snoc, room_left}
 use Rattle.be_hall.proofs.Rising.{rising_short, below_snoc, less_than}
 use Rattle.be_hall.proofs.hall.Hall.try_one.Goals as goal
+
+pub mark-requires-clause-apart : goal.mark-requires-clause-apart
+mark-requires-clause-apart g c has =
+    let it = c.args.pass.now in
+    let h = subst (λ l. HasPlace l c.args.place) it.tied has in
+    last_apart g.P.Parts.meaning g.P.Parts.log 0 it.held.parts c.args.place c.requires.above h.0 h.1 h.2
 
 pub exchange-requires : goal.exchange-requires
 exchange-requires g c = let m = c.mark.ensures.marked c.if-not-mark.false in (c.mark.ensures.seat.0 ∙ c.requires.hall.0, (Some m.0, m.1 ∙ ap (λ l. (c.args.place, Some m.0) ∷ rest l) (sym m.1)))

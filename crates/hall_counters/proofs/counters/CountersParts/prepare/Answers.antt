@@ -68,4 +68,5 @@ returns-clause-answer c =
           (subst (λ (k : Count). 0 < k.units) (sym count) (positive c.in-Some.count.units c.if-count-eq0.false))
           (subst (λ (k : Count). 0 < k.left) (sym count) (positive c.in-Some.count.left c.if-count-eq0-2.false)),
       has_spare (λ y. deque_capacity y.log - deque_len y.log) new source e.1 at_y (some_spare _ _ e.6),
+      tt,
     )
