@@ -158,6 +158,8 @@ module _ {P T M E : Type 0} (machine : P → Machine M E) (meaning : T → M) (l
           own = ap (λ (z : View P M E). z.own) is ∙ ap (λ (b : List (ℕ × M)). v.own ++ commit (r + 1) e b ∷ []) before;
           ended = ap (λ (z : View P M E). z.ended) is;
           missed = ap (λ (z : View P M E). z.missed) is;
+          had = ap (λ (z : View P M E). z.had) is;
+          met = ap (λ (z : View P M E). z.met) is;
           raised = ap (λ (z : View P M E). z.raised) is;
           knows = ap (λ (z : View P M E). z.knows) is;
           quiet = ap (λ (z : View P M E). z.quiet) is;

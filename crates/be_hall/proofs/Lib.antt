@@ -1,4 +1,5 @@
-mod Rising
+pub mod Rising
+pub mod UpFrom
 mod HandLists
 mod Growth
 mod Marked

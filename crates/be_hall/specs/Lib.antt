@@ -10,5 +10,6 @@ pub mod Misses
 pub mod Rule
 pub mod Steps
 pub mod Passes
+pub mod Words
 pub mod Closing
 pub mod Faults

@@ -47,16 +47,19 @@ module _ {P T M E : Type 0} (machine : P → Machine M E) (meaning : T → M) (a
     pub own : w.own ≡ v.own ++ commit n e (meant meaning held) ∷ []
     pub ended : w.ended ≡ v.ended
     pub missed : w.missed ≡ v.missed
+    pub had : w.had ≡ v.had
+    pub met : w.met ≡ v.met
     pub raised : w.raised ≡ v.raised
     pub knows : w.knows ≡ v.knows
     pub quiet : w.quiet ≡ v.quiet
 
--- the view knows what it knew, but for marks and misses
+-- the view knows what it knew, but for the places that it marks, had and missed
 pub record IsAlike {P M E : Type 0} (v w : View P M E) : Type 0 where
   pub about : w.about ≡ v.about
   pub seen : w.seen ≡ v.seen
   pub own : w.own ≡ v.own
   pub ended : w.ended ≡ v.ended
+  pub met : w.met ≡ v.met
   pub raised : w.raised ≡ v.raised
   pub knows : w.knows ≡ v.knows
   pub quiet : w.quiet ≡ v.quiet

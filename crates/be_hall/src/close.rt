@@ -5,7 +5,7 @@ ghost use Rattle.be_hall.specs.Numbers.{once};
 ghost use Rattle.be_hall.specs.Views.{gathered};
 ghost use Rattle.be_hall.specs.Logs.{logged, flat, InHistory};
 ghost use Rattle.be_hall.specs.Steps.{Sees};
-ghost use Rattle.be_hall.specs.Passes.{IsOf, about_of};
+ghost use Rattle.be_hall.specs.Words.{IsPassOf, hands_of, in_hand, opened, rules_of, view_of};
 ghost use Rattle.be_hall.specs.Closing.{Closes};
 ghost use Rattle.be_hall.specs.Faults.{MatchFault};
 
@@ -28,13 +28,13 @@ pub struct Closed<P: Parts + Drop> {
 impl<P: Parts + Drop> Hall<P> {
     /// Ends the hall with a pass that holds every part: its rules, its parts and its history.
     pub fn close(self, mut pass: Pass<P>) -> Result<Closed<P>, CloseFault<P>>
-        requires hall { IsOf P.meaning self.table.shared.table_id self.table.shared.key pass.seat }
-        requires all { places_of pass.held.parts ≡ up_from 0 self.places }
-        ensures rules { IfOk result (λ c. c.rules ≡ self.rules) }
-        ensures closed { IfOk result (λ c. Closes P.machine P.meaning P.log (about_of P.meaning self.table.shared.key) pass.seat.me.0 pass.held.parts c.parts.items c.history.items) }
+        requires hall { IsPassOf P.meaning self pass }
+        requires all { places_of (in_hand pass) ≡ up_from 0 (P.machine (rules_of self)).places }
+        ensures rules { IfOk result (λ c. c.rules ≡ rules_of self) }
+        ensures closed { IfOk result (λ c. Closes P.machine P.meaning P.log (opened P.meaning self) (view_of pass) (in_hand pass) c.parts.items c.history.items) }
         ensures refused { IfErr result (λ f. MatchFault f
-            (λ clock made hall other. (made ≡ gathered pass.seat.me.0) × (clock ≢ made) × Sees P.machine self.places (about_of P.meaning self.table.shared.key) clock pass.seat.me.0 × (hall ≡ self) × (other.held ≡ pass.held) × (other.seat.me.0 ≡ pass.seat.me.0) × IsOf P.meaning hall.table.shared.table_id hall.table.shared.key other.seat)
-            (λ hall other. Sees P.machine self.places (about_of P.meaning self.table.shared.key) (gathered pass.seat.me.0) pass.seat.me.0 × (hall ≡ self) × (other.held ≡ pass.held) × (other.seat.me.0 ≡ pass.seat.me.0) × IsOf P.meaning hall.table.shared.table_id hall.table.shared.key other.seat)) }
+            (λ clock made hall other. (made ≡ gathered (view_of pass)) × (clock ≢ made) × Sees P.machine (P.machine (rules_of self)).places (opened P.meaning self) clock (view_of pass) × (hall ≡ self) × (hands_of other ≡ hands_of pass) × (view_of other ≡ view_of pass) × IsPassOf P.meaning hall other)
+            (λ hall other. Sees P.machine (P.machine (rules_of self)).places (opened P.meaning self) (gathered (view_of pass)) (view_of pass) × (hall ≡ self) × (hands_of other ≡ hands_of pass) × (view_of other ≡ view_of pass) × IsPassOf P.meaning hall other)) }
     {
         let clock = self.look(&mut pass.seat);
         if clock != pass.made {
@@ -48,13 +48,14 @@ impl<P: Parts + Drop> Hall<P> {
         }
         let Ok((mut parts, mut pairs, mut history)) = make_room(
             self.alloc,
-            self.places as usize,
+            self.book.places as usize,
             clock as usize,
         ) else {
             return Err(CloseFault::NoMemory { hall: self, pass });
         };
-        let Hall { table, rules, .. } = self;
+        let Hall { table, book, .. } = self;
         drop(table);
+        let rules = book.rules;
         let Pass { held, .. } = pass;
         unlog_parts(&rules, held.into_parts(), &mut parts, &mut pairs);
         in_order(pairs, &mut history);

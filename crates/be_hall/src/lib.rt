@@ -2,13 +2,16 @@
 #![tactic(auto)]
 
 mod close;
+mod entries;
 mod fault;
 mod hall;
 mod held;
 mod open;
 mod parts;
 mod pass;
+mod passing;
 mod places;
+mod rulebook;
 mod stop;
 mod view;
 mod words;

@@ -3,12 +3,13 @@ ghost use Rattle.std.specs.Prelude.{◌≡◌, ◌+◌, ◌^◌, ◌<◌, ◌≤
 ghost use Rattle.be_hall.specs.Numbers.{total};
 ghost use Rattle.be_hall.specs.Machine.{AllFit};
 ghost use Rattle.be_hall.specs.Views.{blank};
-ghost use Rattle.be_hall.specs.Passes.{IsOf, about_of};
+ghost use Rattle.be_hall.specs.Words.{IsPassOf, in_hand, opened, rules_of, view_of};
 
 use crate::hall::Hall;
 use crate::held::Held;
 use crate::parts::Parts;
 use crate::pass::Pass;
+use crate::rulebook::Rulebook;
 use crate::view::Key;
 use crate::words::lock_of;
 use atomic_table::{Refused, Table};
@@ -29,9 +30,11 @@ impl<P: Parts + Drop> Hall<P> {
         requires budgets { total (P.machine rules).budget (map P.meaning parts.items) ≤ limit }
         requires fits { AllFit (P.machine rules).fits 0 (map P.meaning parts.items) }
         requires logs { All (λ x. P.log x ≡ []) parts.items }
-        ensures hall { IfOk result (λ r. IsOf P.meaning r.0.table.shared.table_id r.0.table.shared.key r.1.seat) }
-        ensures about { IfOk result (λ r. (r.0.rules ≡ rules) × (r.0.table.shared.key.opening.value.items ≡ parts.items) × (r.0.table.shared.key.limit ≡ limit) × (r.0.places ≡ (P.machine rules).places)) }
-        ensures pass { IfOk result (λ r. (r.1.seat.me.0 ≡ blank (about_of P.meaning r.0.table.shared.key)) × (r.1.held.parts ≡ [])) }
+        ensures hall { IfOk result (λ r. IsPassOf P.meaning r.0 r.1) }
+        ensures rules { IfOk result (λ r. rules_of r.0 ≡ rules) }
+        ensures opened { IfOk result (λ r. opened P.meaning r.0
+            ≡ record { rules = rules; opening = map P.meaning parts.items; limit = limit }) }
+        ensures pass { IfOk result (λ r. (view_of r.1 ≡ blank (opened P.meaning r.0)) × (in_hand r.1 ≡ [])) }
     {
         let key = Key {
             rules: Snapshot::of(&rules),
@@ -46,8 +49,7 @@ impl<P: Parts + Drop> Hall<P> {
             Ok((table, seat)) => {
                 let hall = Hall {
                     table,
-                    places,
-                    rules,
+                    book: Rulebook { rules, places },
                     alloc,
                 };
                 let pass = Pass {

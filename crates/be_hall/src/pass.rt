@@ -28,12 +28,3 @@ pub struct Pass<P: Parts> {
     ghost room: { seat.table_id.slots ≤ held.room },
     ghost counts: { made ≡ min (gathered seat.me.0) 18446744073709551615 },
 }
-
-impl<P: Parts> Pass<P> {
-    /// The parts in hand.
-    pub fn held(&self) -> &Held<P::Part>
-        ensures { result.now ≡ self.now.held }
-    {
-        &self.held
-    }
-}

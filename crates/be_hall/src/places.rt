@@ -1,11 +1,12 @@
 //! How parts are taken and given back.
-ghost use Rattle.std.specs.Prelude.{◌≡◌, ◌≢◌, ℕ, ◌+◌, ◌^◌, ◌<◌, ◌++◌, List, [], ◌∷◌, length, true, false, None, Some, All, IfOk, IfErr, IfSome, Contains};
+ghost use Rattle.std.specs.Prelude.{◌≡◌, ◌≢◌, ℕ, ◌+◌, ◌<◌, ◌++◌, List, [], ◌∷◌, length, true, false, None, Some, All, IfOk, IfErr, IfSome, Contains};
 ghost use Rattle.atomic_table.specs.Table.{rest};
 ghost use Rattle.be_hall.specs.declared.view.Mark.{Mark};
 ghost use Rattle.be_hall.specs.Hands.{places_of, rises_from, meant};
-ghost use Rattle.be_hall.specs.Machine.{SomeFits, HeldFit};
+ghost use Rattle.be_hall.specs.Machine.{IsAskable};
 ghost use Rattle.be_hall.specs.Views.{Has, HasPlace, mark, marking, missing, letting_go};
-ghost use Rattle.be_hall.specs.Passes.{IsOf, IsAlike, Gives, about_of};
+ghost use Rattle.be_hall.specs.Passes.{IsAlike, Gives};
+ghost use Rattle.be_hall.specs.Words.{IsPassOf, IsSame, hands_of, in_hand, opened, rules_of, view_of};
 
 use crate::hall::Hall;
 use crate::parts::Parts;
@@ -33,7 +34,7 @@ enum Knock {
 impl<P: Parts + Drop> Hall<P> {
     // Tries to mark a place. Where it does, the part is in the seat's slot.
     fn mark(&self, seat: &mut Place<P>, place: u32, knock: Knock) -> bool
-        requires same { (seat.old.table_id ≡ self.now.table.shared.table_id) × (place < self.now.places) }
+        requires same { (seat.old.table_id ≡ self.now.table.shared.table_id) × (place < self.now.book.places) }
         requires apart { ¬ HasPlace seat.old.me.0.marks place }
         ensures seat { (seat.new.table_id ≡ seat.old.table_id) × (seat.new.id ≡ seat.old.id) }
         ensures marked { result ≡ true → (x : P.Part) × (seat.new.me.1 ≡ (place, Some x) ∷ seat.old.me.1) × (seat.new.me.0 ≡ marking seat.old.me.0 (mark place (P.meaning x) (P.log x))) }
@@ -50,13 +51,13 @@ impl<P: Parts + Drop> Hall<P> {
 
     // Takes the part at a place, where no other pass has it.
     fn try_one(&self, pass: &mut Pass<P>, place: u32, knock: Knock) -> bool
-        requires hall { IsOf P.meaning self.now.table.shared.table_id self.now.table.shared.key pass.old.seat }
-        requires place { place < self.now.places }
-        requires above { rises_from 0 (places_of pass.old.held.parts ++ place ∷ []) ≡ true }
-        ensures hall { IsOf P.meaning self.now.table.shared.table_id self.now.table.shared.key pass.new.seat }
-        ensures known { IsAlike pass.old.seat.me.0 pass.new.seat.me.0 }
-        ensures taken { result ≡ true → (places_of pass.new.held.parts ≡ places_of pass.old.held.parts ++ place ∷ []) × (pass.new.seat.me.0.missed ≡ pass.old.seat.me.0.missed) }
-        ensures missed { result ≡ false → (pass.new.held ≡ pass.old.held) × (pass.new.seat.me.0.missed ≡ pass.old.seat.me.0.missed ++ place ∷ []) }
+        requires hall { IsPassOf P.meaning self.now pass.old }
+        requires place { place < (P.machine (rules_of self.now)).places }
+        requires above { rises_from 0 (places_of (in_hand pass.old) ++ place ∷ []) ≡ true }
+        ensures hall { IsPassOf P.meaning self.now pass.new }
+        ensures known { IsAlike (view_of pass.old) (view_of pass.new) }
+        ensures taken { result ≡ true → (places_of (in_hand pass.new) ≡ places_of (in_hand pass.old) ++ place ∷ []) × ((view_of pass.new).missed ≡ (view_of pass.old).missed) }
+        ensures missed { result ≡ false → (hands_of pass.new ≡ hands_of pass.old) × ((view_of pass.new).missed ≡ (view_of pass.old).missed ++ place ∷ []) }
     {
         if !self.mark(&mut pass.seat, place, knock) {
             return false;
@@ -72,12 +73,12 @@ impl<P: Parts + Drop> Hall<P> {
 
     // Takes the part at a place, and waits until it can.
     fn take_one<R: Wait>(&self, rt: &R, pass: &mut Pass<P>, place: u32)
-        requires hall { IsOf P.meaning self.now.table.shared.table_id self.now.table.shared.key pass.old.seat }
-        requires place { place < self.now.places }
-        requires above { rises_from 0 (places_of pass.old.held.parts ++ place ∷ []) ≡ true }
-        ensures hall { IsOf P.meaning self.now.table.shared.table_id self.now.table.shared.key pass.new.seat }
-        ensures known { IsAlike pass.old.seat.me.0 pass.new.seat.me.0 }
-        ensures taken { places_of pass.new.held.parts ≡ places_of pass.old.held.parts ++ place ∷ [] }
+        requires hall { IsPassOf P.meaning self.now pass.old }
+        requires place { place < (P.machine (rules_of self.now)).places }
+        requires above { rises_from 0 (places_of (in_hand pass.old) ++ place ∷ []) ≡ true }
+        ensures hall { IsPassOf P.meaning self.now pass.new }
+        ensures known { IsAlike (view_of pass.old) (view_of pass.new) }
+        ensures taken { places_of (in_hand pass.new) ≡ places_of (in_hand pass.old) ++ place ∷ [] }
     {
         if self.try_one(pass, place, Knock::Once) {
             return;
@@ -93,15 +94,15 @@ impl<P: Parts + Drop> Hall<P> {
 
     /// Takes the parts at these places, and waits until it can.
     pub fn take<R: Wait>(&self, rt: &R, pass: &mut Pass<P>, places: &[u32])
-        requires hall { IsOf P.meaning self.now.table.shared.table_id self.now.table.shared.key pass.old.seat }
-        requires empty { pass.old.held.parts ≡ [] }
+        requires hall { IsPassOf P.meaning self.now pass.old }
+        requires empty { in_hand pass.old ≡ [] }
         requires rising { rises_from 0 places.now ≡ true }
-        requires there { All (λ p. p < self.now.places) places.now }
-        ensures hall { IsOf P.meaning self.now.table.shared.table_id self.now.table.shared.key pass.new.seat }
-        ensures known { IsAlike pass.old.seat.me.0 pass.new.seat.me.0 }
-        ensures held { places_of pass.new.held.parts ≡ places.now }
-        ensures gives { Gives P.machine P.meaning (about_of P.meaning self.now.table.shared.key) pass.new.seat.me.0 pass.new.held.parts }
-        ensures askable { SomeFits (P.machine self.now.rules) (meant P.meaning pass.new.held.parts) × HeldFit (P.machine self.now.rules).fits (2 ^ 62) (meant P.meaning pass.new.held.parts) }
+        requires there { All (λ p. p < (P.machine (rules_of self.now)).places) places.now }
+        ensures hall { IsPassOf P.meaning self.now pass.new }
+        ensures known { IsAlike (view_of pass.old) (view_of pass.new) }
+        ensures held { places_of (in_hand pass.new) ≡ places.now }
+        ensures gives { Gives P.machine P.meaning (opened P.meaning self.now) (view_of pass.new) (in_hand pass.new) }
+        ensures askable { IsAskable (P.machine (rules_of self.now)) (meant P.meaning (in_hand pass.new)) }
     {
         for i in 0..places.len() {
             self.take_one(rt, pass, places[i]);
@@ -111,16 +112,16 @@ impl<P: Parts + Drop> Hall<P> {
 
     /// Takes the parts at these places, or none of them where another pass has one.
     pub fn try_take(&self, pass: &mut Pass<P>, places: &[u32]) -> Result<(), Busy>
-        requires hall { IsOf P.meaning self.now.table.shared.table_id self.now.table.shared.key pass.old.seat }
-        requires empty { pass.old.held.parts ≡ [] }
+        requires hall { IsPassOf P.meaning self.now pass.old }
+        requires empty { in_hand pass.old ≡ [] }
         requires rising { rises_from 0 places.now ≡ true }
-        requires there { All (λ p. p < self.now.places) places.now }
-        ensures hall { IsOf P.meaning self.now.table.shared.table_id self.now.table.shared.key pass.new.seat }
-        ensures known { IsAlike pass.old.seat.me.0 pass.new.seat.me.0 }
-        ensures held { IfOk result (λ _. (places_of pass.new.held.parts ≡ places.now) × (pass.new.seat.me.0.missed ≡ pass.old.seat.me.0.missed)) }
-        ensures gives { IfOk result (λ _. Gives P.machine P.meaning (about_of P.meaning self.now.table.shared.key) pass.new.seat.me.0 pass.new.held.parts) }
-        ensures askable { IfOk result (λ _. SomeFits (P.machine self.now.rules) (meant P.meaning pass.new.held.parts) × HeldFit (P.machine self.now.rules).fits (2 ^ 62) (meant P.meaning pass.new.held.parts)) }
-        ensures busy { IfErr result (λ b. (pass.new.held.parts ≡ []) × (pass.new.seat.me.0.missed ≡ pass.old.seat.me.0.missed ++ b.place ∷ []) × Contains places.now b.place) }
+        requires there { All (λ p. p < (P.machine (rules_of self.now)).places) places.now }
+        ensures hall { IsPassOf P.meaning self.now pass.new }
+        ensures known { IsAlike (view_of pass.old) (view_of pass.new) }
+        ensures held { IfOk result (λ _. (places_of (in_hand pass.new) ≡ places.now) × ((view_of pass.new).missed ≡ (view_of pass.old).missed)) }
+        ensures gives { IfOk result (λ _. Gives P.machine P.meaning (opened P.meaning self.now) (view_of pass.new) (in_hand pass.new)) }
+        ensures askable { IfOk result (λ _. IsAskable (P.machine (rules_of self.now)) (meant P.meaning (in_hand pass.new))) }
+        ensures busy { IfErr result (λ b. (in_hand pass.new ≡ []) × ((view_of pass.new).missed ≡ (view_of pass.old).missed ++ b.place ∷ []) × Contains places.now b.place) }
     {
         for i in 0..places.len() {
             if !self.try_one(pass, places[i], Knock::Once) {
@@ -134,22 +135,22 @@ impl<P: Parts + Drop> Hall<P> {
 
     // Learns anew that one history gives the parts in hand.
     fn see(&self, pass: &mut Pass<P>)
-        requires { IsOf P.meaning self.now.table.shared.table_id self.now.table.shared.key pass.old.seat }
-        ensures hall { IsOf P.meaning self.now.table.shared.table_id self.now.table.shared.key pass.new.seat }
-        ensures same { (pass.new.seat.me.0 ≡ pass.old.seat.me.0) × (pass.new.held ≡ pass.old.held) }
-        ensures gives { Gives P.machine P.meaning (about_of P.meaning self.now.table.shared.key) pass.new.seat.me.0 pass.new.held.parts }
-        ensures askable { SomeFits (P.machine self.now.rules) (meant P.meaning pass.new.held.parts) × HeldFit (P.machine self.now.rules).fits (2 ^ 62) (meant P.meaning pass.new.held.parts) }
+        requires { IsPassOf P.meaning self.now pass.old }
+        ensures hall { IsPassOf P.meaning self.now pass.new }
+        ensures same { IsSame pass.old pass.new }
+        ensures gives { Gives P.machine P.meaning (opened P.meaning self.now) (view_of pass.new) (in_hand pass.new) }
+        ensures askable { IsAskable (P.machine (rules_of self.now)) (meant P.meaning (in_hand pass.new)) }
     {
         self.glance(&mut pass.seat);
     }
 
     /// Gives all parts in hand back.
     pub fn give(&self, pass: &mut Pass<P>)
-        requires { IsOf P.meaning self.now.table.shared.table_id self.now.table.shared.key pass.old.seat }
-        ensures hall { IsOf P.meaning self.now.table.shared.table_id self.now.table.shared.key pass.new.seat }
-        ensures known { IsAlike pass.old.seat.me.0 pass.new.seat.me.0 }
-        ensures missed { pass.new.seat.me.0.missed ≡ pass.old.seat.me.0.missed }
-        ensures none { pass.new.held.parts ≡ [] }
+        requires { IsPassOf P.meaning self.now pass.old }
+        ensures hall { IsPassOf P.meaning self.now pass.new }
+        ensures known { IsAlike (view_of pass.old) (view_of pass.new) }
+        ensures missed { (view_of pass.new).missed ≡ (view_of pass.old).missed }
+        ensures none { in_hand pass.new ≡ [] }
     {
         while !pass.held.is_empty() {
             self.give_last(pass);
@@ -158,12 +159,12 @@ impl<P: Parts + Drop> Hall<P> {
 
     // Gives back the part that was taken last.
     fn give_last(&self, pass: &mut Pass<P>)
-        requires hall { IsOf P.meaning self.now.table.shared.table_id self.now.table.shared.key pass.old.seat }
-        requires some { pass.old.held.parts ≢ [] }
-        ensures hall { IsOf P.meaning self.now.table.shared.table_id self.now.table.shared.key pass.new.seat }
-        ensures known { IsAlike pass.old.seat.me.0 pass.new.seat.me.0 }
-        ensures missed { pass.new.seat.me.0.missed ≡ pass.old.seat.me.0.missed }
-        ensures fewer { length pass.new.held.parts + 1 ≡ length pass.old.held.parts }
+        requires hall { IsPassOf P.meaning self.now pass.old }
+        requires some { in_hand pass.old ≢ [] }
+        ensures hall { IsPassOf P.meaning self.now pass.new }
+        ensures known { IsAlike (view_of pass.old) (view_of pass.new) }
+        ensures missed { (view_of pass.new).missed ≡ (view_of pass.old).missed }
+        ensures fewer { length (in_hand pass.new) + 1 ≡ length (in_hand pass.old) }
     {
         let (place, part) = pass.held.pop().unwrap();
         self.let_go(&mut pass.seat, place, part);
@@ -171,7 +172,7 @@ impl<P: Parts + Drop> Hall<P> {
 
     // Gives back the place that was marked last: its part goes into the slot before its lock word is 0.
     fn let_go(&self, seat: &mut Place<P>, place: u32, part: P::Part)
-        requires same { (seat.old.table_id ≡ self.now.table.shared.table_id) × (place < self.now.places) }
+        requires same { (seat.old.table_id ≡ self.now.table.shared.table_id) × (place < self.now.book.places) }
         requires out { seat.old.me.1 ≡ (place, None) ∷ rest seat.old.me.1 }
         requires marked { (init : List (Mark P.Meaning P.Entry)) × (seat.old.me.0.marks ≡ init ++ mark place (P.meaning part) (P.log part) ∷ []) × ((z : Mark P.Meaning P.Entry) → Has init z → z.place ≢ place) }
         ensures seat { (seat.new.table_id ≡ seat.old.table_id) × (seat.new.id ≡ seat.old.id) }

@@ -1,7 +1,7 @@
 //! The stop word.
 ghost use Rattle.std.specs.Prelude.{◌≡◌, true, false};
 ghost use Rattle.be_hall.specs.Views.{raising, hearing, unheard};
-ghost use Rattle.be_hall.specs.Passes.{IsOf};
+ghost use Rattle.be_hall.specs.Words.{IsPassOf, hands_of, view_of};
 
 use crate::hall::Hall;
 use crate::parts::Parts;
@@ -12,10 +12,10 @@ use crate::words::STOP;
 impl<P: Parts + Drop> Hall<P> {
     /// Tells all passes to stop.
     pub fn raise_stop(&self, pass: &mut Pass<P>)
-        requires { IsOf P.meaning self.now.table.shared.table_id self.now.table.shared.key pass.old.seat }
-        ensures hall { IsOf P.meaning self.now.table.shared.table_id self.now.table.shared.key pass.new.seat }
-        ensures raised { pass.new.seat.me.0 ≡ raising pass.old.seat.me.0 }
-        ensures held { pass.new.held ≡ pass.old.held }
+        requires { IsPassOf P.meaning self.now pass.old }
+        ensures hall { IsPassOf P.meaning self.now pass.new }
+        ensures raised { view_of pass.new ≡ raising (view_of pass.old) }
+        ensures held { hands_of pass.new ≡ hands_of pass.old }
     {
         self.raise(&mut pass.seat);
     }
@@ -30,11 +30,11 @@ impl<P: Parts + Drop> Hall<P> {
 
     /// Whether a pass has raised stop.
     pub fn stopped(&self, pass: &mut Pass<P>) -> bool
-        requires { IsOf P.meaning self.now.table.shared.table_id self.now.table.shared.key pass.old.seat }
-        ensures hall { IsOf P.meaning self.now.table.shared.table_id self.now.table.shared.key pass.new.seat }
-        ensures stopped { result ≡ true → pass.new.seat.me.0 ≡ hearing pass.old.seat.me.0 }
-        ensures quiet { result ≡ false → (pass.old.seat.me.0.knows ≡ false) × (pass.old.seat.me.0.raised ≡ false) × (pass.new.seat.me.0 ≡ unheard pass.old.seat.me.0) }
-        ensures held { pass.new.held ≡ pass.old.held }
+        requires { IsPassOf P.meaning self.now pass.old }
+        ensures hall { IsPassOf P.meaning self.now pass.new }
+        ensures stopped { result ≡ true → view_of pass.new ≡ hearing (view_of pass.old) }
+        ensures quiet { result ≡ false → ((view_of pass.old).knows ≡ false) × ((view_of pass.old).raised ≡ false) × (view_of pass.new ≡ unheard (view_of pass.old)) }
+        ensures held { hands_of pass.new ≡ hands_of pass.old }
     {
         self.ask(&mut pass.seat)
     }

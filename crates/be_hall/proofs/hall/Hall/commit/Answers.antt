@@ -26,7 +26,7 @@ perform-requires g c =
     let small : c.tick-number.result < 4611686018427387904 = t.1.below in
     let s = shows g.P.Parts.machine g.P.Parts.meaning g.P.Parts.log a _ _ it.seat.me.0 it.held.parts it.tied t.1.sees in
     record {
-      fitting = some_fits g.P.Parts.machine g.P.Parts.meaning g.P.Parts.log a _ it.seat.me.0 it.held.parts c.args.self.now.rules c.args.self.now.same_rules s;
+      fitting = some_fits g.P.Parts.machine g.P.Parts.meaning g.P.Parts.log a _ it.seat.me.0 it.held.parts c.args.self.now.book.rules c.args.self.now.same_rules s;
       number = (omega arith, omega arith);
       fits = simp unary_clauses (subst (λ r. HeldFit (g.P.Parts.machine r).fits c.tick-number.result (meant g.P.Parts.meaning it.held.parts)) c.args.self.now.same_rules s.fit);
       seen = c.requires.seen;
@@ -44,7 +44,7 @@ invariant_of-pass g c =
     let held' = c.perform.new.held.parts in
     let a = about_of g.P.Parts.meaning c.args.self.now.table.shared.key in
     let t = c.tick-number.ensures.told a e c.requires.hall.1 refl in
-    let ready = subst (λ k. IsReady (g.P.Parts.machine c.args.self.now.rules) k e) c.requires.seen c.requires.permitted in
+    let ready = subst (λ k. IsReady (g.P.Parts.machine c.args.self.now.book.rules) k e) c.requires.seen c.requires.permitted in
     let m = made g.P.Parts.machine g.P.Parts.meaning g.P.Parts.log a _ it.seat.me.0 c.tick-number.new.seat.me.0 it.held.parts held' e c.tick-number.result it.tied c.requires.hall.1 t.1
     (subst (λ r. IsReady (g.P.Parts.machine r) (meant g.P.Parts.meaning it.held.parts) e) same ready)
     c.perform.ensures.places
@@ -72,7 +72,7 @@ returns-clause-made g c =
     let held' = c.perform.new.held.parts in
     let a = about_of g.P.Parts.meaning c.args.self.now.table.shared.key in
     let t = c.tick-number.ensures.told a e c.requires.hall.1 refl in
-    let ready = subst (λ k. IsReady (g.P.Parts.machine c.args.self.now.rules) k e) c.requires.seen c.requires.permitted in
+    let ready = subst (λ k. IsReady (g.P.Parts.machine c.args.self.now.book.rules) k e) c.requires.seen c.requires.permitted in
     let m = made g.P.Parts.machine g.P.Parts.meaning g.P.Parts.log a _ it.seat.me.0 c.tick-number.new.seat.me.0 it.held.parts held' e c.tick-number.result it.tied c.requires.hall.1 t.1
     (subst (λ r. IsReady (g.P.Parts.machine r) (meant g.P.Parts.meaning it.held.parts) e) same ready)
     c.perform.ensures.places

@@ -24,8 +24,8 @@ new-requires g c =
     (subst (λ r. AllFit (g.P.Parts.machine r).fits 0 a.opening) (sym rules_are) (subst (λ l. AllFit (g.P.Parts.machine c.args.rules).fits 0 l) (sym is) c.requires.fits))
     c.requires.logs)
 
-pub invariant_of-hall : goal.invariant_of-hall
-invariant_of-hall g c =
+pub invariant_of-hall-in-Ok : goal.invariant_of-hall-in-Ok
+invariant_of-hall-in-Ok g c =
     let ok = c.in-Ok.ensures.ok in
     let parts = c.args.parts.items in
     let many = map_long g.P.Parts.meaning parts in
@@ -34,3 +34,8 @@ invariant_of-hall g c =
       same_rules = ap (λ k. k.rules.value) ok.5 ∙ c.of.ensures;
       sized = (ok.1 ∙ (ap length c.in_ok-slots.ensures ∙ (map_long Some parts ∙ count)), ok.0 ∙ (ap length (c.as_slice.ensures.value ∙ c.in_ok-words.ensures) ∙ (zeros_long c.lock_of.result ∙ c.lock_of.ensures)));
     }
+
+pub returns-in-Ok-clause-opened : goal.returns-in-Ok-clause-opened
+returns-in-Ok-clause-opened g c =
+    let meaning = g.P.Parts.meaning in
+    ap (about_of meaning) c.in-Ok.ensures.ok.5 ∙ (λ i. record { rules = c.of.ensures i; opening = map meaning (c.of-2.ensures i).items; limit = c.args.limit })

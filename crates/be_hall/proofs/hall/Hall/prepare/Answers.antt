@@ -11,8 +11,8 @@ prepare-requires g c =
     let a = about_of g.P.Parts.meaning c.args.self.now.table.shared.key in
     let s = shows g.P.Parts.machine g.P.Parts.meaning g.P.Parts.log a _ _ it.seat.me.0 it.held.parts it.tied (c.glance.ensures.sees a c.requires.1).1 in
     record {
-      fitting = some_fits g.P.Parts.machine g.P.Parts.meaning g.P.Parts.log a _ it.seat.me.0 it.held.parts c.args.self.now.rules c.args.self.now.same_rules s;
-      fits = fit_all g.P.Parts.machine g.P.Parts.meaning g.P.Parts.log a _ it.seat.me.0 it.held.parts c.args.self.now.rules c.args.self.now.same_rules (g.met.P.Parts.lawful _) s;
+      fitting = some_fits g.P.Parts.machine g.P.Parts.meaning g.P.Parts.log a _ it.seat.me.0 it.held.parts c.args.self.now.book.rules c.args.self.now.same_rules s;
+      fits = fit_all g.P.Parts.machine g.P.Parts.meaning g.P.Parts.log a _ it.seat.me.0 it.held.parts c.args.self.now.book.rules c.args.self.now.same_rules (g.met.P.Parts.lawful _) s;
     }
 
 pub invariant_of-pass : goal.invariant_of-pass

@@ -20,7 +20,7 @@ exchange-requires g c = let m = c.mark.ensures.marked c.if-not-mark.false in (c.
 pub push-requires : goal.push-requires
 push-requires g c =
     let it = c.args.pass.now in
-    record { room = room_left _ _ _ _ _ _ _ (places_many it.held.parts) (rising_short 0 (places_of it.held.parts) c.args.place c.requires.above) c.requires.place c.args.self.now.sized.0 (λ i. (c.requires.hall.0 i).slots) it.room; above = c.requires.above }
+    record { room = room_left _ _ _ _ _ _ _ (places_many it.held.parts) (rising_short 0 (places_of it.held.parts) c.args.place c.requires.above) c.requires.place (c.args.self.now.sized.0 ∙ c.args.self.now.book.counted) (λ i. (c.requires.hall.0 i).slots) it.room; above = c.requires.above }
 
 abbrev some_or : {A : Type 0} → A → List (ℕ × Option A) → A
 some_or d [] = d
@@ -45,7 +45,7 @@ invariant_of-pass-2 g c =
           ∙ (sym (marks_snoc g.P.Parts.meaning g.P.Parts.log old p y) ∙ ap (marks_of g.P.Parts.meaning g.P.Parts.log) (sym c.push.ensures.parts)));
       out = ap (λ z. z.1) c.exchange.ensures.3 ∙ (ap (λ l. (p, None) ∷ rest l) m.1 ∙ (ap (λ l. (p, None) ∷ l) it.out ∙ (sym (emptied_snoc (places_of old) p) ∙ ap emptied (sym places))));
       rising = ap (rises_from 0) places ∙ c.requires.above;
-      within = ap (all_below c.exchange.new.seat.table_id.slots) places ∙ below_snoc c.exchange.new.seat.table_id.slots (places_of old) p (subst (λ n. all_below n (places_of old) ≡ true) (λ i. (sym table i).slots) it.within) (less_than p _ (subst (λ n. p < n) (sym ((λ i. ((table ∙ c.requires.hall.0) i).slots) ∙ c.args.self.now.sized.0)) c.requires.place));
+      within = ap (all_below c.exchange.new.seat.table_id.slots) places ∙ below_snoc c.exchange.new.seat.table_id.slots (places_of old) p (subst (λ n. all_below n (places_of old) ≡ true) (λ i. (sym table i).slots) it.within) (less_than p _ (subst (λ n. p < n) (sym ((λ i. ((table ∙ c.requires.hall.0) i).slots) ∙ (c.args.self.now.sized.0 ∙ c.args.self.now.book.counted))) c.requires.place));
       room = subst (λ (z : ℕ × ℕ). z.0 ≤ z.1) (λ i. ((sym table i).slots, sym c.push.ensures.room i)) it.room;
       counts = it.counts ∙ ap (λ v. min (gathered v) 18446744073709551615) (sym view);
     }
