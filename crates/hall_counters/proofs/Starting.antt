@@ -32,22 +32,3 @@ all_fit places (x ∷ xs) o = (let h = o.0 in omega arith, all_fit places xs o.3
 pub no_logs : (xs : List Counter) → EachOpens xs → All (λ (x : Counter). x.log.items ≡ []) xs
 no_logs [] o = search rules
 no_logs (x ∷ xs) o = All-cons (λ (y : Counter). y.log.items ≡ []) x xs o.2 (no_logs xs o.3)
-
-both : (a b : Bool) → a ≡ true → b ≡ true → (a && b) ≡ true
-both true b h k = k
-both false b h k = h
-
-pub up_rises : (k n : ℕ) → rises_from k (up_from k n) ≡ true
-up_rises k zero = refl
-up_rises k (suc n) = both (nat_lt k (k + 1)) _ (grind (arith, nat_tests)) (let e : suc k ≡ k + 1 = omega arith in subst (λ (m : ℕ). rises_from m (up_from (suc k) n) ≡ true) e (up_rises (suc k) n))
-
-pub up_below : (places n k m : ℕ) → k + n ≤ places → All (λ p. p < places) (up_from k n)
-up_below places zero k m h = search rules
-up_below places (suc n) k m h = All-cons (λ p. p < places) k (up_from (suc k) n) (omega arith) (up_below places n (suc k) m (omega arith))
-
-up_snoc_from : (k n : ℕ) → up_from k (suc n) ≡ up_from k n ++ (k + n) ∷ []
-up_snoc_from k zero = let e : k ≡ k + 0 = omega arith in ap (λ (m : ℕ). m ∷ []) e
-up_snoc_from k (suc n) = ap (λ (l : List ℕ). k ∷ l) (up_snoc_from (suc k) n ∙ (let e : suc k + n ≡ k + suc n = omega arith in ap (λ (m : ℕ). up_from (suc k) n ++ m ∷ []) e))
-
-pub up_snoc : (n : ℕ) → up_from 0 (n + 1) ≡ up_from 0 n ++ n ∷ []
-up_snoc n = let e : n + 1 ≡ suc n = omega arith in let f : 0 + n ≡ n = omega arith in ap (up_from 0) e ∙ (up_snoc_from 0 n ∙ ap (λ (m : ℕ). up_from 0 n ++ m ∷ []) f)

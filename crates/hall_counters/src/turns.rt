@@ -2,7 +2,7 @@
 ghost use Rattle.std.specs.Prelude.{◌≡◌, ◌≢◌, ◌+◌, ◌*◌, ◌^◌, ◌<◌, ◌≤◌, [], ◌∷◌, true, All, map, length, vec_len, vec_capacity, IfOk};
 ghost use Rattle.be_hall.specs.Numbers.{total};
 ghost use Rattle.be_hall.specs.Hands.{places_of, up_from, rises_from};
-ghost use Rattle.be_hall.specs.Passes.{IsOf};
+ghost use Rattle.be_hall.specs.Words.{IsPassOf, in_hand, rules_of};
 ghost use Rattle.hall_counters.specs.Opening.{Opens};
 
 use crate::counters::{Counter, Counters};
@@ -34,8 +34,8 @@ pub fn start(
     left: u64,
 ) -> Result<(Hall<Counters>, Pass<Counters>), NoMemory>
     requires { (units ≤ 2 ^ 62) × (left ≤ 2 ^ 30) }
-    ensures hall { IfOk result (λ r. IsOf (λ x. x.count) r.0.table.shared.table_id r.0.table.shared.key r.1.seat) }
-    ensures pass { IfOk result (λ r. (r.1.held.parts ≡ []) × (r.0.places ≡ rules.places)) }
+    ensures hall { IfOk result (λ r. IsPassOf (λ x. x.count) r.0 r.1) }
+    ensures pass { IfOk result (λ r. (in_hand r.1 ≡ []) × (rules_of r.0 ≡ rules)) }
 {
     let parts = opening(alloc, rules.places, units, left)?;
     Hall::open(alloc, rules, parts, 1 << 62)
@@ -43,8 +43,8 @@ pub fn start(
 
 /// Makes one transfer with the counters in hand, where that may be.
 pub fn make(hall: &Hall<Counters>, pass: &mut Pass<Counters>, transfer: &Transfer) -> bool
-    requires { IsOf (λ x. x.count) hall.now.table.shared.table_id hall.now.table.shared.key pass.old.seat }
-    ensures { IsOf (λ x. x.count) hall.now.table.shared.table_id hall.now.table.shared.key pass.new.seat }
+    requires { IsPassOf (λ x. x.count) hall.now pass.old }
+    ensures { IsPassOf (λ x. x.count) hall.now pass.new }
 {
     match hall.prepare(pass, transfer) {
         Ok(Verdict::Ready(ready)) => {
@@ -64,9 +64,9 @@ pub struct Turn {
 }
 
 fn work<R: Wait>(rt: &R, hall: &Hall<Counters>, turn: Turn) -> Pass<Counters>
-    requires pass { IsOf (λ x. x.count) hall.now.table.shared.table_id hall.now.table.shared.key turn.pass.seat × (turn.pass.held.parts ≡ []) }
-    requires places { (turn.transfer.source < hall.now.places) × (turn.transfer.target < hall.now.places) × (turn.transfer.source ≢ turn.transfer.target) }
-    ensures { IsOf (λ x. x.count) hall.now.table.shared.table_id hall.now.table.shared.key result.seat × (result.held.parts ≡ []) }
+    requires pass { IsPassOf (λ x. x.count) hall.now turn.pass × (in_hand turn.pass ≡ []) }
+    requires places { (turn.transfer.source < (rules_of hall.now).places) × (turn.transfer.target < (rules_of hall.now).places) × (turn.transfer.source ≢ turn.transfer.target) }
+    ensures { IsPassOf (λ x. x.count) hall.now result × (in_hand result ≡ []) }
 {
     let Turn {
         mut pass,
@@ -89,15 +89,15 @@ pub fn many<R: Threads + Wait + Sync>(
     hall: &Hall<Counters>,
     turns: Vec<Turn>,
 ) -> Result<Vec<Pass<Counters>>, NoMemory>
-    requires { All (λ t. IsOf (λ x. x.count) hall.now.table.shared.table_id hall.now.table.shared.key t.pass.seat × (t.pass.held.parts ≡ []) × (t.transfer.source < hall.now.places) × (t.transfer.target < hall.now.places) × (t.transfer.source ≢ t.transfer.target)) turns.items }
-    ensures { IfOk result (λ v. All (λ p. IsOf (λ x. x.count) hall.now.table.shared.table_id hall.now.table.shared.key p.seat × (p.held.parts ≡ [])) v.items) }
+    requires { All (λ t. IsPassOf (λ x. x.count) hall.now t.pass × (in_hand t.pass ≡ []) × (t.transfer.source < (rules_of hall.now).places) × (t.transfer.target < (rules_of hall.now).places) × (t.transfer.source ≢ t.transfer.target)) turns.items }
+    ensures { IfOk result (λ v. All (λ p. IsPassOf (λ x. x.count) hall.now p × (in_hand p ≡ [])) v.items) }
 {
     Ok(thread::map_vec(
         rt,
         turns,
         &|turn: Turn| -> Pass<Counters>
-            requires { IsOf (λ x. x.count) hall.now.table.shared.table_id hall.now.table.shared.key turn.pass.seat × (turn.pass.held.parts ≡ []) × (turn.transfer.source < hall.now.places) × (turn.transfer.target < hall.now.places) × (turn.transfer.source ≢ turn.transfer.target) }
-            ensures { IsOf (λ x. x.count) hall.entry.now.table.shared.table_id hall.entry.now.table.shared.key result.seat × (result.held.parts ≡ []) }
+            requires { IsPassOf (λ x. x.count) hall.now turn.pass × (in_hand turn.pass ≡ []) × (turn.transfer.source < (rules_of hall.now).places) × (turn.transfer.target < (rules_of hall.now).places) × (turn.transfer.source ≢ turn.transfer.target) }
+            ensures { IsPassOf (λ x. x.count) hall.entry.now result × (in_hand result ≡ []) }
         { work(rt, hall, turn) },
     )?)
 }
@@ -109,16 +109,14 @@ pub fn finish<R: Wait>(
     hall: Hall<Counters>,
     mut pass: Pass<Counters>,
     passes: Vec<Pass<Counters>>,
-    places: u32,
 ) -> Result<Closed<Counters>, NoMemory>
-    requires places { hall.places ≡ places }
-    requires pass { IsOf (λ x. x.count) hall.table.shared.table_id hall.table.shared.key pass.seat × (pass.held.parts ≡ []) }
-    requires passes { All (λ p. IsOf (λ x. x.count) hall.table.shared.table_id hall.table.shared.key p.seat × (p.held.parts ≡ [])) passes.items }
+    requires pass { IsPassOf (λ x. x.count) hall pass × (in_hand pass ≡ []) }
+    requires passes { All (λ p. IsPassOf (λ x. x.count) hall p × (in_hand p ≡ [])) passes.items }
 {
     for other in passes {
         hall.join(&mut pass, other);
     }
-    let all = all_places(alloc, places)?;
+    let all = all_places(alloc, hall.rules().places)?;
     hall.take(rt, &mut pass, all.as_slice());
     match hall.close(pass) {
         Ok(closed) => Ok(closed),
@@ -159,7 +157,7 @@ pub fn run<R: Threads + Wait + Sync>(
         });
     }
     let passes = many(rt, &hall, turns)?;
-    finish(rt, alloc, hall, pass, passes, rules.places)
+    finish(rt, alloc, hall, pass, passes)
 }
 
 /// So many threads of at most four, each with counters of its own or all with one in common. Between the

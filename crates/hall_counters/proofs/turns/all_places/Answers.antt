@@ -1,6 +1,7 @@
 use Rattle.std.proofs.Common.{◌<◌, ◌≤◌, ◌+◌, ◌++◌, ◌∷◌, [], All, length, ◌∙◌, ap, subst, sym, arith}
 use Rattle.be_hall.specs.Hands.{rises_from}
-use Rattle.hall_counters.proofs.Starting.{up_snoc, up_rises, up_below, more_long}
+use Rattle.be_hall.proofs.UpFrom.{up_snoc, up_rises, up_below}
+use Rattle.hall_counters.proofs.Starting.{more_long}
 use Rattle.hall_counters.proofs.turns.all_places.Goals as goal
 
 pub loop-place-preserved : goal.loop-place-preserved
@@ -15,4 +16,4 @@ pub returns-clause-rise : goal.returns-clause-rise
 returns-clause-rise c = ap (rises_from 0) c.loop-place.invariant.0 ∙ up_rises 0 c.loop-place.place
 
 pub returns-clause-there : goal.returns-clause-there
-returns-clause-there c = subst (All (λ p. p < c.args.places)) (sym c.loop-place.invariant.0) (up_below c.args.places c.loop-place.place 0 0 (omega arith))
+returns-clause-there c = subst (All (λ p. p < c.args.places)) (sym c.loop-place.invariant.0) (up_below c.args.places c.loop-place.place 0 (omega arith))

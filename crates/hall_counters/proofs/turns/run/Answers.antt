@@ -1,6 +1,6 @@
 use Rattle.std.proofs.Common.{rules, ◌≡◌, ◌≢◌, ◌<◌, ◌≤◌, ◌+◌, [], All, length, sym, ap, ◌∙◌, subst, slice_index_or}
 use Rattle.std.proofs.lemmas.List.Elements.{All-push, All-get_or}
-use Rattle.be_hall.specs.Passes.{IsOf}
+use Rattle.be_hall.specs.Words.{IsPassOf, in_hand, rules_of}
 use Rattle.hall_counters.specs.declared.transfer.Transfer.{Transfer}
 use Rattle.hall_counters.specs.declared.turns.Turn.{Turn}
 use Rattle.hall_counters.proofs.Starting.{more_long}
@@ -10,8 +10,8 @@ pub loop-i-preserved : goal.loop-i-preserved
 loop-i-preserved g c =
     let i = c.loop-i.invariant in
     let hall = c.in_ok-hall.hall in
-    let places = c.in_ok-hall.ensures.pass.1 in
-    let good = λ (t : Turn). IsOf (λ x. x.count) hall.table.shared.table_id hall.table.shared.key t.pass.seat × (t.pass.held.parts ≡ []) × (t.transfer.source < hall.places) × (t.transfer.target < hall.places) × (t.transfer.source ≢ t.transfer.target) in
+    let places = ap (λ r. r.places) c.in_ok-hall.ensures.pass.1 in
+    let good = λ (t : Turn). IsPassOf (λ x. x.count) hall t.pass × (in_hand t.pass ≡ []) × (t.transfer.source < (rules_of hall).places) × (t.transfer.target < (rules_of hall).places) × (t.transfer.source ≢ t.transfer.target) in
     let told = All-get_or (λ (t : Transfer). (t.source < c.args.rules.places) × (t.target < c.args.rules.places) × (t.source ≢ t.target)) c.args.transfers.now c.loop-i.i record { source = 0; target = 0 } (search rules) c.requires in (
       c.in_ok-part.ensures.hall,
       ap (λ h. h.parts) c.in_ok-part.ensures.same.1 ∙ i.1,
