@@ -63,12 +63,12 @@ fn serves_scripts(rt: HostRuntime) -> Result<(), Fail> {
 
 #[test]
 fn tells_faults(rt: HostRuntime) -> Result<(), Fail> {
-    let two_lines = b"history 15\n1 app:m lock a\n".as_slice();
+    let two_lines = b"history 15\n1 app:m lock a\n2 app:m ".as_slice();
     for (read, put, status, report) in [
         (Some(1), None, Status::ReadFault, b"".as_slice()),
         (None, Some(2), Status::WriteFault, two_lines),
         (Some(0), Some(0), Status::ReadFault, b"".as_slice()),
-        (None, Some(0), Status::WriteFault, b"".as_slice()),
+        (None, Some(0), Status::WriteFault, b"histo".as_slice()),
     ] {
         let (answer, held) = served(rt.alloc(), &["serial", "0"], FIRST_WINDOW, read, put)?;
         assert_eq!(rt; answer, status);

@@ -1,6 +1,7 @@
-ghost use Rattle.std.specs.Prelude.{◌≡◌, ◌<◌, ◌≤◌, ◌+◌, ◌-◌, ◌↔◌, ◌⊎◌, ◌++◌, [], length, vec_len, vec_capacity, Some, IsErr, IfOk, IfErr, OnOk, OnErr, Contains};
-ghost use Rattle.be_outside.specs.Faults.{one_more};
-ghost use Rattle.be_outside.specs.InMemory.{Store};
+ghost use Rattle.std.specs.Prelude.{◌≡◌, ◌<◌, ◌≤◌, ◌+◌, ◌-◌, ◌↔◌, ◌⊎◌, ◌++◌, [], length, take, vec_len, vec_capacity, Some, IsErr, IfOk, IfErr, OnOk, OnErr, Contains};
+ghost use Rattle.be_outside.specs.Faults.{one_more, FaultsRose};
+ghost use Rattle.be_outside.specs.InMemory.{Store, half_within};
+ghost use Rattle.be_outside.specs.Telling.{TakesPrefix};
 
 use crate::calls::Calls;
 use crate::{Failed, Sink};
@@ -15,8 +16,8 @@ pub enum SinkFault {
     NoMemory(Vec<u64>),
 }
 
-/// A sink of bytes in memory, which fails where a test wants it to, and where a piece doesn't fit.
-/// It tells its bytes. A call takes no memory.
+/// A sink of bytes in memory, which fails where a test wants it to, and where a piece doesn't fit. Of
+/// a piece that is to fail it takes the first half. It tells its bytes. A call takes no memory.
 #[derive(Drop)]
 pub struct MemorySink {
     bytes: Vec<u8>,
@@ -55,6 +56,17 @@ impl MemorySink {
         }
     }
 
+    fn append(&mut self, piece: &[u8])
+        requires { length piece.now ≤ self.old.room }
+        ensures { self.new ≡ record self.old {
+          held = self.old.held ++ piece.now;
+          room = self.old.room - length piece.now;
+        } }
+    {
+        self.bytes.extend_from_slice(piece).unwrap();
+        self.room -= piece.len();
+    }
+
     pub fn held(&self) -> &[u8]
         ensures { result.now ≡ self.now.held }
     {
@@ -75,16 +87,26 @@ impl Sink for MemorySink {
           room = self.old.room - length piece.now;
           calls = one_more self.old.calls;
         }) }
-        ensures err { OnErr result (self.new
-            ≡ record self.old { calls = one_more self.old.calls; faults = one_more self.old.faults }) }
+        ensures to_fail { Contains self.old.failing self.old.calls → self.new ≡ record self.old {
+          held = self.old.held ++ take (half_within self.old.room piece.now) piece.now;
+          room = self.old.room - half_within self.old.room piece.now;
+          calls = one_more self.old.calls;
+          faults = one_more self.old.faults;
+        } }
+        ensures full { ¬ Contains self.old.failing self.old.calls → self.old.room < length piece.now → self.new
+            ≡ record self.old { calls = one_more self.old.calls; faults = one_more self.old.faults } }
+        ensures prefix { OnErr result (TakesPrefix (Some self.old.held) (Some self.new.held) piece.now) }
+        ensures failed { OnErr result (FaultsRose self.old.faults self.new.faults) }
         ensures never_falls { self.old.faults ≤ self.new.faults }
     {
-        let is_failing = self.calls.begin();
-        if is_failing || self.room < piece.len() {
+        if self.calls.begin() {
+            self.append(&piece[..(piece.len() / 2).min(self.room)]);
             return Err(self.calls.fail());
         }
-        self.bytes.extend_from_slice(piece).unwrap();
-        self.room -= piece.len();
+        if self.room < piece.len() {
+            return Err(self.calls.fail());
+        }
+        self.append(piece);
         Ok(())
     }
 }

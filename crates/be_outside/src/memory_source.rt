@@ -1,6 +1,6 @@
-ghost use Rattle.std.specs.Prelude.{◌≡◌, ◌≤◌, ◌↔◌, ◌++◌, min, length, take, drop, vec_len, Some, IsErr, IfOk, OnErr, Contains};
+ghost use Rattle.std.specs.Prelude.{◌≡◌, ◌<◌, ◌≤◌, ◌↔◌, ◌++◌, [], min, length, take, drop, vec_len, Some, All, IsErr, IfOk, OnErr, Contains};
 ghost use Rattle.be_outside.specs.Faults.{one_more};
-ghost use Rattle.be_outside.specs.InMemory.{Supply};
+ghost use Rattle.be_outside.specs.InMemory.{Supply, cut_to, listed};
 
 use crate::calls::Calls;
 use crate::{Failed, Source};
@@ -12,6 +12,7 @@ use std::marker::Model;
 pub struct MemorySource {
     bytes: Vec<u8>,
     taken: usize,
+    sizes: Option<Vec<usize>>,
     calls: Calls,
 }
 
@@ -21,22 +22,55 @@ impl Model for MemorySource {
     ghost view = { λ s. record {
       left = drop s.taken s.bytes.items;
       failing = s.calls.failing.items;
+      sizes = listed s.sizes;
       calls = s.calls.made;
       faults = s.calls.faults;
     } };
 
-    ghost invariant = { λ s. s.taken ≤ vec_len s.bytes };
+    ghost invariant = { λ s. (s.taken ≤ vec_len s.bytes) × All (λ size. 0 < size) (listed s.sizes) };
 }
 
 impl MemorySource {
     /// Call k, counted from 0, fails where k is in `failing`.
     pub fn new(bytes: Vec<u8>, failing: Vec<u64>) -> MemorySource
-        ensures { result ≡ record { left = bytes.items; failing = failing.items; calls = 0; faults = 0 } }
+        ensures { result
+            ≡ record { left = bytes.items; failing = failing.items; sizes = []; calls = 0; faults = 0 } }
     {
         MemorySource {
             bytes,
             taken: 0,
+            sizes: None,
             calls: Calls::new(failing),
+        }
+    }
+
+    /// The same, and call k gives at most `sizes[k]` bytes. Calls behind the end of `sizes` give as
+    /// many as fit.
+    pub fn cut(bytes: Vec<u8>, failing: Vec<u64>, sizes: Vec<usize>) -> MemorySource
+        requires { All (λ size. 0 < size) sizes.items }
+        ensures { result
+            ≡ record { left = bytes.items; failing = failing.items; sizes = sizes.items; calls = 0; faults = 0 } }
+    {
+        MemorySource {
+            bytes,
+            taken: 0,
+            sizes: Some(sizes),
+            calls: Calls::new(failing),
+        }
+    }
+
+    // How many bytes of so many the next call gives.
+    fn count_of(&self, many: usize) -> usize
+        ensures count { result ≡ cut_to self.now.sizes self.now.calls many }
+        ensures within { result ≤ many }
+        ensures none { result ≡ 0 → many ≡ 0 }
+    {
+        let Some(sizes) = &self.sizes else {
+            return many;
+        };
+        match sizes.get(self.calls.made as usize) {
+            Some(size) => many.min(*size),
+            None => many,
         }
     }
 }
@@ -48,20 +82,22 @@ impl Source for MemorySource {
 
     fn read(&mut self, buf: &mut [u8]) -> Result<usize, Failed>
         ensures fails { IsErr result ↔ Contains self.old.failing self.old.calls }
-        ensures count { IfOk result (λ n. n ≡ min (length buf.old) (length self.old.left)) }
+        ensures count { IfOk result (λ n. n
+            ≡ cut_to self.old.sizes self.old.calls (min (length buf.old) (length self.old.left))) }
         ensures filled { IfOk result (λ n. buf.new ≡ take n self.old.left ++ drop n buf.old) }
         ensures ok { IfOk result (λ n. self.new
             ≡ record self.old { left = drop n self.old.left; calls = one_more self.old.calls }) }
+        ensures end { IfOk result (λ n. n ≡ 0 → 0 < length buf.old → self.new.left ≡ []) }
         ensures err { OnErr result (self.new
             ≡ record self.old { calls = one_more self.old.calls; faults = one_more self.old.faults }) }
         ensures untouched { OnErr result (buf.new ≡ buf.old) }
         ensures never_falls { self.old.faults ≤ self.new.faults }
     {
+        let count = self.count_of((self.bytes.len() - self.taken).min(buf.len()));
         if self.calls.begin() {
             return Err(self.calls.fail());
         }
         let left = &self.bytes[self.taken..];
-        let count = left.len().min(buf.len());
         buf[..count].copy_from_slice(&left[..count]);
         self.taken += count;
         Ok(count)

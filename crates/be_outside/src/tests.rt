@@ -126,12 +126,31 @@ fn a_source_in_memory_fails_where_it_is_told_to(rt: HostRuntime) -> Result<(), F
 }
 
 #[test]
+fn a_cut_source_gives_pieces(rt: HostRuntime) -> Result<(), Fail> {
+    let failing = [1u64].to_vec(rt.alloc())?;
+    let sizes = [2usize, 9, 1].to_vec(rt.alloc())?;
+    let mut source = MemorySource::cut(b"abcdef".to_vec(rt.alloc())?, failing, sizes);
+    let mut buf = *b"....";
+    for (want, text) in [
+        (Ok(2), b"ab.."),
+        (Err(Failed), b"ab.."),
+        (Ok(1), b"cb.."),
+        (Ok(3), b"def."),
+        (Ok(0), b"def."),
+    ] {
+        assert_eq!(rt; source.read(&mut buf), want);
+        assert_eq!(rt; buf.as_slice(), text.as_slice(), "at {want:?}");
+    }
+    Ok(())
+}
+
+#[test]
 fn a_sink_in_memory_takes_what_fits(rt: HostRuntime) -> Result<(), Fail> {
     let failing = [1u64].to_vec(rt.alloc())?;
     let mut sink = MemorySink::new(rt.alloc(), 8, failing)?;
     for (pieces, want) in [
         ([b"abc".as_slice(), b"de".as_slice()], Err(Failed)),
-        ([b"".as_slice(), b"defgh".as_slice()], Ok(())),
+        ([b"".as_slice(), b"efgh".as_slice()], Ok(())),
         ([b"".as_slice(), b"i".as_slice()], Err(Failed)),
     ] {
         assert_eq!(rt; put_each(&mut sink, &pieces), want, "at {pieces:?}");
