@@ -1,53 +1,46 @@
--- What is kept of a port, against all letters that ever arrived there.
-use Rattle.std.specs.Prelude.{◌≡◌, ℕ, ◌+◌, ◌≤◌, ◌<◌, Bool, true, false, List, length, map, slice_get, IfSome}
-use Rattle.std.specs.List.{range_with_len}
-use Rattle.std.specs.Option.{option_map}
+-- A port that stands for the machine's port answers as it does, and stands for it after each call.
+use Rattle.std.specs.Prelude.{◌≡◌, ℕ, ◌+◌, true, false, length, Some, None, slice_get}
+use Rattle.be_message.specs.Messages.{Message}
 use Rattle.be_port.specs.declared.letter.Letter as held
+use Rattle.be_port.specs.Answers.{accepted, notice_answer}
 use Rattle.be_port.specs.Ports as port
-use Rattle.be_port.specs.Queues.{Queue, empty_queue, answer, holds_notice, with_letter, after_post, after_take, after_close}
-
--- a letter without its number; its body is its bytes
-abbrev pub letter_of : held.Letter → port.Letter (List ℕ)
-letter_of l = record { sender = l.sender; target = l.target; hop = l.hop; duty = l.duty; notice = l.notice; body = l.bytes }
-
--- a letter that is posted, as a notice or not
-abbrev pub letter_as : Bool → held.Letter → port.Letter (List ℕ)
-letter_as notice l = record (letter_of l) { notice = notice }
-
--- the letters that wait are those that arrived and were not taken, and have the numbers of their arrival
-pub record StandsFor (q : Queue) (p : port.Port (List ℕ)) : Type 0 where
-  pub letters : map letter_of q.letters ≡ port.queue_of p
-  pub numbers : map (λ l. l.number) q.letters ≡ range_with_len (p.taken + 1) (length q.letters)
-  pub last : q.last ≡ length p.arrived
-  pub taken : p.taken ≤ length p.arrived
-  pub capacity : q.capacity ≡ p.capacity
-  pub closed : q.closed ≡ p.closed
+use Rattle.be_port.specs.Queues.{Queue, empty_queue, answer, after_post, after_notice, after_take, after_close}
+use Rattle.be_port.specs.StandsFor.{Carries, LetterStandsFor, PortStandsFor}
 
 abbrev pub OpensAsPort : Type 0
-OpensAsPort = (capacity : ℕ) → StandsFor (empty_queue capacity) (port.empty_port capacity)
+OpensAsPort = (capacity : ℕ) → PortStandsFor (empty_queue capacity) (port.empty_port capacity)
 
 -- a post is answered alike
 abbrev pub AnswersAsPort : Type 0
-AnswersAsPort = (q : Queue) (p : port.Port (List ℕ)) → StandsFor q p → (hop : ℕ) → answer q hop ≡ port.judged p hop
+AnswersAsPort = (q : Queue) (p : port.Port Message) → PortStandsFor q p → (hop : ℕ) → answer q hop ≡ port.judged p hop
 
 abbrev pub PostsAsPort : Type 0
 PostsAsPort =
-    (q : Queue) (p : port.Port (List ℕ)) → StandsFor q p → (l : held.Letter) →
-    StandsFor (after_post l q) (port.posted (letter_as false l) p)
+    (q : Queue) (p : port.Port Message) → PortStandsFor q p →
+    (l : held.Letter) (m : port.Letter Message) → Carries l m → m.notice ≡ false →
+    PortStandsFor (after_post l q) (port.posted m p)
 
--- a notice waits in both or in neither, and one more is the last letter in both
+-- a notice is the last letter of an open port in which none waits, and has the next number
 abbrev pub NoticesAsPort : Type 0
 NoticesAsPort =
-    (q : Queue) (p : port.Port (List ℕ)) → StandsFor q p → (l : held.Letter) →
-    (holds_notice q ≡ port.has_notice p) × StandsFor (with_letter true l q) (port.with_letter (letter_as true l) p)
+    (q : Queue) (p : port.Port Message) → PortStandsFor q p →
+    (l : held.Letter) (m : port.Letter Message) → Carries l m → m.notice ≡ true →
+    p.closed ≡ false → port.has_notice p ≡ false →
+    (notice_answer q ≡ accepted (length p.arrived + 1)) × PortStandsFor (after_notice l q) (port.with_letter m p)
 
--- the letter that is taken is the one that arrived first, and its number tells its arrival
+-- the letter that is taken is the machine's, and its number tells its arrival
 abbrev pub TakesAsPort : Type 0
 TakesAsPort =
-    (q : Queue) (p : port.Port (List ℕ)) → StandsFor q p →
-    (option_map letter_of (slice_get q.letters 0) ≡ port.front p)
-    × IfSome (slice_get q.letters 0) (λ l. l.number ≡ p.taken + 1)
-    × (0 < length q.letters → StandsFor (after_take q) (port.without_front p))
+    (q : Queue) (p : port.Port Message) → PortStandsFor q p → (l : held.Letter) → slice_get q.letters 0 ≡ Some l →
+    (m : port.Letter Message) × (port.front p ≡ Some m) × LetterStandsFor l m × (l.number ≡ p.taken + 1)
+    × PortStandsFor (after_take q) (port.without_front p)
+
+-- where no letter is taken none waits
+abbrev pub EmptyAsPort : Type 0
+EmptyAsPort =
+    (q : Queue) (p : port.Port Message) → PortStandsFor q p → slice_get q.letters 0 ≡ None →
+    (port.front p ≡ None) × (length (port.queue_of p) ≡ 0)
 
 abbrev pub ClosesAsPort : Type 0
-ClosesAsPort = (q : Queue) (p : port.Port (List ℕ)) → StandsFor q p → StandsFor (after_close q) (port.closed_port p)
+ClosesAsPort =
+    (q : Queue) (p : port.Port Message) → PortStandsFor q p → PortStandsFor (after_close q) (port.closed_port p)

@@ -140,6 +140,13 @@ impl Port {
         self.capacity
     }
 
+    /// The number of the last letter that arrived; 0 before the first.
+    pub fn last_number(&self) -> u64
+        ensures { result ≡ self.now.last }
+    {
+        self.last
+    }
+
     /// The number that the next accepted letter gets.
     pub fn next_number(&self) -> u64
         requires { self.now.last < 2 ^ 64 - 1 }

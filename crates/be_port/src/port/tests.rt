@@ -52,7 +52,7 @@ fn post(
     port: &mut Port,
     hop: u8,
 ) -> Result<Posted, AllocError> {
-    assert!(rt; port.last < u64::MAX);
+    assert!(rt; port.last_number() < u64::MAX);
     let judged = port.judge(hop);
     let answer = match port.post(letter(rt.alloc(), hop)?) {
         Ok(number) => Posted::Accepted(number),
@@ -74,7 +74,7 @@ fn post(
 }
 
 fn notice(rt: &(impl Abort + Alloc<A = Global>), port: &mut Port) -> Result<Noticed, AllocError> {
-    assert!(rt; port.last < u64::MAX);
+    assert!(rt; port.last_number() < u64::MAX);
     Ok(match port.notice(letter(rt.alloc(), 1)?) {
         Ok(number) => Noticed::Accepted(number),
         Err(NoticeFault::BadPort(back)) => {

@@ -1,5 +1,5 @@
 -- Each law is a lemma.
-use Rattle.be_port.proofs.LawLemmas.{answers, posts, notices, takes}
+use Rattle.be_port.proofs.LawLemmas.{answers, posts, notices, takes, empty}
 use Rattle.be_port.proofs.law.queues_are_ports.Goals as goal
 
 pub returns-clause-answers : goal.returns-clause-answers
@@ -13,3 +13,6 @@ returns-clause-notices c = notices
 
 pub returns-clause-takes : goal.returns-clause-takes
 returns-clause-takes c = takes
+
+pub returns-clause-empty : goal.returns-clause-empty
+returns-clause-empty c = empty
