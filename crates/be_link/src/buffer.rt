@@ -68,6 +68,13 @@ impl Buffer {
         self.ring.len() as u32
     }
 
+    /// The number of the last command that was made; 0 before the first.
+    pub fn last_number(&self) -> u64
+        ensures { result ≡ self.now.made }
+    {
+        self.made
+    }
+
     /// The number that the next command gets.
     pub fn next_number(&self) -> u64
         requires { self.now.made < 2 ^ 64 - 1 }

@@ -23,16 +23,16 @@ enum Step {
 
 fn put_many(rt: &impl Abort, buffer: &mut Buffer, many: u16, last: u64) {
     for _ in 0..many {
-        assert!(rt; buffer.made < u64::MAX);
+        assert!(rt; buffer.last_number() < u64::MAX);
         let number = buffer.next_number();
         let given = buffer.put(Command::Push((number % 65_536) as u16)).ok();
         assert_eq!(rt; given, Some(number));
     }
-    assert_eq!(rt; buffer.made, last);
+    assert_eq!(rt; buffer.last_number(), last);
 }
 
 fn put_none(rt: &impl Abort, buffer: &mut Buffer) {
-    assert!(rt; buffer.made < u64::MAX);
+    assert!(rt; buffer.last_number() < u64::MAX);
     let handed_back = match buffer.put(Command::Pop(77)) {
         Err(
             BufferFull {
