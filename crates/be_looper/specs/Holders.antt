@@ -3,7 +3,6 @@ use Rattle.std.specs.Prelude.{Option, Some, None}
 use Rattle.be_looper.specs.Loopers as loopers
 use Rattle.be_looper.specs.declared.Owner.{Owner}
 use Rattle.be_looper.specs.declared.Owner.TheVariants.{Free, Own, App}
-use Rattle.be_looper.specs.declared.holder.Handled.{Handled}
 use Rattle.be_looper.specs.declared.holder.Holder.{Holder}
 use Rattle.be_looper.specs.declared.holder.Holder.TheVariants as holders
 
