@@ -23,53 +23,37 @@ use Rattle.be_machine.specs.Happenings.{Answering, answering_of, answerings}
 use Rattle.be_machine.specs.Legal.{wish_act, want_act}
 use Rattle.be_machine.specs.Looper.{with_looper, lock_act, locked_for, freed, sent, sent_duty, with_waiting, told, with_duty, with_duty_by, with_cell, replied_by, reply_act, answer_of, forwarded, forwarded_hand, end_act, end_of, ended_hand, told_at_end, word_alone, claim_act, reply_for, cell_of, kind_of_reply}
 use Rattle.be_machine.specs.Looper as looper_spec
-use Rattle.be_machine.specs.Orderly.{Balance, no_balance, one_if, same_kind, balanced_with, balance_from, AreCovered, EndsInStop, balance_of}
+use Rattle.be_machine.specs.Orderly.{Balance, no_balance, one_if, same_kind, balanced_with, balance_from, AreCovered}
 use Rattle.be_machine.specs.Port.{letter, with_post, is_accepted_at, take_act}
 use Rattle.be_machine.specs.Program.{hop_of, hand_at, hand_in, locked_by, moved_on}
 use Rattle.be_machine.specs.State.{State, App, Looper, free, locked, handling, Stage}
 use Rattle.be_machine.specs.Step.{granted, is_accepted_wish, met}
-use Rattle.be_machine.specs.Closing.{all_done}
 use Rattle.be_machine.specs.declared.Entry.{Entry}
 use Rattle.be_machine.specs.History.{AreLegalFrom, state_from}
 use Rattle.be_machine.specs.Legal.{IsLegal}
-use Rattle.be_machine.specs.Program.{has_ended}
 use Rattle.be_machine.specs.Step.{step}
 use Rattle.be_machine.specs.Wants.{Want, asks, takes, begins, flushes, draws_end, ends, notifies, executes, uses, stops, want_of}
 use Rattle.std.specs.Prelude.{flat_map}
 use Rattle.be_machine.proofs.Found.{IsMapped, mapped, IsChained, chained, IsJoined, joined}
 use Rattle.be_machine.proofs.ProgressStands.{AppStands, app_stands, LooperStands, looper_stands}
-use Rattle.be_machine.proofs.Waiting.{total, IsWaiting, is_busy, claims_at}
+use Rattle.be_machine.proofs.Waiting.{total, IsWaiting, is_busy}
 use Rattle.be_machine.proofs.WaitingApps.{before_claims}
-use Rattle.std.proofs.Common.{◌≤◌, arith}
-use Rattle.be_actor.specs.declared.Instruction.{Instruction}
+use Rattle.std.proofs.Common.{arith}
 use Rattle.be_message.specs.Words.{no_reply_word, not_understood_word}
 use Rattle.be_handler.specs.declared.Route.{Route}
 use Rattle.be_handler.specs.declared.Route.TheVariants.{Skipped, Handler, Unknown}
 use Rattle.be_machine.proofs.Balances.{in_cell, of_app, IsBalanced, Answers, none_answered, one_given, one_claimed, moved_cells, cell_at_one}
 use Rattle.be_machine.proofs.LegalEntries.{IsMet, met_by, maker, maker_is}
 use Rattle.be_machine.proofs.WaitingTells.{WaitsForReply, hand_waits}
-use Rattle.be_machine.proofs.Lists.{both_first}
-use Rattle.std.specs.Prelude.{zero, suc, flat_map, replicate, nat_le}
-use Rattle.std.proofs.lemmas.Option.{slice_get_past, slice_get_within, slice_get-get_or}
-use Rattle.std.proofs.lemmas.List.FromFn.{get_or-range_with_len, length-range_with_len}
-use Rattle.std.proofs.lemmas.Bool.Decides.{nat_tests}
-use Rattle.std.proofs.Common.{◌<◌}
-use Rattle.be_actor.specs.declared.Place.{Place}
-use Rattle.be_machine.proofs.Lists.{all_get}
-use Rattle.std.specs.List.{list_all, range_with_len}
-use Rattle.be_actor.specs.Wishes.{is_at_end}
+use Rattle.std.specs.Prelude.{zero, suc, flat_map, replicate}
 use Rattle.be_machine.specs.History.{IsLegalHistory, state_after}
 use Rattle.be_machine.specs.Program.{app_program}
 use Rattle.be_machine.specs.State.{opening_state, opening_app}
 use Rattle.be_machine.proofs.BalanceSteps.{Balanced, by_act, other_apps, silent, quiet_post, quiet_flush, quiet_sync, quiet_draw, quiet_lock, quiet_take, quiet_begin, quiet_notify, quiet_exec, quiet_event, quiet_stop, quiet_own, found_apps, tested_apps, flushed_apps, executed_apps, begun_apps, event_apps, taken_apps, same_total, body_reply}
 use Rattle.be_machine.proofs.BodyWishes.{is_body_wish, is_app_wish, body_asks, app_asks}
-use Rattle.be_machine.proofs.OrderlyHistory.{Ends}
-use Rattle.be_machine.proofs.OrderlyHistory as ended
-use Rattle.be_machine.proofs.Waiting.{claims}
 use Rattle.be_machine.proofs.WaitingAfter.{waiting_after}
 use Rattle.be_machine.proofs.WaitingApps.{is_claim}
 use Rattle.be_machine.proofs.WaitingSteps.{waiting_step}
-use Rattle.be_machine.proofs.WaitingSums.{total_none}
 
 -- ---- cells
 

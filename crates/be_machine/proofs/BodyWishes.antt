@@ -16,7 +16,7 @@ use Rattle.be_script.specs.Programs.{is_body_step, is_draw_step, is_app_step, is
 use Rattle.be_script.specs.Script.{Declared}
 use Rattle.be_machine.specs.Activities.{Runner, app, looper, runner}
 use Rattle.be_machine.specs.Program.{app_program, app_wish, body_wish, letter_program, update_program, buffered}
-use Rattle.be_machine.specs.State.{State, App, Looper, free, locked, handling, Stage, in_body, beginning, in_update, at_close}
+use Rattle.be_machine.specs.State.{State, App, Looper, free, locked, handling, Stage, in_body, beginning, in_update, ending}
 use Rattle.be_machine.specs.Wants.{Want, asks, flushes, draws_end, ends, asks_or, end_want, draw_end_want, stage_want, looper_want, want_of}
 use Rattle.be_machine.proofs.Found.{IsMapped, mapped, IsChained, chained}
 use Rattle.be_machine.proofs.Lists.{both, both_first, both_second, all_get}
@@ -102,7 +102,7 @@ stage_asks d s w hand (in_update views place) wish limits e =
     program_wish (is_draw_step d w) (update_program d w views) place (Some hand.letter.body) (buffered s (looper w)) wish (draw_step_wish d w place.part (buffered s (looper w)) (Some hand.letter.body))
     (update_steps d w views limits)
     (asked (looper w) (body_wish s w hand (update_program d w views) place) (draw_end_want s w) wish (draw_end_asks s w (has_no_room (buffered s (looper w)))) e)
-stage_asks d s w hand at_close wish limits e = absurd (end_asks s w (buffered s (looper w) == 0) (looper w) wish e)
+stage_asks d s w hand ending wish limits e = absurd (end_asks s w (buffered s (looper w) == 0) (looper w) wish e)
 
 looper_asks : (d : Declared) (s : State) (w : ℕ) (l : Looper) (wish : Wish) → IsWithinLimits d → looper_want d s w l ≡ asks (looper w) wish → is_body_wish wish ≡ true
 looper_asks d s w (handling hand g) wish limits e = stage_asks d s w hand g wish limits e

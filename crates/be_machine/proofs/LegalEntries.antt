@@ -12,7 +12,7 @@ use Rattle.be_machine.specs.Activities.{Runner, app, looper, Activity, runner, t
 use Rattle.be_machine.specs.declared.Entry.{Entry}
 use Rattle.be_machine.specs.Legal.{want_act, legal_act, IsLegal}
 use Rattle.be_machine.specs.Program.{app_wish, body_wish, letter_program, update_program, buffered}
-use Rattle.be_machine.specs.State.{State, Looper, free, locked, handling, Stage, in_body, beginning, in_update, at_close}
+use Rattle.be_machine.specs.State.{State, Looper, free, locked, handling, Stage, in_body, beginning, in_update, ending}
 use Rattle.be_machine.specs.Step.{met, step}
 use Rattle.be_machine.specs.Update.{owes_notice}
 use Rattle.be_machine.specs.Wants.{Want, asks, takes, begins, flushes, draws_end, ends, notifies, executes, uses, stops, asks_or, end_want, draw_end_want, stage_want, looper_want, twin_want, want_of}
@@ -71,7 +71,7 @@ maker_stage : (d : Declared) (s : State) (w : ℕ) (hand : Hand Message) (g : St
 maker_stage d s w hand (in_body place) = maker_asks (looper w) (body_wish s w hand (letter_program d w hand) place) (end_want s w) (maker_end s w)
 maker_stage d s w hand beginning = refl
 maker_stage d s w hand (in_update views place) = maker_asks (looper w) (body_wish s w hand (update_program d w views) place) (draw_end_want s w) (maker_draw_end s w)
-maker_stage d s w hand at_close = maker_end s w
+maker_stage d s w hand ending = maker_end s w
 
 maker_looper : (d : Declared) (s : State) (w : ℕ) (l : Looper) → maker (looper_want d s w l) ≡ runner (looper w)
 maker_looper d s w (handling hand g) = maker_stage d s w hand g

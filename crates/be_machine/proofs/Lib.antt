@@ -4,6 +4,7 @@ pub mod Programs
 pub mod Found
 pub mod BodyWishes
 pub mod HasParts
+pub mod Sizes
 pub mod Opening
 pub mod Resting
 pub mod Tallied
@@ -94,6 +95,7 @@ pub mod WorkInput
 pub mod WorkOpening
 pub mod WorkFalls
 pub mod WorkHistory
+pub mod Histories
 pub mod ProgressCases
 pub mod ProgressReady
 pub mod ProgressSchedule

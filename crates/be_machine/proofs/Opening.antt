@@ -1,5 +1,5 @@
 -- The opening state has all parts, and the tally of each window in it is the first one.
-use Rattle.std.proofs.Common.{◌≡◌, ℕ, zero, suc, List, [], length, map, Some, refl, sym, subst, ◌∙◌, arith}
+use Rattle.std.proofs.Common.{◌≡◌, ℕ, zero, suc, List, [], length, map, ◌*◌, Some, refl, sym, subst, ◌∙◌, arith}
 use Rattle.std.specs.Prelude.{slice_get, replicate}
 use Rattle.std.specs.List.{enumerate_from}
 use Rattle.std.proofs.lemmas.List.{length-map, length-replicate}
@@ -38,6 +38,11 @@ parts_opening d = record {
   links = length-replicate (length d.windows) _;
   panes = length-map (enumerate_from 0 d.windows) _ ∙ length-enumerate_from 0 d.windows;
   apps = length-replicate (length d.apps) _;
+  windows = length-map d.windows _;
+  trees = length-map (enumerate_from 0 d.windows) _ ∙ length-enumerate_from 0 d.windows;
+  width = refl;
+  height = refl;
+  screen = length-replicate (d.width * d.height) _;
 }
 
 pub tallied_opening : (d : Declared) (w : ℕ) → IsTallied (opening_state d) w first_tally

@@ -22,7 +22,7 @@ use Rattle.be_machine.specs.Looper.{with_looper, freed, end_act, end_of, ended_h
 use Rattle.be_machine.specs.Orderly.{Tally, tally_from}
 use Rattle.be_machine.specs.Port.{notify_act, notified, take_act, with_letter_in_hand, taken}
 use Rattle.be_machine.specs.Program.{hand_at, hand_in}
-use Rattle.be_machine.specs.State.{State, Looper, free, locked, handling, Stage, at_close}
+use Rattle.be_machine.specs.State.{State, Looper, free, locked, handling, Stage, ending}
 use Rattle.be_machine.specs.Step.{met}
 use Rattle.be_machine.specs.Update.{at_stage, begin_act, begun, opened, passed_by}
 use Rattle.be_machine.proofs.Found.{IsMapped, mapped, IsChained, chained, IsJoined, joined, IsTested, tested}
@@ -82,7 +82,7 @@ opened_tallied s v w t None h = h
 
 passed_tallied : (s : State) (v w : ℕ) (t : Tally) → IsTallied s w t → IsTallied (passed_by s v) w t
 passed_tallied s v w t h =
-    let is : IsTallied (with_looper s v (at_stage at_close)) w t = looper_kept s v w t (at_stage at_close) (stage_shown at_close t) h in
+    let is : IsTallied (with_looper s v (at_stage ending)) w t = looper_kept s v w t (at_stage ending) (stage_shown ending t) h in
     record { port = h.port; looper = is.looper; buffer = h.buffer; link = h.link }
 
 begun_tallied : (s : State) (v w : ℕ) (t : Tally) → IsTallied s w t → IsTallied (begun s v) w t
@@ -96,9 +96,9 @@ begin_done s v w t a e h =
     let is : IsTested (length at.from == 0) (act.Begin (is_any (dirty_of s v))) a = tested (length at.from == 0) (act.Begin (is_any (dirty_of s v))) a at.is in
     with_act (begun s v) w t (runner (looper v)) (act.Begin (is_any (dirty_of s v))) a is.is (nothing_happens _ w t (begun_tallied s v w t h))
 
-draw_end_done : (s : State) (v w : ℕ) (t : Tally) (a : Act) → draw_act s v ≡ Some a → IsTallied s w t → Goes (with_looper (drawn s v EndUpdate) v (at_stage at_close)) w t (runner (looper v)) a
+draw_end_done : (s : State) (v w : ℕ) (t : Tally) (a : Act) → draw_act s v ≡ Some a → IsTallied s w t → Goes (with_looper (drawn s v EndUpdate) v (at_stage ending)) w t (runner (looper v)) a
 draw_end_done s v w t a e h =
-    other_state (drawn s v EndUpdate) (with_looper (drawn s v EndUpdate) v (at_stage at_close)) w t _ (λ u k. looper_kept (drawn s v EndUpdate) v w u (at_stage at_close) (stage_shown at_close u) k)
+    other_state (drawn s v EndUpdate) (with_looper (drawn s v EndUpdate) v (at_stage ending)) w t _ (λ u k. looper_kept (drawn s v EndUpdate) v w u (at_stage ending) (stage_shown ending u) k)
     (draw_done s (runner (looper v)) v w t EndUpdate a e h)
 
 -- ---- the end of a message

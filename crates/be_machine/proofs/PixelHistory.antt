@@ -14,9 +14,6 @@ use Rattle.be_stack.specs.declared.fault.ChangeFault.{ChangeFault}
 use Rattle.be_machine.specs.Activities.{looper}
 use Rattle.be_machine.specs.Commands.{with_effect, done_at_view, without_front, executed_command, executed}
 use Rattle.be_machine.specs.Lists.{at}
-use Rattle.be_machine.specs.Looper.{ended_hand}
-use Rattle.be_machine.specs.Port.{with_letter_in_hand}
-use Rattle.be_machine.specs.Program.{hand_at}
 use Rattle.be_machine.specs.State.{State}
 use Rattle.be_machine.specs.Step.{met}
 use Rattle.be_machine.specs.Update.{begun, opened}
@@ -37,7 +34,7 @@ use Rattle.be_span.specs.Cells.{Lookup}
 use Rattle.be_update.specs.Sessions.{is_any}
 use Rattle.std.proofs.Common.{Result, Ok, Err}
 use Rattle.std.specs.Prelude.{ℤ, option_map, option_and_then}
-use Rattle.be_desk.specs.Changes.{changed_cell}
+use Rattle.be_desk.specs.Changes.{changed_cell, still, motion_of}
 use Rattle.be_span.specs.Cells.{desktop_cell}
 use Rattle.be_span.specs.declared.Cell.{Cell}
 use Rattle.be_span.specs.Screen.{each_cell}
@@ -54,9 +51,7 @@ use Rattle.be_command.specs.Effects.{Deed}
 use Rattle.std.proofs.Common.{inl, inr}
 use Rattle.be_command.specs.Limits.{is_drawing, is_drawing_effect, is_drawing_deed}
 use Rattle.be_machine.specs.Activities.{Activity, runner, twin, activity_of}
-use Rattle.be_looper.specs.Duties.{end_telling}
 use Rattle.be_machine.specs.Update.{passed_by}
-use Rattle.be_machine.specs.Step.{is_accepted_wish}
 use Rattle.be_machine.specs.declared.Entry.{Entry}
 use Rattle.be_machine.specs.History.{AreLegalFrom, IsLegalHistory, state_from, state_after}
 use Rattle.be_machine.specs.Legal.{IsLegal}
@@ -67,18 +62,19 @@ use Rattle.be_machine.specs.Wants.{want_of}
 use Rattle.be_machine.proofs.LegalEntries.{IsMet, met_by, maker, maker_is}
 use Rattle.be_machine.proofs.Opening.{repeated}
 use Rattle.be_machine.proofs.PixelRules.{executed_mark}
-use Rattle.be_machine.proofs.PixelSteps.{Leaves, IsShown, IsDesktopAt, shown, shown_leaves, found_shown, granted_shown, moved_shown, flushed_shown, ended_shown, own_leaves, once_desktop, rule_pixel, DeskKeepsWidth, desk_width}
+use Rattle.be_machine.proofs.Sizes.{KeepsCounts, desk_sizes}
+use Rattle.be_machine.proofs.PixelSteps.{Leaves, IsShown, IsDesktopAt, shown, shown_leaves, quiet_shown, own_leaves, once_desktop, rule_pixel}
 
 -- ---- commands
 
 refused_leaves : (s : State) (P : ℕ → Type 0) → Leaves s s P
 refused_leaves s P = shown_leaves s s P (shown s)
 
-change_leaves : (s : State) (w : ℕ) (change : Change) (r : Result Desk ChangeFault) (P : ℕ → Type 0) → DeskKeepsWidth s.desk r → ((new : Desk) (u : ℕ) (old : Lookup) (x y : ℤ) (c : Cell) → (P u → ⊥) → owner_at s.desk.windows x y ≡ Some u → owner_at new.windows x y ≡ Some u → changed_cell s.desk new (view_colors s) w change old x y c ≡ c) → Leaves s (changed_to s w change r) P
-change_leaves s w change (Err f) P width stays = refused_leaves s P
-change_leaves s w change (Ok new) P width stays =
+change_leaves : (s : State) (w : ℕ) (change : Change) (r : Result Desk ChangeFault) (P : ℕ → Type 0) → KeepsCounts s.desk r → ((new : Desk) (u : ℕ) (old : Lookup) (x y : ℤ) (c : Cell) → (P u → ⊥) → owner_at s.desk.windows x y ≡ Some u → owner_at new.windows x y ≡ Some u → changed_cell s.desk new (view_colors s) w change old x y c ≡ c) → Leaves s (changed_to s w change r) P
+change_leaves s w change (Err f) P sizes stays = refused_leaves s P
+change_leaves s w change (Ok new) P sizes stays =
     let rule : Lookup → ℤ → ℤ → Cell → Cell = changed_cell s.desk new (view_colors s) w change in
-    let at : (x y : ℤ) → cell_at new.windows.width (each_cell (width_of s) rule s.screen) x y ≡ cell_at (width_of s) (each_cell (width_of s) rule s.screen) x y = λ x y. ap (λ n. cell_at n (each_cell (width_of s) rule s.screen) x y) width in
+    let at : (x y : ℤ) → cell_at new.windows.width (each_cell (width_of s) rule s.screen) x y ≡ cell_at (width_of s) (each_cell (width_of s) rule s.screen) x y = λ x y. ap (λ n. cell_at n (each_cell (width_of s) rule s.screen) x y) sizes.sizes.width in
     record {
       kept = λ u x y other was now. at x y ∙ stays_by (width_of s) rule s.screen x y (λ old c. stays new u old x y c other was now);
       desktop = λ x y h none.
@@ -89,11 +85,12 @@ change_leaves s w change (Ok new) P width stays =
 
 pub own_change_leaves : (s : State) (w : ℕ) (change : Change) → Leaves s (changed s w change) (λ u. w ≡ u)
 unfolding changed
-own_change_leaves s w change = change_leaves s w change (desk_after s.desk w change) (λ u. w ≡ u) (desk_width s.desk w change) (λ new u old x y c other was now. changed_stays s.desk new (view_colors s) w u change old x y c (λ e. other (sym e)) was now)
+own_change_leaves s w change = change_leaves s w change (desk_after s.desk w change) (λ u. w ≡ u) (desk_sizes s.desk w change) (λ new u old x y c other was now. changed_stays s.desk new (view_colors s) w u change old x y c (λ e. other (sym e)) was now)
 
-pub activate_leaves : (s : State) (w : ℕ) (P : ℕ → Type 0) → Leaves s (changed s w Activate) P
+-- one that neither moves nor resizes
+pub still_leaves : (s : State) (w : ℕ) (change : Change) (P : ℕ → Type 0) → motion_of change ≡ still → Leaves s (changed s w change) P
 unfolding changed
-activate_leaves s w P = change_leaves s w Activate (desk_after s.desk w Activate) P (desk_width s.desk w Activate) (λ new u old x y c other was now. still_stays s.desk new (view_colors s) w u Activate old x y c refl was now)
+still_leaves s w change P is_still = change_leaves s w change (desk_after s.desk w change) P (desk_sizes s.desk w change) (λ new u old x y c other was now. still_stays s.desk new (view_colors s) w u change old x y c is_still was now)
 
 found_leaves : {X : Type 0} (s : State) (f : X → State) (o : Option X) (P : ℕ → Type 0) → ((x : X) → Leaves s (f x) P) → Leaves s (option_map_or f o s) P
 found_leaves s f (Some x) P each = each x
@@ -104,7 +101,7 @@ effect_leaves pictures s w (at_view v deed) =
     found_leaves s (done_at_view pictures s w v deed) (slice_get s.panes w) (λ u. w ≡ u) (λ pane.
     own_leaves s (done_at_view pictures s w v deed pane) w (executed_cell pictures (owned s w) pane.colors deed (sight_at s w v pane)) refl refl (λ old x y c unowned. executed_stays pictures (owned s w) pane.colors deed (sight_at s w v pane) old x y c unowned))
 effect_leaves pictures s w (changes change) = own_change_leaves s w change
-effect_leaves pictures s w ends_update = shown_leaves s _ (λ u. w ≡ u) (record { windows = refl; screen = refl })
+effect_leaves pictures s w ends_update = shown_leaves s _ (λ u. w ≡ u) (record { windows = refl; trees = refl; screen = refl })
 
 -- what comes after a state that shows the same
 after_shown : (s r t : State) (P : ℕ → Type 0) → IsShown s r → Leaves r t P → Leaves s t P
@@ -120,7 +117,7 @@ exec_leaves : (d : Declared) (s : State) (w : ℕ) → Leaves s (executed d s w)
 unfolding executed
 exec_leaves d s w =
     found_leaves s (executed_command d s w) (option_and_then (λ link. slice_get link 0) (slice_get s.links w)) (λ u. w ≡ u) (λ c.
-    after_shown s (without_front s w) (executed_command d s w c) (λ u. w ≡ u) (record { windows = refl; screen = refl }) (effect_leaves d.pictures (without_front s w) w (effect_of c.command)))
+    after_shown s (without_front s w) (executed_command d s w c) (λ u. w ≡ u) (record { windows = refl; trees = refl; screen = refl }) (effect_leaves d.pictures (without_front s w) w (effect_of c.command)))
 
 -- ---- updates and input
 
@@ -133,21 +130,21 @@ unfolding begun
 begin_leaves s w =
     begun_by s w (is_any (dirty_of s w)) _ _
     (found_leaves s (opened s w) (corner_at s w) (λ u. w ≡ u) (λ corner. own_leaves s (opened s w corner) w (cleaned_cell (owned s w)) refl refl (λ old x y c unowned. cleaned_stays (owned s w) old x y c unowned)))
-    (shown_leaves s (passed_by s w) (λ u. w ≡ u) (record { windows = refl; screen = refl }))
+    (shown_leaves s (passed_by s w) (λ u. w ≡ u) (record { windows = refl; trees = refl; screen = refl }))
 
 activated_leaves : (s : State) (o : Option ℕ) (P : ℕ → Type 0) → Leaves s (activated s o) P
-activated_leaves s (Some w) P = activate_leaves s w P
+activated_leaves s (Some w) P = still_leaves s w Activate P refl
 activated_leaves s None P = refused_leaves s P
 
 delivery_leaves : (s : State) (x : Delivery) (P : ℕ → Type 0) → Leaves s (with_delivery s x) P
-delivery_leaves s x P = after_shown s _ (with_delivery s x) P (record { windows = refl; screen = refl }) (activated_leaves _ x.activate P)
+delivery_leaves s x P = after_shown s _ (with_delivery s x) P (record { windows = refl; trees = refl; screen = refl }) (activated_leaves _ x.activate P)
 
 event_leaves : (s : State) (x : InputLine) (P : ℕ → Type 0) → Leaves s (with_event s x) P
 event_leaves s (line.Press p) P = delivery_leaves s (delivery_of s (event.Press p)) P
 event_leaves s (line.Release p) P = delivery_leaves s (delivery_of s (event.Release p)) P
 event_leaves s (line.Move p) P = delivery_leaves s (delivery_of s (event.Move p)) P
 event_leaves s (line.Key key) P = delivery_leaves s (delivery_of s (event.Key key)) P
-event_leaves s (line.After m) P = shown_leaves s (with_event s (line.After m)) P (record { windows = refl; screen = refl })
+event_leaves s (line.After m) P = shown_leaves s (with_event s (line.After m)) P (record { windows = refl; trees = refl; screen = refl })
 
 -- ---- all wants
 
@@ -166,16 +163,16 @@ ServedBy stops u = ⊥
 
 want_leaves : (d : Declared) (s : State) (want : Want) → Leaves s (met d s want) (ServedBy want)
 unfolding met
-want_leaves d s (asks who x) = shown_leaves s _ (ServedBy (asks who x)) (moved_shown d who (is_accepted_wish s who x) x s _ (granted_shown s who x))
-want_leaves d s (takes w) = shown_leaves s _ (ServedBy (takes w)) (found_shown s (with_letter_in_hand d s w) _ (λ x. record { windows = refl; screen = refl }))
+want_leaves d s (asks who x) = shown_leaves s _ (ServedBy (asks who x)) (quiet_shown d s (asks who x) refl)
+want_leaves d s (takes w) = shown_leaves s _ (ServedBy (takes w)) (quiet_shown d s (takes w) refl)
 want_leaves d s (begins w) = begin_leaves s w
-want_leaves d s (flushes w) = shown_leaves s _ (ServedBy (flushes w)) (flushed_shown s w)
-want_leaves d s (draws_end w) = shown_leaves s _ (ServedBy (draws_end w)) (record { windows = refl; screen = refl })
-want_leaves d s (ends w) = shown_leaves s _ (ServedBy (ends w)) (found_shown s (ended_hand s w) (hand_at s w) (λ hand. ended_shown s w hand (end_telling hand.duty hand.route)))
-want_leaves d s (notifies w) = shown_leaves s _ (ServedBy (notifies w)) (record { windows = refl; screen = refl })
+want_leaves d s (flushes w) = shown_leaves s _ (ServedBy (flushes w)) (quiet_shown d s (flushes w) refl)
+want_leaves d s (draws_end w) = shown_leaves s _ (ServedBy (draws_end w)) (quiet_shown d s (draws_end w) refl)
+want_leaves d s (ends w) = shown_leaves s _ (ServedBy (ends w)) (quiet_shown d s (ends w) refl)
+want_leaves d s (notifies w) = shown_leaves s _ (ServedBy (notifies w)) (quiet_shown d s (notifies w) refl)
 want_leaves d s (executes w) = exec_leaves d s w
 want_leaves d s (uses x) = event_leaves s x (ServedBy (uses x))
-want_leaves d s stops = shown_leaves s _ (ServedBy stops) (record { windows = refl; screen = refl })
+want_leaves d s stops = shown_leaves s _ (ServedBy stops) (quiet_shown d s stops refl)
 
 served : (want : Want) (u : ℕ) → ServedBy want u → (maker want ≡ runner (looper u)) ⊎ (maker want ≡ twin u)
 served (begins w) u e = inl (ap (λ n. runner (looper n)) e)
@@ -230,7 +227,7 @@ desktop_after d h x y legal = desktop_from d (opening_state d) h x y legal (desk
 
 -- ---- one command
 
-exec_step : (d : Declared) (s : State) (e : Entry) (w : ℕ) (c : Numbered) → Executes d s e w c → step d s e ≡ executed_command d s w c
+pub exec_step : (d : Declared) (s : State) (e : Entry) (w : ℕ) (c : Numbered) → Executes d s e w c → step d s e ≡ executed_command d s w c
 unfolding step want_of met executed
 exec_step d s e w c is =
     ap (λ o. option_map_or (met d s) (option_and_then (want_of d s) o) s) is.by_twin

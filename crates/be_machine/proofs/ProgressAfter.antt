@@ -1,24 +1,18 @@
 -- What holds of the state after every legal history.
-use Rattle.std.proofs.Common.{◌≡◌, ℕ, suc, ◌+◌, ◌<◌, ◌≤◌, true, false, List, [], ◌∷◌, length, replicate, Option, Some, None, refl, sym, ap, subst, ◌∙◌, arith}
+use Rattle.std.proofs.Common.{◌≡◌, ◌<◌, ◌≤◌, true, false, List, [], ◌∷◌, length, replicate, Option, Some, None, refl, sym, ap, subst, ◌∙◌, arith}
 use Rattle.std.specs.Prelude.{slice_get, option_map}
-use Rattle.std.specs.List.{enumerate_from}
-use Rattle.std.proofs.lemmas.List.{length-map, length-replicate}
 use Rattle.std.proofs.lemmas.Option.{slice_get_within}
 use Rattle.be_link.specs.Queues.{empty_buffer}
 use Rattle.be_script.specs.declared.InputLine.{InputLine}
-use Rattle.be_script.specs.declared.WindowLine.{WindowLine}
 use Rattle.be_script.specs.Limits.{IsWithinLimits}
 use Rattle.be_script.specs.Script.{Declared}
-use Rattle.be_script.specs.Windows.{colors_of}
-use Rattle.be_pane.specs.Panes.{first_pane}
-use Rattle.be_port.specs.Ports.{empty_port}
 use Rattle.be_machine.specs.Activities.{Activity}
 use Rattle.be_machine.specs.declared.Entry.{Entry}
 use Rattle.be_machine.specs.History.{AreLegalFrom, state_from, IsLegalHistory, state_after}
 use Rattle.be_machine.specs.Input.{used, with_event}
 use Rattle.be_machine.specs.Legal.{IsLegal}
 use Rattle.be_actor.specs.declared.Instruction.{Instruction}
-use Rattle.be_machine.specs.Program.{app_program, is_locked_by}
+use Rattle.be_machine.specs.Program.{lock_before, app_program, is_locked_by}
 use Rattle.be_machine.specs.State.{State, free, opening_app, opening_state}
 use Rattle.be_machine.specs.Step.{met, step}
 use Rattle.be_machine.specs.Wants.{Want, asks, takes, begins, flushes, draws_end, ends, notifies, executes, uses, stops, want_of}
@@ -27,9 +21,11 @@ use Rattle.be_machine.proofs.Programs.{app_rest}
 use Rattle.be_machine.proofs.ProgressBeside.{beside_event}
 use Rattle.be_machine.proofs.ProgressCalm.{IsCalm}
 use Rattle.be_machine.proofs.ProgressCalmSteps.{IsCalmState, calm_met}
-use Rattle.be_machine.proofs.ProgressLocks.{Follows, lock_before}
+use Rattle.be_machine.proofs.ProgressLocks.{Follows}
 use Rattle.be_machine.proofs.ProgressLocksMet.{IsLockedState, locked_met}
-use Rattle.be_machine.proofs.ProgressParts.{SameSizes, same_beside, same_met, HasParts, parts_kept}
+use Rattle.be_machine.proofs.HasParts.{HasParts, step_parts}
+use Rattle.be_machine.proofs.Opening.{parts_opening}
+use Rattle.be_machine.proofs.ProgressParts.{SameSizes, same_beside, same_met}
 use Rattle.be_machine.proofs.Waiting.{IsWaiting}
 use Rattle.be_machine.proofs.WaitingAfter.{repeated, opening_waiting}
 use Rattle.be_machine.proofs.WaitingSteps.{waiting_step}
@@ -43,71 +39,48 @@ pub record IsSettled (d : Declared) (s : State) : Type 0 where
 
 -- ---- an entry
 
--- the lists keep their lengths, and no more events are used than there are
-record Counts (d : Declared) (s : State) : Type 0 where
-  pub parts : HasParts d s
-  pub events : s.events ≤ length d.input
+-- no more events are used than there are
+abbrev IsInTime : Declared → State → Type 0
+IsInTime d s = s.events ≤ length d.input
 
-counts_same : (d : Declared) (s t : State) → SameSizes s t → Counts d s → Counts d t
-counts_same d s t same h = record { parts = parts_kept d s t same h.parts; events = subst (λ n. n ≤ length d.input) (sym same.events) h.events }
+same_time : (d : Declared) (s t : State) → SameSizes s t → IsInTime d s → IsInTime d t
+same_time d s t same h = subst (λ n. n ≤ length d.input) (sym same.events) h
 
-counts_used : (d : Declared) (s : State) (x : InputLine) → slice_get d.input s.events ≡ Some x → Counts d s → Counts d (with_event s x)
-counts_used d s x read h =
+used_in_time : (d : Declared) (s : State) (x : InputLine) → slice_get d.input s.events ≡ Some x → IsInTime d (with_event s x)
+used_in_time d s x read =
     let inside : s.events < length d.input = slice_get_within d.input s.events x read in
-    counts_same d (used s) (with_event s x) (same_beside (used s) (with_event s x) (beside_event s x)) (record {
-      parts = record { ports = h.parts.ports; loopers = h.parts.loopers; buffers = h.parts.buffers; links = h.parts.links; panes = h.parts.panes; apps = h.parts.apps };
-      events = omega (arith, inside);
-    })
+    same_time d (used s) (with_event s x) (same_beside (used s) (with_event s x) (beside_event s x)) (omega (arith, inside))
 
 the_line : (o : Option InputLine) (x : InputLine) → option_map uses o ≡ Some (uses x) → o ≡ Some x
 the_line (Some y) x e = let same : y ≡ x = cc in ap Some same
 the_line None x e = cc
 
-counts_met : (d : Declared) (s : State) (who : Activity) (want : Want) → maker want ≡ who → want_of d s who ≡ Some want → Counts d s → Counts d (met d s want)
+in_time : (d : Declared) (s : State) (who : Activity) (want : Want) → maker want ≡ who → want_of d s who ≡ Some want → IsInTime d s → IsInTime d (met d s want)
 unfolding met want_of
-counts_met d s who (asks x y) made wanted h = counts_same d s _ (same_met d s (asks x y) refl) h
-counts_met d s who (takes w) made wanted h = counts_same d s _ (same_met d s (takes w) refl) h
-counts_met d s who (begins w) made wanted h = counts_same d s _ (same_met d s (begins w) refl) h
-counts_met d s who (flushes w) made wanted h = counts_same d s _ (same_met d s (flushes w) refl) h
-counts_met d s who (draws_end w) made wanted h = counts_same d s _ (same_met d s (draws_end w) refl) h
-counts_met d s who (ends w) made wanted h = counts_same d s _ (same_met d s (ends w) refl) h
-counts_met d s who (notifies w) made wanted h = counts_same d s _ (same_met d s (notifies w) refl) h
-counts_met d s who (executes w) made wanted h = counts_same d s _ (same_met d s (executes w) refl) h
-counts_met d s who (uses x) made wanted h = counts_used d s x (the_line (slice_get d.input s.events) x (ap (want_of d s) made ∙ wanted)) h
-counts_met d s who stops made wanted h = record {
-  parts = record { ports = h.parts.ports; loopers = h.parts.loopers; buffers = h.parts.buffers; links = h.parts.links; panes = h.parts.panes; apps = h.parts.apps };
-  events = h.events;
-}
+in_time d s who (asks x y) made wanted h = same_time d s _ (same_met d s (asks x y) refl) h
+in_time d s who (takes w) made wanted h = same_time d s _ (same_met d s (takes w) refl) h
+in_time d s who (begins w) made wanted h = same_time d s _ (same_met d s (begins w) refl) h
+in_time d s who (flushes w) made wanted h = same_time d s _ (same_met d s (flushes w) refl) h
+in_time d s who (draws_end w) made wanted h = same_time d s _ (same_met d s (draws_end w) refl) h
+in_time d s who (ends w) made wanted h = same_time d s _ (same_met d s (ends w) refl) h
+in_time d s who (notifies w) made wanted h = same_time d s _ (same_met d s (notifies w) refl) h
+in_time d s who (executes w) made wanted h = same_time d s _ (same_met d s (executes w) refl) h
+in_time d s who (uses x) made wanted h = used_in_time d s x (the_line (slice_get d.input s.events) x (ap (want_of d s) made ∙ wanted))
+in_time d s who stops made wanted h = h
 
 pub settled_step : (d : Declared) (s : State) (e : Entry) → IsWithinLimits d → IsLegal d s e → IsSettled d s → IsSettled d (step d s e)
 settled_step d s e limits legal h =
     let is : IsMet d s e = met_by d s e legal in
     let made : maker is.want ≡ is.who = maker_is d s is.who is.want is.wanted in
-    let counts : Counts d (met d s is.want) = counts_met d s is.who is.want made is.wanted (record { parts = h.parts; events = h.events }) in
     record {
-      parts = subst (HasParts d) (sym is.stepped) counts.parts;
+      parts = step_parts d s e legal h.parts;
       calm = subst IsCalmState (sym is.stepped) (calm_met d s is.who is.want e.act limits made is.wanted is.granted h.calm);
       locks = subst (IsLockedState d) (sym is.stepped) (locked_met d s is.who is.want e.act limits h.parts made is.wanted is.granted h.locks);
       waits = waiting_step d s e limits legal h.waits;
-      events = subst (λ t. t.events ≤ length d.input) (sym is.stepped) counts.events;
+      events = subst (λ t. t.events ≤ length d.input) (sym is.stepped) (in_time d s is.who is.want made is.wanted h.events);
     }
 
 -- ---- the start
-
-enumerated : {X : Type 0} (k : ℕ) (xs : List X) → length (enumerate_from k xs) ≡ length xs
-enumerated k [] = refl
-enumerated k (x ∷ xs) = ap suc (enumerated (k + 1) xs)
-
-opening_parts : (d : Declared) → HasParts d (opening_state d)
-unfolding opening_state
-opening_parts d = record {
-  ports = length-map d.windows (λ (line : WindowLine). empty_port line.port);
-  loopers = length-replicate (length d.windows) free;
-  buffers = length-replicate (length d.windows) empty_buffer;
-  links = length-replicate (length d.windows) [];
-  panes = length-map (enumerate_from 0 d.windows) (λ (p : ℕ × WindowLine). first_pane (colors_of d p.0 p.1)) ∙ enumerated 0 d.windows;
-  apps = length-replicate (length d.apps) opening_app;
-}
 
 opening_calm : (d : Declared) → IsCalmState (opening_state d)
 unfolding opening_state
@@ -134,7 +107,7 @@ unfolding opening_state
 no_events d = omega arith
 
 pub opening_settled : (d : Declared) → IsWithinLimits d → IsSettled d (opening_state d)
-opening_settled d limits = record { parts = opening_parts d; calm = opening_calm d; locks = opening_locks d limits; waits = opening_waiting d; events = no_events d }
+opening_settled d limits = record { parts = parts_opening d; calm = opening_calm d; locks = opening_locks d limits; waits = opening_waiting d; events = no_events d }
 
 -- ---- after a history
 

@@ -23,7 +23,7 @@ use Rattle.be_machine.specs.Legal.{wish_act, want_act}
 use Rattle.be_machine.specs.Looper.{with_looper, freed, with_duty, with_duty_by, with_waiting, told, told_at_end, ended_hand, forwarded_hand}
 use Rattle.be_machine.specs.Port.{letter, with_post, is_accepted_at, taken}
 use Rattle.be_machine.specs.Program.{buffered, is_locked_by, locked_by, hand_of, hand_at, hop_of, looper_gone_on, moved_on}
-use Rattle.be_machine.specs.State.{State, Looper, free, locked, handling, Stage, at_close}
+use Rattle.be_machine.specs.State.{State, Looper, free, locked, handling, Stage, ending}
 use Rattle.be_machine.specs.Step.{granted, met}
 use Rattle.be_machine.specs.Update.{at_stage, opened, passed_by, begun}
 use Rattle.be_machine.specs.Wants.{Want, asks, takes, begins, flushes, draws_end, ends, notifies, executes, uses, stops, want_of}
@@ -159,7 +159,7 @@ calm_staged s w stage h = calm_looper s.loopers s.buffers w (at_stage stage) (λ
 
 calm_begun : (s : State) (w : ℕ) → IsCalmState s → IsCalmState (begun s w)
 unfolding begun
-calm_begun s w h = by_test IsCalmState (is_any (dirty_of s w)) (option_map_or (opened s w) (corner_at s w) s) (passed_by s w) (by_option IsCalmState (opened s w) s (corner_at s w) h (λ corner. calm_staged s w _ h)) (calm_staged s w at_close h)
+calm_begun s w h = by_test IsCalmState (is_any (dirty_of s w)) (option_map_or (opened s w) (corner_at s w) s) (passed_by s w) (by_option IsCalmState (opened s w) s (corner_at s w) h (λ corner. calm_staged s w _ h)) (calm_staged s w ending h)
 
 calm_taken : (d : Declared) (s : State) (w : ℕ) (is : Takes s w) → IsCalmState s → IsCalmState (taken d s w)
 calm_taken d s w is h = subst IsCalmState (sym (taken_is d s w is)) (calm_looper s.loopers s.buffers w _ (λ l read e. cc) h)
@@ -174,8 +174,8 @@ calm_ended d s w empty h =
     by_option IsCalmState (ended_hand s w) s (hand_at s w) h (λ hand. telling_calm (end_telling hand.duty hand.route) (freed s w)
     (calm_freed s.loopers s.buffers w (λ _. free) (λ b read. none_in s w b (Some w) refl read empty) h))
 
-drawn_end : (d : Declared) (s : State) (w : ℕ) (a : Act) → draw_act s w ≡ Some a → Handles s w → IsCalmState s → IsCalmState (with_looper (drawn s w EndUpdate) w (at_stage at_close))
-drawn_end d s w a e is h = calm_staged (drawn s w EndUpdate) w at_close (calm_drawn s w a EndUpdate e (λ l read. handling_busy s w is.hand is.stage l is.read read) h)
+drawn_end : (d : Declared) (s : State) (w : ℕ) (a : Act) → draw_act s w ≡ Some a → Handles s w → IsCalmState s → IsCalmState (with_looper (drawn s w EndUpdate) w (at_stage ending))
+drawn_end d s w a e is h = calm_staged (drawn s w EndUpdate) w ending (calm_drawn s w a EndUpdate e (λ l read. handling_busy s w is.hand is.stage l is.read read) h)
 
 pub calm_met : (d : Declared) (s : State) (who : Activity) (want : Want) (a : Act) → IsWithinLimits d → maker want ≡ who → want_of d s who ≡ Some want → want_act d s want ≡ Some a → IsCalmState s → IsCalmState (met d s want)
 unfolding met want_act

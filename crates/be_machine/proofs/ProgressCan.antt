@@ -27,13 +27,13 @@ use Rattle.be_machine.specs.Lists.{with_both}
 use Rattle.be_machine.specs.Looper.{answer_of, end_act}
 use Rattle.be_machine.specs.Port.{post_act}
 use Rattle.be_machine.specs.Program.{window_of, hop_of, hand_of, buffered, letter_program, update_program}
-use Rattle.be_machine.specs.State.{State, Stage, in_body, beginning, in_update, at_close}
+use Rattle.be_machine.specs.State.{State, Stage, in_body, beginning, in_update, ending}
 use Rattle.be_machine.specs.Update.{owes_notice}
 use Rattle.be_machine.specs.Wants.{Want, begins, flushes, draws_end, ends, asks_or, end_want, draw_end_want, stage_want}
 use Rattle.be_machine.proofs.ProgressCases.{by_outcome}
 use Rattle.be_machine.proofs.Lists.{IsThere, there, both_first, all_get}
 use Rattle.be_machine.proofs.Programs.{body_steps, update_steps}
-use Rattle.be_machine.proofs.ProgressParts.{HasParts}
+use Rattle.be_machine.proofs.HasParts.{HasParts}
 use Rattle.be_machine.proofs.ProgressStands.{draw_step_is}
 
 -- there is an act
@@ -176,4 +176,4 @@ handling_can d s w hand beginning limits parts own read = begin_can d s w own.qu
 handling_can d s w hand (in_update views place) limits parts own read =
     let program = update_program d w views in
     asks_can d s w hand program place (draw_end_want s w) (slice_get program place.step) parts own read refl (λ i next. draw_step_is d w i (all_get (is_draw_step d w) program place.step i (update_steps d w views limits) next)) (draw_end_can d s w own)
-handling_can d s w hand at_close limits parts own read = end_can d s w hand own read
+handling_can d s w hand ending limits parts own read = end_can d s w hand own read

@@ -14,12 +14,12 @@ use Rattle.be_script.specs.Programs.{is_rest_of_app, lock_behind}
 use Rattle.be_script.specs.Script.{Declared}
 use Rattle.be_machine.specs.Activities.{app}
 use Rattle.be_machine.specs.Lists.{at}
-use Rattle.be_machine.specs.Program.{app_program, buffered, is_locked_by, locked_by, app_gone_on}
+use Rattle.be_machine.specs.Program.{lock_before, app_program, buffered, is_locked_by, locked_by, app_gone_on}
 use Rattle.be_machine.specs.State.{State, Looper, free, locked, handling, App}
 use Rattle.be_machine.proofs.ProgressCases.{neither}
 use Rattle.be_machine.proofs.Lists.{IsThere, there, length_at, same_number}
 use Rattle.be_machine.proofs.ProgressPlaces.{each_at, each_kept, same_place, other_place}
-use Rattle.be_machine.proofs.ProgressLocks.{lock_before, lock_after, HasLock, Follows, IsKnown, AreLocked, StepKeeps, step_keeps, has_kept}
+use Rattle.be_machine.proofs.ProgressLocks.{lock_after, HasLock, Follows, IsKnown, AreLocked, StepKeeps, step_keeps, has_kept}
 use Rattle.be_machine.proofs.ProgressStands.{AppStands}
 use Rattle.be_machine.proofs.WaitingApps.{gone_to}
 use Rattle.be_machine.proofs.WaitingGranted.{position_passes}

@@ -13,7 +13,7 @@ use Rattle.be_script.specs.Programs.{is_app_step, lock_behind, is_rest_of_app}
 use Rattle.be_script.specs.Script.{Declared}
 use Rattle.be_machine.specs.Activities.{app}
 use Rattle.be_machine.specs.Lists.{at}
-use Rattle.be_machine.specs.Program.{app_program, buffered, is_locked_by, app_gone_on}
+use Rattle.be_machine.specs.Program.{lock_before, app_program, buffered, is_locked_by, app_gone_on}
 use Rattle.be_machine.specs.State.{State, Looper, App}
 use Rattle.be_machine.proofs.ProgressCases.{by_test}
 use Rattle.be_machine.proofs.Lists.{both_first, both_second, length_at}
@@ -32,12 +32,6 @@ HasPlace n None = Unit {0}
 pub record HasLock (loopers : List Looper) (m : ℕ) (lock : Option ℕ) : Type 0 where
   pub inside : HasPlace (length loopers) lock
   pub alone : Each (λ w l. is_locked_by m l ≡ is_number w lock) loopers
-
--- the window that is locked before a place of a program
-abbrev pub lock_before : Option ℕ → List Instruction → ℕ → Option ℕ
-lock_before lock [] k = lock
-lock_before lock (i ∷ rest) zero = lock
-lock_before lock (i ∷ rest) (suc k) = lock_before (lock_behind lock i) rest k
 
 pub lock_after : (lock : Option ℕ) (program : List Instruction) (k : ℕ) (i : Instruction) → slice_get program k ≡ Some i → lock_before lock program (k + 1) ≡ lock_behind (lock_before lock program k) i
 lock_after lock [] k i next = cc

@@ -24,7 +24,7 @@ use Rattle.be_machine.specs.Lists.{at}
 use Rattle.be_machine.specs.Looper.{with_looper, freed, with_duty, with_duty_by, with_waiting, told, told_at_end, ended_hand, forwarded_hand}
 use Rattle.be_machine.specs.Port.{letter, with_post, is_accepted_at, taken}
 use Rattle.be_machine.specs.Program.{is_locked_by, locked_by, hand_of, hand_at, hop_of, app_gone_on, looper_gone_on, moved_on}
-use Rattle.be_machine.specs.State.{State, Looper, free, locked, handling, Stage, App, at_close}
+use Rattle.be_machine.specs.State.{State, Looper, free, locked, handling, Stage, App, ending}
 use Rattle.be_machine.specs.Step.{granted, met}
 use Rattle.be_machine.specs.Update.{at_stage, opened, passed_by, begun}
 use Rattle.be_machine.specs.Wants.{Want, asks, takes, begins, flushes, draws_end, ends, notifies, executes, uses, stops, want_of}
@@ -35,7 +35,7 @@ use Rattle.be_machine.proofs.LegalEntries.{maker}
 use Rattle.be_machine.proofs.ProgressBeside.{Beside, beside_executed, beside_event}
 use Rattle.be_machine.proofs.ProgressLocks.{AreLocked, locks_kept, cells_kept, is_lockless, gone_on_kept}
 use Rattle.be_machine.proofs.ProgressLockSteps.{lock_locks, unlock_locks}
-use Rattle.be_machine.proofs.ProgressParts.{HasParts}
+use Rattle.be_machine.proofs.HasParts.{HasParts}
 use Rattle.be_machine.proofs.ProgressStands.{AppStands, LooperStands, app_stands, looper_stands}
 use Rattle.be_machine.proofs.WaitingApps.{lock_tells}
 use Rattle.be_machine.proofs.WaitingBodies.{no_unlock}
@@ -150,7 +150,7 @@ locked_staged d s w stage h = locks_kept d s.loopers s.apps w (at_stage stage) (
 
 locked_begun : (d : Declared) (s : State) (w : ℕ) → IsLockedState d s → IsLockedState d (begun s w)
 unfolding begun
-locked_begun d s w h = by_test (IsLockedState d) (is_any (dirty_of s w)) (option_map_or (opened s w) (corner_at s w) s) (passed_by s w) (by_option (IsLockedState d) (opened s w) s (corner_at s w) h (λ corner. locked_staged d s w _ h)) (locked_staged d s w at_close h)
+locked_begun d s w h = by_test (IsLockedState d) (is_any (dirty_of s w)) (option_map_or (opened s w) (corner_at s w) s) (passed_by s w) (by_option (IsLockedState d) (opened s w) s (corner_at s w) h (λ corner. locked_staged d s w _ h)) (locked_staged d s w ending h)
 
 locked_taken : (d : Declared) (s : State) (w : ℕ) (is : Takes s w) → IsLockedState d s → IsLockedState d (taken d s w)
 locked_taken d s w is h = subst (IsLockedState d) (sym (taken_is d s w is)) (locks_kept d s.loopers s.apps w _ (λ m l read. ap (is_locked_by m) (same_Some free l (sym is.is_free ∙ read))) h)
@@ -173,7 +173,7 @@ locked_met d s who (asks (looper w) x) a limits parts made wanted e h = locked_b
 locked_met d s who (takes w) a limits parts made wanted e h = locked_taken d s w (take_tells d s w a e) h
 locked_met d s who (begins w) a limits parts made wanted e h = locked_begun d s w h
 locked_met d s who (flushes w) a limits parts made wanted e h = locked_flushed d s w h
-locked_met d s who (draws_end w) a limits parts made wanted e h = locked_staged d (drawn s w EndUpdate) w at_close h
+locked_met d s who (draws_end w) a limits parts made wanted e h = locked_staged d (drawn s w EndUpdate) w ending h
 locked_met d s who (ends w) a limits parts made wanted e h = locked_ended d s w (hand_at s w) refl h
 locked_met d s who (notifies w) a limits parts made wanted e h = h
 locked_met d s who (executes w) a limits parts made wanted e h = locked_beside d s _ (beside_executed d s w) h

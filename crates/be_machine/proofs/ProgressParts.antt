@@ -21,7 +21,7 @@ use Rattle.be_machine.specs.Commands.{drawn, flushed, flushed_into, executed}
 use Rattle.be_machine.specs.Looper.{with_looper, freed, with_cell, with_waiting, sent, claimed, with_duty, with_duty_by, told, told_at_end, ended_hand, forwarded_hand, locked_for}
 use Rattle.be_machine.specs.Port.{letter, with_post, with_letter_in_hand, taken, notified, is_accepted_at}
 use Rattle.be_machine.specs.Program.{hop_of, hand_of, hand_at, window_of, app_gone_on, looper_gone_on, moved_on}
-use Rattle.be_machine.specs.State.{State, Looper, App, at_close}
+use Rattle.be_machine.specs.State.{State, Looper, App, ending}
 use Rattle.be_machine.specs.Step.{granted, met}
 use Rattle.be_machine.specs.Update.{at_stage, opened, passed_by, begun}
 use Rattle.be_machine.specs.Wants.{Want, asks, takes, begins, flushes, draws_end, ends, notifies, executes, uses, stops}
@@ -133,7 +133,7 @@ same_begun : (s : State) (w : ℕ) → SameSizes s (begun s w)
 unfolding begun
 same_begun s w =
     by_test (SameSizes s) (is_any (dirty_of s w)) (option_map_or (opened s w) (corner_at s w) s) (passed_by s w) (same_or s (opened s w) (corner_at s w) (λ corner. record { ports = refl; loopers = length_at s.loopers w _; buffers = refl; links = refl; panes = length_at s.panes w _; apps = refl; events = refl; stopped = refl }))
-    (record { ports = refl; loopers = length_at s.loopers w (at_stage at_close); buffers = refl; links = refl; panes = length_at s.panes w passed; apps = refl; events = refl; stopped = refl })
+    (record { ports = refl; loopers = length_at s.loopers w (at_stage ending); buffers = refl; links = refl; panes = length_at s.panes w passed; apps = refl; events = refl; stopped = refl })
 
 same_telling : (t : EndTelling) (s : State) → SameSizes s (told_at_end t s)
 same_telling nobody s = same_itself s
@@ -162,29 +162,9 @@ same_met d s (asks who x) work = same_then s (granted s who x) _ (same_granted s
 same_met d s (takes w) work = same_taken d s w
 same_met d s (begins w) work = same_begun s w
 same_met d s (flushes w) work = same_flushed s w
-same_met d s (draws_end w) work = same_then s (drawn s w EndUpdate) _ (same_drawn s w EndUpdate) (same_looper (drawn s w EndUpdate) w (at_stage at_close))
+same_met d s (draws_end w) work = same_then s (drawn s w EndUpdate) _ (same_drawn s w EndUpdate) (same_looper (drawn s w EndUpdate) w (at_stage ending))
 same_met d s (ends w) work = same_or s (ended_hand s w) (hand_at s w) (same_ended s w)
 same_met d s (notifies w) work = same_beside s (notified s w) (beside_notified s w)
 same_met d s (executes w) work = same_beside s (executed d s w) (beside_executed d s w)
 same_met d s (uses x) work = cc
 same_met d s stops work = cc
-
--- ---- as many as were declared
-
-pub record HasParts (d : Declared) (s : State) : Type 0 where
-  pub ports : length s.ports ≡ length d.windows
-  pub loopers : length s.loopers ≡ length d.windows
-  pub buffers : length s.buffers ≡ length d.windows
-  pub links : length s.links ≡ length d.windows
-  pub panes : length s.panes ≡ length d.windows
-  pub apps : length s.apps ≡ length d.apps
-
-pub parts_kept : (d : Declared) (s t : State) → SameSizes s t → HasParts d s → HasParts d t
-parts_kept d s t h k = record {
-  ports = h.ports ∙ k.ports;
-  loopers = h.loopers ∙ k.loopers;
-  buffers = h.buffers ∙ k.buffers;
-  links = h.links ∙ k.links;
-  panes = h.panes ∙ k.panes;
-  apps = h.apps ∙ k.apps;
-}

@@ -14,7 +14,7 @@ use Rattle.be_script.specs.Programs.{is_body_step, is_draw_step, is_command_for}
 use Rattle.be_script.specs.Script.{Declared}
 use Rattle.be_machine.specs.Activities.{app, looper, runner}
 use Rattle.be_machine.specs.Program.{app_wish, body_wish, app_program, letter_program, update_program, buffered}
-use Rattle.be_machine.specs.State.{State, App, Looper, free, locked, handling, Stage, in_body, beginning, in_update, at_close}
+use Rattle.be_machine.specs.State.{State, App, Looper, free, locked, handling, Stage, in_body, beginning, in_update, ending}
 use Rattle.be_machine.specs.Wants.{Want, asks, takes, flushes, draws_end, ends, asks_or, end_want, draw_end_want, stage_want, looper_want, want_of}
 use Rattle.be_machine.proofs.ProgressCases.{neither}
 use Rattle.be_machine.proofs.Lists.{both_first, all_get}
@@ -91,7 +91,7 @@ stage_stands d s w wish hand beginning limits read e = cc
 stage_stands d s w wish hand (in_update views place) limits read e =
     let program = update_program d w views in
     body_at d s w wish hand (in_update views place) place program (draw_end_want s w) (slice_get program place.step) read refl (λ i next. draw_step_is d w i (all_get (is_draw_step d w) program place.step i (update_steps d w views limits) next)) (draw_end_asks s w wish) e
-stage_stands d s w wish hand at_close limits read e = absurd (end_asks s w wish e)
+stage_stands d s w wish hand ending limits read e = absurd (end_asks s w wish e)
 
 looper_by : (d : Declared) (s : State) (w : ℕ) (wish : Wish) (l : Looper) → IsWithinLimits d → slice_get s.loopers w ≡ Some l → looper_want d s w l ≡ asks (looper w) wish → LooperStands d s w wish
 looper_by d s w wish (handling hand stage) limits read e = stage_stands d s w wish hand stage limits read e
@@ -141,7 +141,7 @@ ends_by : (d : Declared) (s : State) (w : ℕ) (l : Looper) → looper_want d s 
 ends_by d s w (handling hand (in_body place)) e = ends_asks w (body_wish s w hand (letter_program d w hand) place) (buffered s (looper w) == 0) e
 ends_by d s w (handling hand beginning) e = cc
 ends_by d s w (handling hand (in_update views place)) e = ends_draw w (body_wish s w hand (update_program d w views) place) (has_no_room (buffered s (looper w))) _ e
-ends_by d s w (handling hand at_close) e = ends_if w (buffered s (looper w) == 0) e
+ends_by d s w (handling hand ending) e = ends_if w (buffered s (looper w) == 0) e
 ends_by d s w (locked m) e = cc
 ends_by d s w free e = cc
 

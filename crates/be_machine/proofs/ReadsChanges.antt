@@ -20,7 +20,8 @@ use Rattle.be_machine.specs.State.{State}
 use Rattle.be_machine.specs.Touched.{Part, desk, input, cell, looper, port, link, pane, SamePixels, SamePart, TouchesPanes}
 use Rattle.be_machine.specs.Windows.{width_of, view_colors, ports_after, changed, changed_to}
 use Rattle.be_machine.proofs.PixelRules.{cell_by}
-use Rattle.be_machine.proofs.PixelSteps.{IsDesktopAt, DeskKeepsWidth, desk_width}
+use Rattle.be_machine.proofs.PixelSteps.{IsDesktopAt}
+use Rattle.be_machine.proofs.Sizes.{KeepsCounts, desk_sizes}
 use Rattle.be_machine.proofs.TouchedWants.{dec_owner}
 use Rattle.be_machine.proofs.ReadsDirt.{same_old}
 use Rattle.be_machine.proofs.ReadsParts.{Keeps, same_at}
@@ -128,18 +129,18 @@ same_ports w v Activate xs ys same = same
 same_ports w v (Behind front) xs ys same = same
 same_ports w v (Focus view) xs ys same = same
 
-change_keeps : (s r : State) (w : ℕ) (change : Change) (o : Result Desk ChangeFault) → SameDesk s r → DeskKeepsWidth s.desk o → ((p : Part) → TouchesPanes s (changed_to s w change o) w p → SamePart s r p) → Keeps s r (changed_to s w change o) (changed_to r w change o)
-change_keeps s r w change (Err f) is width touched p same = same
-change_keeps s r w change (Ok new) is width touched desk same = refl
-change_keeps s r w change (Ok new) is width touched input same = same
-change_keeps s r w change (Ok new) is width touched (cell m) same = same
-change_keeps s r w change (Ok new) is width touched (looper v) same = same
-change_keeps s r w change (Ok new) is width touched (port v) same = same_ports w v change s.ports r.ports same
-change_keeps s r w change (Ok new) is width touched (link v) same = same
-change_keeps s r w change (Ok new) is width touched (pane u) (panes, pixels, corner, tree) = (panes, changed_pixels s r w u change new is width (panes, pixels, corner, tree) touched, refl, refl)
+change_keeps : (s r : State) (w : ℕ) (change : Change) (o : Result Desk ChangeFault) → SameDesk s r → KeepsCounts s.desk o → ((p : Part) → TouchesPanes s (changed_to s w change o) w p → SamePart s r p) → Keeps s r (changed_to s w change o) (changed_to r w change o)
+change_keeps s r w change (Err f) is sizes touched p same = same
+change_keeps s r w change (Ok new) is sizes touched desk same = refl
+change_keeps s r w change (Ok new) is sizes touched input same = same
+change_keeps s r w change (Ok new) is sizes touched (cell m) same = same
+change_keeps s r w change (Ok new) is sizes touched (looper v) same = same
+change_keeps s r w change (Ok new) is sizes touched (port v) same = same_ports w v change s.ports r.ports same
+change_keeps s r w change (Ok new) is sizes touched (link v) same = same
+change_keeps s r w change (Ok new) is sizes touched (pane u) (panes, pixels, corner, tree) = (panes, changed_pixels s r w u change new is sizes.sizes.width (panes, pixels, corner, tree) touched, refl, refl)
 
 pub changed_keeps : (s r : State) (w : ℕ) (change : Change) → SameDesk s r → ((p : Part) → TouchesPanes s (changed s w change) w p → SamePart s r p) → Keeps s r (changed s w change) (changed r w change)
 unfolding changed
 changed_keeps s r w change is touched =
     subst (λ o. Keeps s r (changed s w change) (changed_to r w change o)) (sym (ap (λ d. desk_after d w change) is.desk))
-    (change_keeps s r w change (desk_after s.desk w change) is (desk_width s.desk w change) touched)
+    (change_keeps s r w change (desk_after s.desk w change) is (desk_sizes s.desk w change) touched)

@@ -53,12 +53,12 @@ unfolding owner_at
 on_screen windows w x y e =
     else_none (is_on_screen windows.width (pos x) && is_on_screen windows.height y) _ w _ e (λ h found. both_second (int_le (pos 0) (pos x)) (int_lt (pos x) (pos windows.width)) (both_first (is_on_screen windows.width (pos x)) (is_on_screen windows.height y) h))
 
-numbered_cell : (width : ℕ) (cells : List Cell) (i : ℕ) → nat_lt (i % width) width ≡ true → cell_at width cells (pos (i % width)) (pos (i / width)) ≡ slice_get cells i
+pub numbered_cell : (width : ℕ) (cells : List Cell) (i : ℕ) → nat_lt (i % width) width ≡ true → cell_at width cells (pos (i % width)) (pos (i / width)) ≡ slice_get cells i
 unfolding cell_at
 numbered_cell width cells i inside = rw inside (ap (slice_get cells) (div-add-mod' i width))
 
 -- the cells that the window owns are the same in both lists
-abbrev SameCells : ℕ → ℕ → (ℤ → ℤ → Bool) → List Cell → List Cell → Type 0
+abbrev pub SameCells : ℕ → ℕ → (ℤ → ℤ → Bool) → List Cell → List Cell → Type 0
 SameCells width k own xs ys = (i : ℕ) → own (pos ((k + i) % width)) (pos ((k + i) / width)) ≡ true → slice_get ys i ≡ slice_get xs i
 
 behind : (width k : ℕ) (own : ℤ → ℤ → Bool) (x y : Cell) (xs ys : List Cell) → SameCells width k own (x ∷ xs) (y ∷ ys) → SameCells width (suc k) own xs ys

@@ -24,6 +24,7 @@ use Rattle.be_machine.specs.Touched as part
 use Rattle.be_machine.specs.Wants.{uses, want_of}
 use Rattle.be_machine.proofs.ReadsBoth.{Both, Wanted, Reads}
 use Rattle.be_machine.proofs.ReadsChanges.{SameDesk, changed_keeps}
+use Rattle.be_machine.proofs.ReadsScreen.{SameScreen}
 use Rattle.be_machine.proofs.ReadsParts.{Keeps, both_keep, none_keeps, same_at, ports_keep, used_keeps, under_keeps}
 
 -- ---- what is answered
@@ -83,9 +84,10 @@ active_touches s t x None p h = h
 
 delivery_keeps : (d : Declared) (s r : State) (x : Delivery) → Both d s r → r.desk ≡ s.desk → ((p : Part) → TouchesActive s (with_delivery s x) x.activate p → SamePart s r p) → Keeps s r (with_delivery s x) (with_delivery r x)
 delivery_keeps d s r x both desk touched =
+    let screens : SameScreen s r = both.screens in
     both_keep s r (before_active s x) (before_active r x) (with_delivery s x) (with_delivery r x) (before_keeps s r x)
     (activated_keeps (before_active s x) (before_active r x) x.activate
-    (record { desk = ap (with_under x) desk; screens = record { width = both.screens.width; pixels = both.screens.pixels }; one = λ a b. both.desktop_one a b; two = λ a b. both.desktop_two a b })
+    (record { desk = ap (with_under x) desk; screens = record { width = screens.width; pixels = screens.pixels; height = screens.height; cells = screens.cells; windows = screens.windows; trees = screens.trees }; one = λ a b. both.desktop_one a b; two = λ a b. both.desktop_two a b })
     (λ p h. before_keeps s r x p (touched p (active_touches s (with_delivery s x) x x.activate p h))))
 
 -- ---- an event

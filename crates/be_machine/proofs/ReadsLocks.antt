@@ -30,13 +30,13 @@ use Rattle.be_machine.proofs.ReadsWishes.{SameRunner, SameFor, same_wish_act, as
 
 -- ---- the lock
 
-no_position : (loopers : List Looper) (m : ℕ) (o : Option ℕ) → HasLock loopers m None → position (is_locked_by m) loopers ≡ o → o ≡ None
+pub no_position : (loopers : List Looper) (m : ℕ) (o : Option ℕ) → HasLock loopers m None → position (is_locked_by m) loopers ≡ o → o ≡ None
 no_position loopers m (Some w) h e =
     let l : IsThere loopers w = there loopers w (position-Some (is_locked_by m) loopers w free e).0 in
     let no : true ≡ false = sym (position_passes (is_locked_by m) loopers w l.element e l.read) ∙ h.alone w l.element l.read in cc
 no_position loopers m None h e = refl
 
-locked_is : (loopers : List Looper) (m : ℕ) (lock : Option ℕ) → HasLock loopers m lock → position (is_locked_by m) loopers ≡ lock
+pub locked_is : (loopers : List Looper) (m : ℕ) (lock : Option ℕ) → HasLock loopers m lock → position (is_locked_by m) loopers ≡ lock
 locked_is loopers m (Some w) h = position_is (is_locked_by m) loopers w h.inside h.alone
 locked_is loopers m None h = no_position loopers m (position (is_locked_by m) loopers) h refl
 

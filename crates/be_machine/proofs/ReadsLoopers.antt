@@ -18,7 +18,7 @@ use Rattle.be_machine.specs.Lists.{at, with_both}
 use Rattle.be_machine.specs.Looper.{with_looper, freed, told_at_end, end_act, ended_hand}
 use Rattle.be_machine.specs.Port.{take_act, taken, with_letter_in_hand}
 use Rattle.be_machine.specs.Program.{buffered, hand_at, hand_in, letter_program, update_program}
-use Rattle.be_machine.specs.State.{State, Looper, free, locked, handling, Stage, in_body, beginning, in_update, at_close}
+use Rattle.be_machine.specs.State.{State, Looper, free, locked, handling, Stage, in_body, beginning, in_update, ending}
 use Rattle.be_machine.specs.Step.{met}
 use Rattle.be_machine.specs.Touched.{SamePart}
 use Rattle.be_machine.specs.Touched as part
@@ -35,7 +35,7 @@ same_stage_want : (d : Declared) (s r : State) (w : ℕ) (hand : Hand Message) (
 same_stage_want d s r w hand (in_body place) e = ap (λ n. asks_or (looper w) (wish_of (letter_program d w hand) place (Some hand.letter.body) n) (if n == 0 then ends w else flushes w)) e
 same_stage_want d s r w hand beginning e = refl
 same_stage_want d s r w hand (in_update views place) e = ap (λ n. asks_or (looper w) (wish_of (update_program d w views) place (Some hand.letter.body) n) (if has_no_room n then flushes w else draws_end w)) e
-same_stage_want d s r w hand at_close e = ap (λ n. if n == 0 then ends w else flushes w) e
+same_stage_want d s r w hand ending e = ap (λ n. if n == 0 then ends w else flushes w) e
 
 same_looper_want : (d : Declared) (s r : State) (w : ℕ) (l : Looper) → buffered r (looper w) ≡ buffered s (looper w) → looper_want d r w l ≡ looper_want d s w l
 same_looper_want d s r w (handling hand stage) e = same_stage_want d s r w hand stage e
@@ -101,8 +101,8 @@ reads_draw_end d s r w is =
     record {
       wanted = looper_wants d s r w (draws_end w) own is.wanted;
       granted = same_draw s r w own.1;
-      kept = both_keep s r (drawn s w EndUpdate) (drawn r w EndUpdate) (with_looper (drawn s w EndUpdate) w (at_stage at_close)) (with_looper (drawn r w EndUpdate) w (at_stage at_close))
-          (buffers_keep s r w (with_command EndUpdate)) (loopers_keep (drawn s w EndUpdate) (drawn r w EndUpdate) w (at_stage at_close));
+      kept = both_keep s r (drawn s w EndUpdate) (drawn r w EndUpdate) (with_looper (drawn s w EndUpdate) w (at_stage ending)) (with_looper (drawn r w EndUpdate) w (at_stage ending))
+          (buffers_keep s r w (with_command EndUpdate)) (loopers_keep (drawn s w EndUpdate) (drawn r w EndUpdate) w (at_stage ending));
     }
 
 -- ---- the end of a message

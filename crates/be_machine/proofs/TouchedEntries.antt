@@ -10,7 +10,7 @@ use Rattle.be_geom.specs.declared.change.Change.TheVariants.{Activate}
 use Rattle.be_script.specs.Script.{Declared}
 use Rattle.be_machine.specs.Activities.{Runner, activity_of}
 use Rattle.be_machine.specs.Program.{moved_on}
-use Rattle.be_machine.specs.State.{State, at_close}
+use Rattle.be_machine.specs.State.{State, ending}
 use Rattle.be_machine.specs.Step.{granted, step, is_accepted_wish, met}
 use Rattle.be_machine.specs.Pixels.{owner_in}
 use Rattle.be_machine.specs.Windows.{changed}
@@ -103,10 +103,10 @@ asked_alters d s who x =
     both_alter s (granted s who x) _ (λ p. (p ≡ own_part who) ⊎ TouchesBy s who x p) (λ p. p ≡ own_part who) (λ p. (p ≡ own_part who) ⊎ TouchesBy s who x p) (λ p e. e) (λ p e. inl e)
     (granted_alters s who x) (moved_alters d who (is_accepted_wish s who x) x (granted s who x))
 
-draw_end_alters : (s : State) (w : ℕ) → Alters s (with_looper (drawn s w EndUpdate) w (at_stage at_close)) (λ p. p ≡ part.looper w)
+draw_end_alters : (s : State) (w : ℕ) → Alters s (with_looper (drawn s w EndUpdate) w (at_stage ending)) (λ p. p ≡ part.looper w)
 draw_end_alters s w =
-    both_alter s (drawn s w EndUpdate) (with_looper (drawn s w EndUpdate) w (at_stage at_close)) (λ p. p ≡ part.looper w) (λ p. p ≡ part.looper w) (λ p. p ≡ part.looper w) (λ p e. e) (λ p e. e)
-    (buffers_alter s w _) (loopers_alter _ w (at_stage at_close))
+    both_alter s (drawn s w EndUpdate) (with_looper (drawn s w EndUpdate) w (at_stage ending)) (λ p. p ≡ part.looper w) (λ p. p ≡ part.looper w) (λ p. p ≡ part.looper w) (λ p e. e) (λ p e. e)
+    (buffers_alter s w _) (loopers_alter _ w (at_stage ending))
 
 want_alters : (d : Declared) (s : State) (want : Want) → Alters s (met d s want) (Touches s (met d s want) want)
 unfolding met executed

@@ -36,7 +36,7 @@ use Rattle.be_machine.specs.Lists.{with_both}
 use Rattle.be_machine.specs.Looper.{with_looper, freed, word_alone, told_at_end, ended_hand}
 use Rattle.be_machine.specs.Port.{letter_route, first_stage, notice, take_act, with_letter_in_hand, taken}
 use Rattle.be_machine.specs.Program.{hand_in, hand_at}
-use Rattle.be_machine.specs.State.{State, Looper, free, locked, handling, Stage, at_close}
+use Rattle.be_machine.specs.State.{State, Looper, free, locked, handling, Stage, ending}
 use Rattle.be_machine.specs.Step.{met, step}
 use Rattle.be_machine.specs.Update.{at_stage, opened, passed_by, begun}
 use Rattle.be_machine.specs.Wants.{Want, asks, takes, begins, flushes, draws_end, ends, notifies, executes, uses, stops, want_of}
@@ -95,7 +95,7 @@ staged_kept d s w stage h = loopers_kept d s.ports s.loopers s.apps w (at_stage 
 
 begun_kept : (d : Declared) (s : State) (w : ℕ) → IsWaiting d s → IsWaiting d (begun s w)
 unfolding begun
-begun_kept d s w h = by_test (IsWaiting d) (is_any (dirty_of s w)) (option_map_or (opened s w) (corner_at s w) s) (passed_by s w) (by_option (IsWaiting d) (opened s w) s (corner_at s w) h (λ corner. staged_kept d s w _ h)) (staged_kept d s w at_close h)
+begun_kept d s w h = by_test (IsWaiting d) (is_any (dirty_of s w)) (option_map_or (opened s w) (corner_at s w) s) (passed_by s w) (by_option (IsWaiting d) (opened s w) s (corner_at s w) h (λ corner. staged_kept d s w _ h)) (staged_kept d s w ending h)
 
 -- ---- the end of a message
 
@@ -187,7 +187,7 @@ want_kept d s who (asks (looper w) x) a limits made wanted granted h =
 want_kept d s who (takes w) a limits made wanted granted h = taken_kept d s w (take_tells d s w a granted) h
 want_kept d s who (begins w) a limits made wanted granted h = begun_kept d s w h
 want_kept d s who (flushes w) a limits made wanted granted h = flushed_kept d s w h
-want_kept d s who (draws_end w) a limits made wanted granted h = staged_kept d (drawn s w EndUpdate) w at_close h
+want_kept d s who (draws_end w) a limits made wanted granted h = staged_kept d (drawn s w EndUpdate) w ending h
 want_kept d s who (ends w) a limits made wanted granted h = ends_kept d s w (hand_at s w) refl h
 want_kept d s who (notifies w) a limits made wanted granted h = notice_kept d s.ports s.loopers s.apps w (notice w) refl h
 want_kept d s who (executes w) a limits made wanted granted h = executed_kept d s w h

@@ -27,7 +27,8 @@ use Rattle.be_machine.proofs.WorkGranted.{keeps_own, flush_keeps, post_adds, cel
 use Rattle.be_machine.proofs.WorkInstructions.{Falls, by_test, filled_what, Runs, note_falls, post_falls, flush_falls, sync_falls, draw_falls}
 use Rattle.be_machine.proofs.WorkMoves.{Moves, next_falls, second_falls, here_falls, app_moves}
 use Rattle.be_machine.proofs.WorkParts.{post_at_one}
-use Rattle.be_machine.proofs.WorkShares.{effect_costs, here, app_cost, message_share, potential}
+use Rattle.be_machine.specs.Shares.{here, app_cost, message_share, potential}
+use Rattle.be_machine.proofs.WorkShares.{effect_costs}
 
 -- ---- applications
 

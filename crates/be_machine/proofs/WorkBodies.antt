@@ -19,7 +19,7 @@ use Rattle.be_machine.specs.Update.{listing_of}
 use Rattle.be_machine.specs.Windows.{corner_at, tree_at, dirty_of}
 use Rattle.be_machine.proofs.NumbersGrow.{IsRooted, AreRooted}
 use Rattle.be_machine.proofs.WorkListing.{times, preorder_once}
-use Rattle.be_machine.proofs.WorkShares.{draw_cost, draws_cost}
+use Rattle.be_machine.specs.Shares.{draw_cost, draws_cost}
 
 -- ---- the views that are listed
 

@@ -12,7 +12,7 @@ use Rattle.be_span.specs.declared.Cell.{Cell}
 use Rattle.be_span.specs.Screen.{each_from, each_cell, cell_at}
 use Rattle.be_update.specs.Sessions.{is_any, dirty_from, dirty_pixels}
 use Rattle.be_machine.proofs.WorkWeights.{weight_from-le, weight_from_bound}
-use Rattle.be_machine.proofs.WorkShares.{dirt, dirt_share, is_dirty}
+use Rattle.be_machine.specs.Shares.{dirt, dirt_share, is_dirty}
 
 -- ---- pixels
 

@@ -23,7 +23,7 @@ use Rattle.be_machine.specs.Windows.{changed, changed_to, view_colors}
 use Rattle.be_machine.proofs.Lists.{length_at}
 use Rattle.be_machine.proofs.WorkDirt.{dirt_bound, dirt_fewer}
 use Rattle.be_machine.proofs.WorkMarks.{drawing_keeps, focus_keeps, panes_quiet, pane_after_quiet}
-use Rattle.be_machine.proofs.WorkShares.{exposure, change_exposure, deed_exposure, dirt_share}
+use Rattle.be_machine.specs.Shares.{exposure, change_exposure, deed_exposure, dirt_share}
 
 -- the dirt of a state
 abbrev pub dirt_in : Declared → State → ℕ

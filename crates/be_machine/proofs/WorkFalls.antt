@@ -18,7 +18,7 @@ use Rattle.be_machine.specs.declared.Act.TheVariants as acts
 use Rattle.be_machine.specs.declared.Entry.{Entry}
 use Rattle.be_machine.specs.Legal.{want_act, IsLegal}
 use Rattle.be_machine.specs.Program.{app_program, app_wish, letter_program, update_program, buffered}
-use Rattle.be_machine.specs.State.{State, App, Looper, free, locked, handling, Stage, in_body, beginning, in_update, at_close}
+use Rattle.be_machine.specs.State.{State, App, Looper, free, locked, handling, Stage, in_body, beginning, in_update, ending}
 use Rattle.be_machine.specs.Step.{met, step}
 use Rattle.be_machine.specs.Wants.{Want, asks, uses, stops, asks_or, end_want, draw_end_want, stage_want, looper_want, twin_want, want_of}
 use Rattle.be_machine.proofs.LegalEntries.{IsMet, met_by}
@@ -29,7 +29,7 @@ use Rattle.be_machine.proofs.WorkInput.{uses_falls}
 use Rattle.be_machine.proofs.WorkInstructions.{Falls}
 use Rattle.be_machine.proofs.WorkLoopers.{body_instruction, draw_instruction}
 use Rattle.be_machine.proofs.Programs.{body_steps, update_steps}
-use Rattle.be_machine.proofs.WorkShares.{going, potential}
+use Rattle.be_machine.specs.Shares.{going, potential}
 use Rattle.be_machine.proofs.WorkStages.{end_falls, draw_end_falls, begins_falls, takes_falls}
 use Rattle.be_machine.proofs.WorkTwins.{twin_falls}
 
@@ -71,7 +71,7 @@ unfolding wish_of
 stage_falls d s w hand (in_body place) limits shape read = body_at d s w hand place (slice_get (letter_program d w hand) place.step) limits read refl
 stage_falls d s w hand beginning limits shape read = begins_falls d s w hand shape.rooted read
 stage_falls d s w hand (in_update views place) limits shape read = update_at d s w hand views place (slice_get (update_program d w views) place.step) limits read refl
-stage_falls d s w hand at_close limits shape read = end_falls d s w hand at_close read (omega arith)
+stage_falls d s w hand ending limits shape read = end_falls d s w hand ending read (omega arith)
 
 looper_at : (d : Declared) (s : State) (w : ℕ) (l : Looper) (act : Act) → IsWithinLimits d → HasShape d s → slice_get s.loopers w ≡ Some l → want_act d s (looper_want d s w l) ≡ Some act → Falls d s (looper_want d s w l)
 looper_at d s w (handling hand stage) act limits shape read legal = stage_falls d s w hand stage limits shape read

@@ -16,10 +16,10 @@ use Rattle.be_machine.specs.Commands.{drawn, flushed, flushed_into}
 use Rattle.be_machine.specs.Looper.{with_looper, with_cell, with_duty, with_duty_by, told}
 use Rattle.be_machine.specs.Port.{with_post}
 use Rattle.be_machine.specs.Program.{window_of, buffered}
-use Rattle.be_machine.specs.State.{State, Looper, free, locked, handling, in_body, beginning, in_update, at_close}
+use Rattle.be_machine.specs.State.{State, Looper, free, locked, handling, in_body, beginning, in_update, ending}
 use Rattle.be_machine.specs.Step.{in_own}
 use Rattle.be_machine.proofs.WorkParts.{apps_quiet, loopers_drop, ports_posted, ports_post, buffers_drawn, flush_pays}
-use Rattle.be_machine.proofs.WorkShares.{exposure, post_at, letter_share, looper_share, potential}
+use Rattle.be_machine.specs.Shares.{exposure, post_at, letter_share, looper_share, potential}
 
 -- ---- who acts stays where it is
 
@@ -65,7 +65,7 @@ duty_share : (d : Declared) (w : ℕ) (f : Duty → Duty) (l : Looper) → loope
 duty_share d w f (handling hand (in_body place)) = omega arith
 duty_share d w f (handling hand beginning) = omega arith
 duty_share d w f (handling hand (in_update views place)) = omega arith
-duty_share d w f (handling hand at_close) = omega arith
+duty_share d w f (handling hand ending) = omega arith
 duty_share d w f (locked m) = omega arith
 duty_share d w f free = omega arith
 

@@ -9,7 +9,7 @@ use Rattle.be_script.specs.Script.{Declared}
 use Rattle.be_script.specs.Windows.{tree_of}
 use Rattle.be_script.specs.Work.{work_of}
 use Rattle.be_machine.specs.declared.Entry.{Entry}
-use Rattle.be_machine.specs.History.{AreLegalFrom, IsLegalHistory, state_from}
+use Rattle.be_machine.specs.History.{AreLegalFrom, IsLegalHistory, state_from, state_after}
 use Rattle.be_machine.specs.State.{State, opening_state}
 use Rattle.be_machine.specs.Step.{step}
 use Rattle.be_machine.proofs.Lists.{AtPlace}
@@ -17,11 +17,11 @@ use Rattle.be_machine.proofs.NumbersGrow.{Grows, IsRooted}
 use Rattle.be_machine.proofs.NumbersSteps.{grows_step}
 use Rattle.be_machine.proofs.WorkFalls.{HasShape, potential_falls}
 use Rattle.be_machine.proofs.WorkOpening.{opening_potential}
-use Rattle.be_machine.proofs.WorkShares.{potential}
+use Rattle.be_machine.specs.Shares.{potential}
 
 -- ---- the shape
 
-shape_step : (d : Declared) (s : State) (e : Entry) → HasShape d s → HasShape d (step d s e)
+pub shape_step : (d : Declared) (s : State) (e : Entry) → HasShape d s → HasShape d (step d s e)
 shape_step d s e shape =
     let g : Grows 2 1 1 s (step d s e) = grows_step d s e in
     record { panes = g.panes ∙ shape.panes; ports = g.ports ∙ shape.ports; rooted = g.rooted shape.rooted }
@@ -39,13 +39,21 @@ tree_rooted : (d : Declared) (p : ℕ × WindowLine) → IsRooted (tree_of d p.0
 unfolding tree_of
 tree_rooted d p = refl
 
-shape_opening : (d : Declared) → HasShape d (opening_state d)
+pub shape_opening : (d : Declared) → HasShape d (opening_state d)
 unfolding opening_state
 shape_opening d = record {
   panes = length-map (enumerate_from 0 d.windows) _ ∙ enumerated 0 d.windows;
   ports = length-map d.windows _;
   rooted = each_mapped IsRooted (λ (p : ℕ × WindowLine). tree_of d p.0 p.1) (enumerate_from 0 d.windows) (tree_rooted d);
 }
+
+pub shape_from : (d : Declared) (s : State) (h : List Entry) → HasShape d s → HasShape d (state_from d s h)
+unfolding state_from
+shape_from d s [] shape = shape
+shape_from d s (e ∷ es) shape = shape_from d (step d s e) es (shape_step d s e shape)
+
+pub shape_after : (d : Declared) (h : List Entry) → HasShape d (state_after d h)
+shape_after d h = shape_from d (opening_state d) h (shape_opening d)
 
 -- ---- histories
 

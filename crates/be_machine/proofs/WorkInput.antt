@@ -28,7 +28,7 @@ use Rattle.be_machine.proofs.WorkEffects.{change_adds_updates}
 use Rattle.be_machine.proofs.WorkInstructions.{Falls}
 use Rattle.be_machine.proofs.WorkMessages.{message_within}
 use Rattle.be_machine.proofs.WorkParts.{ports_posted, input_used}
-use Rattle.be_machine.proofs.WorkShares.{letter_share, ports_share, dirt_share, is_dirty, potential}
+use Rattle.be_machine.specs.Shares.{letter_share, ports_share, dirt_share, is_dirty, potential}
 use Rattle.be_machine.proofs.WorkTwins.{by_dirt, changed_only}
 
 -- ---- messages

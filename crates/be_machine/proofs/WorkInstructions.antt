@@ -24,7 +24,7 @@ use Rattle.be_machine.specs.Step.{in_own, granted, is_accepted_wish, met}
 use Rattle.be_machine.specs.Wants.{Want, asks}
 use Rattle.be_machine.proofs.WorkGranted.{Keeps, keeps_own, flush_keeps, post_pays, own_flush, own_draw}
 use Rattle.be_machine.proofs.WorkMoves.{Moves, next_falls, second_falls, here_falls}
-use Rattle.be_machine.proofs.WorkShares.{exposure, here, post_at, potential}
+use Rattle.be_machine.specs.Shares.{exposure, here, post_at, potential}
 
 abbrev pub Falls : Declared → State → Want → Type 0
 Falls d s want = potential d (met d s want) < potential d s

@@ -30,7 +30,8 @@ use Rattle.be_machine.proofs.Lists.{at_here, both_second}
 use Rattle.be_machine.proofs.WorkGranted.{post_pays, told_keeps, duty_keeps}
 use Rattle.be_machine.proofs.WorkInstructions.{Falls, Runs, note_falls, post_falls, flush_falls, sync_falls, draw_falls}
 use Rattle.be_machine.proofs.WorkMoves.{next_falls, body_moves, update_moves}
-use Rattle.be_machine.proofs.WorkShares.{exposure, deed_exposure, effect_costs, post_at, body_step_cost, draw_cost, potential}
+use Rattle.be_machine.specs.Shares.{exposure, deed_exposure, post_at, body_step_cost, draw_cost, potential}
+use Rattle.be_machine.proofs.WorkShares.{effect_costs}
 
 -- ---- bodies
 

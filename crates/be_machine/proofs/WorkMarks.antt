@@ -26,7 +26,7 @@ use Rattle.be_machine.specs.Lists.{at}
 use Rattle.be_machine.proofs.Lists.{is_same_number}
 use Rattle.be_machine.proofs.WorkDirt.{KeepsClean, still_clean, none_from}
 use Rattle.be_machine.proofs.WorkWeights.{weight_at, weight_at_there}
-use Rattle.be_machine.proofs.WorkShares.{dirt, dirt_share, is_dirty}
+use Rattle.be_machine.specs.Shares.{dirt, dirt_share, is_dirty}
 
 -- ---- drawing keeps marks
 

@@ -14,7 +14,7 @@ use Rattle.be_machine.specs.Lists.{at}
 use Rattle.be_machine.specs.Program.{app_program, letter_program, update_program, gone_on, app_gone_on, looper_gone_on, moved_on}
 use Rattle.be_machine.specs.State.{State, App, Looper, handling, in_body, in_update}
 use Rattle.be_machine.proofs.WorkParts.{left_next, left_second, apps_turn, loopers_turn}
-use Rattle.be_machine.proofs.WorkShares.{here, left, app_cost, body_step_cost, draw_cost, apps_share, loopers_share, potential}
+use Rattle.be_machine.specs.Shares.{here, left, app_cost, body_step_cost, draw_cost, apps_share, loopers_share, potential}
 
 -- the actor's share falls as its program
 abbrev pub Moves : Declared → Runner → (Instruction → ℕ) → List Instruction → Place → State → Type 0

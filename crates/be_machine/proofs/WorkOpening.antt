@@ -17,8 +17,8 @@ use Rattle.be_update.specs.Sessions.{is_any, dirty_from, dirty_pixels}
 use Rattle.be_machine.specs.Program.{app_steps}
 use Rattle.be_machine.specs.State.{free, opening_state, opening_app, opening_desk}
 use Rattle.be_machine.proofs.WorkParts.{left_first}
-use Rattle.be_machine.proofs.WorkWeights.{weight_from, weightless}
-use Rattle.be_machine.proofs.WorkShares.{left, app_cost, letter_share, looper_share, in_buffer, in_link, dirt, is_dirty, apps_share, loopers_share, ports_share, buffers_share, links_share, dirt_share, input_share, potential}
+use Rattle.be_machine.proofs.WorkWeights.{weightless}
+use Rattle.be_machine.specs.Shares.{weight_from, left, app_cost, letter_share, looper_share, in_buffer, in_link, dirt, is_dirty, apps_share, loopers_share, ports_share, buffers_share, links_share, dirt_share, input_share, potential}
 
 -- ---- applications
 

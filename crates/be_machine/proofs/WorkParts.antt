@@ -26,7 +26,7 @@ use Rattle.be_machine.specs.State.{App, Looper}
 use Rattle.be_machine.specs.Windows.{ports_after}
 use Rattle.be_machine.proofs.Lists.{at_past}
 use Rattle.be_machine.proofs.WorkWeights.{weight_at, weight_at_there, sum_drop_push, sum_drop_read}
-use Rattle.be_machine.proofs.WorkShares.{exposure, in_link, in_buffer, here, here_of, left, post_at, app_cost, message_share, letter_share, looper_share, apps_share, loopers_share, ports_share, buffers_share, links_share, input_share}
+use Rattle.be_machine.specs.Shares.{exposure, in_link, in_buffer, here, here_of, left, post_at, app_cost, message_share, letter_share, looper_share, apps_share, loopers_share, ports_share, buffers_share, links_share, input_share}
 
 -- ---- places
 

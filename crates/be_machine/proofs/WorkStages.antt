@@ -30,7 +30,7 @@ use Rattle.be_machine.specs.Lists.{with_both}
 use Rattle.be_machine.specs.Looper.{freed, told_at_end, ended_hand, word_alone}
 use Rattle.be_machine.specs.Port.{take_act, letter_route, first_stage, with_letter_in_hand, taken}
 use Rattle.be_machine.specs.Program.{hand_in, hand_at, buffered, update_program}
-use Rattle.be_machine.specs.State.{State, Looper, free, locked, handling, Stage, beginning, in_update, at_close}
+use Rattle.be_machine.specs.State.{State, Looper, free, locked, handling, Stage, beginning, in_update, ending}
 use Rattle.be_machine.specs.Step.{met}
 use Rattle.be_machine.specs.Update.{listing_of, at_stage, opened, passed_by, begun}
 use Rattle.be_machine.specs.Wants.{takes, begins, flushes, draws_end, ends, end_want, draw_end_want}
@@ -44,7 +44,7 @@ use Rattle.be_machine.proofs.WorkGranted.{told_keeps, flushed_pays}
 use Rattle.be_machine.proofs.WorkInstructions.{Falls, by_test, no_room}
 use Rattle.be_machine.proofs.WorkMarks.{cleaned_none, cleaned_keeps, panes_clean}
 use Rattle.be_machine.proofs.WorkParts.{left_first, loopers_turn, ports_taken, buffers_drawn}
-use Rattle.be_machine.proofs.WorkShares.{body_step_cost, draw_cost, letter_share, stage_share, looper_share, is_dirty, potential}
+use Rattle.be_machine.specs.Shares.{body_step_cost, draw_cost, letter_share, stage_share, looper_share, is_dirty, potential}
 
 -- ---- flushes
 
@@ -80,7 +80,7 @@ end_falls d s w hand stage read some =
 
 draws_end_falls : (d : Declared) (s : State) (w : ℕ) (hand : Hand Message) (stage : Stage) → slice_get s.loopers w ≡ Some (handling hand stage) → 4 ≤ stage_share d w hand stage → Falls d s (draws_end w)
 unfolding met potential
-draws_end_falls d s w hand stage read some = omega (arith, loopers_turn d s.loopers w (at_stage at_close) (handling hand stage) read, buffers_drawn d s.buffers w EndUpdate)
+draws_end_falls d s w hand stage read some = omega (arith, loopers_turn d s.loopers w (at_stage ending) (handling hand stage) read, buffers_drawn d s.buffers w EndUpdate)
 
 pub draw_end_falls : (d : Declared) (s : State) (w : ℕ) (hand : Hand Message) (stage : Stage) → slice_get s.loopers w ≡ Some (handling hand stage) → 4 ≤ stage_share d w hand stage → Falls d s (draw_end_want s w)
 draw_end_falls d s w hand stage read some =
@@ -149,7 +149,7 @@ passed_falls : (d : Declared) (s : State) (w : ℕ) (hand : Hand Message) → is
 unfolding potential
 passed_falls d s w hand clean read = omega (
   arith,
-  loopers_turn d s.loopers w (at_stage at_close) (handling hand beginning) read,
+  loopers_turn d s.loopers w (at_stage ending) (handling hand beginning) read,
   panes_clean d s.desk s.screen s.panes w passed (is_clean s w clean),
 )
 

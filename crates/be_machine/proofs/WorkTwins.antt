@@ -29,7 +29,7 @@ use Rattle.be_machine.proofs.WorkEffects.{dirt_in, effect_adds}
 use Rattle.be_machine.proofs.WorkInstructions.{Falls}
 use Rattle.be_machine.proofs.WorkMarks.{panes_noticed}
 use Rattle.be_machine.proofs.WorkParts.{ports_noticed, ports_changed, links_shortened}
-use Rattle.be_machine.proofs.WorkShares.{exposure, going, is_dirty, apps_share, loopers_share, ports_share, buffers_share, links_share, input_share, potential}
+use Rattle.be_machine.specs.Shares.{exposure, going, is_dirty, apps_share, loopers_share, ports_share, buffers_share, links_share, input_share, potential}
 
 -- ---- notices
 

@@ -6,15 +6,7 @@ use Rattle.std.proofs.Math.Seq.{drop-nil}
 use Rattle.std.proofs.lemmas.List.Sums.{sum_by-cons, sum_by_push}
 use Rattle.std.proofs.lemmas.Option.{same_Some}
 use Rattle.be_machine.specs.Lists.{at, set_at}
-
--- the sum of what the elements weigh, the first of which has place k
-abbrev pub weight_from : {X : Type 0} → (ℕ → X → ℕ) → ℕ → List X → ℕ
-weight_from f k [] = 0
-weight_from f k (x ∷ xs) = f k x + weight_from f (k + 1) xs
-
--- the sum of what the elements weigh
-abbrev pub weight : {X : Type 0} → (ℕ → X → ℕ) → List X → ℕ
-weight f xs = weight_from f 0 xs
+use Rattle.be_machine.specs.Shares.{weight_from, weight}
 
 weight_from-set : {X : Type 0} (f : ℕ → X → ℕ) (k i j : ℕ) (xs : List X) (x y : X) → j ≡ k + i → slice_get xs i ≡ Some x → weight_from f k (slice_set xs i y) + f j x ≡ weight_from f k xs + f j y
 weight_from-set f k i j [] x y at e = cc
