@@ -32,6 +32,14 @@ pub mod BalanceEnd
 pub mod PixelRules
 pub mod PixelSteps
 pub mod PixelHistory
+pub mod PixelReach
+pub mod PixelColors
+pub mod Fitted
+pub mod FittedDesk
+pub mod FittedSteps
+pub mod PixelViews
+pub mod PixelExposed
+pub mod PixelMarks
 pub mod TouchedOthers
 pub mod TouchedParts
 pub mod TouchedSteps

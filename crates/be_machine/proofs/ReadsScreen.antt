@@ -16,9 +16,9 @@ use Rattle.be_span.specs.declared.Cell.{Cell}
 use Rattle.be_span.specs.Screen.{cell_at, each_cell, each_from}
 use Rattle.be_stack.specs.declared.fault.ChangeFault.{ChangeFault}
 use Rattle.be_stack.specs.Windows.{Windows}
-use Rattle.be_twin.specs.Executed.{executed_cell}
+use Rattle.be_twin.specs.Executed.{executed_cell, without_session}
 use Rattle.be_views.specs.Trees.{Tree}
-use Rattle.be_update.specs.Sessions.{is_any, cleaned_cell}
+use Rattle.be_update.specs.Sessions.{is_any, passed, cleaned_cell}
 use Rattle.be_machine.specs.Commands.{with_effect, done_at_view, executed_command, executed, sight_at}
 use Rattle.be_machine.specs.declared.Entry.{Entry}
 use Rattle.be_machine.specs.History.{AreLegalFrom, state_from}
@@ -32,7 +32,7 @@ use Rattle.be_machine.specs.Wants.{Want, asks, takes, begins, flushes, draws_end
 use Rattle.be_machine.specs.Windows.{owned, width_of, view_colors, corner_at, dirty_of, changed, changed_to}
 use Rattle.be_machine.proofs.LegalEntries.{IsMet, met_by}
 use Rattle.be_machine.proofs.PixelRules.{cell_by}
-use Rattle.be_machine.proofs.PixelSteps.{IsShown, shown, same_pixel, quiet_shown}
+use Rattle.be_machine.proofs.PixelSteps.{IsShown, shown, same_pixel, quiet_shown, colors_kept}
 use Rattle.be_machine.proofs.ProgressCases.{by_test, by_option}
 use Rattle.be_machine.proofs.Sizes.{IsAsMany, KeepsCounts, as_many, desk_sizes}
 
@@ -120,7 +120,7 @@ effect_screen pictures s w (at_view v deed) =
     by_option (SameScreen s) (done_at_view pictures s w v deed) s (slice_get s.panes w) (again s) (λ pane.
     ruled_screen s (done_at_view pictures s w v deed pane) (executed_cell pictures (owned s w) pane.colors deed (sight_at s w v pane)) (as_many s.desk) refl)
 effect_screen pictures s w (changes change) = changed_screen s w change
-effect_screen pictures s w ends_update = shown_screen s _ (record { windows = refl; trees = refl; screen = refl })
+effect_screen pictures s w ends_update = shown_screen s _ (record { windows = refl; trees = refl; colors = colors_kept s.panes w without_session (λ pane. refl); screen = refl })
 
 executed_screen : (d : Declared) (s : State) (w : ℕ) → SameScreen s (executed d s w)
 unfolding executed
@@ -134,7 +134,7 @@ unfolding begun
 begun_screen s w =
     by_test (SameScreen s) (is_any (dirty_of s w)) _ _
     (by_option (SameScreen s) (opened s w) s (corner_at s w) (again s) (λ corner. ruled_screen s (opened s w corner) (cleaned_cell (owned s w)) (as_many s.desk) refl))
-    (shown_screen s (passed_by s w) (record { windows = refl; trees = refl; screen = refl }))
+    (shown_screen s (passed_by s w) (record { windows = refl; trees = refl; colors = colors_kept s.panes w passed (λ pane. refl); screen = refl }))
 
 activated_screen : (s : State) (o : Option ℕ) → SameScreen s (activated s o)
 activated_screen s (Some w) = changed_screen s w Activate
@@ -148,7 +148,7 @@ event_screen s (line.Press p) = delivery_screen s (delivery_of s (event.Press p)
 event_screen s (line.Release p) = delivery_screen s (delivery_of s (event.Release p))
 event_screen s (line.Move p) = delivery_screen s (delivery_of s (event.Move p))
 event_screen s (line.Key key) = delivery_screen s (delivery_of s (event.Key key))
-event_screen s (line.After m) = shown_screen s _ (record { windows = refl; trees = refl; screen = refl })
+event_screen s (line.After m) = shown_screen s _ (record { windows = refl; trees = refl; colors = refl; screen = refl })
 
 want_screen : (d : Declared) (s : State) (want : Want) → SameScreen s (met d s want)
 unfolding met

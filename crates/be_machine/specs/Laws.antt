@@ -1,5 +1,6 @@
 -- What is proved of all legal histories, whoever steps. Each statement is the contract of a function in src/laws.
-use Rattle.std.specs.Prelude.{◌≡◌, ◌↔◌, ◌≤◌, ◌*◌, ℕ, ℤ, Bool, true, false, List, length, Option, Some, None, slice_get, option_map, option_and_then}
+-- PixelLaws goes on from here, on single pixels.
+use Rattle.std.specs.Prelude.{◌≡◌, ◌↔◌, ◌≤◌, ◌*◌, ℕ, ℤ, true, false, List, length, Some, None, slice_get, option_map, option_and_then}
 use Rattle.be_command.specs.Effects.{Deed, at_view, effect_of}
 use Rattle.be_command.specs.Limits.{is_drawing}
 use Rattle.be_link.specs.Queues.{Buffer, Numbered}
@@ -9,7 +10,6 @@ use Rattle.be_script.specs.Limits.{IsWithinLimits}
 use Rattle.be_script.specs.Script.{Declared}
 use Rattle.be_script.specs.Work.{work_of}
 use Rattle.be_span.specs.Cells.{desktop_cell}
-use Rattle.be_span.specs.declared.Cell.{Cell}
 use Rattle.be_machine.specs.Activities.{activity_of}
 use Rattle.be_machine.specs.Closing.{all_done, all_quiet}
 use Rattle.be_machine.specs.declared.Act.TheVariants.{Stop}
@@ -17,7 +17,7 @@ use Rattle.be_machine.specs.declared.Entry.{Entry}
 use Rattle.be_machine.specs.History.{IsLegalHistory, IsFinished, state_after}
 use Rattle.be_machine.specs.Legal.{IsLegal, legal_act}
 use Rattle.be_machine.specs.Orderly.{IsOrderly, EndsInStop}
-use Rattle.be_machine.specs.Pixels.{pixel_at, owner_in, Serves, Executes}
+use Rattle.be_machine.specs.Pixels.{pixel_at, mark_at, owner_in, Serves, Executes}
 use Rattle.be_machine.specs.Schedule.{IsScheduled}
 use Rattle.be_machine.specs.State.{State}
 use Rattle.be_machine.specs.Step.{step}
@@ -102,10 +102,6 @@ abbrev pub CommandsStayInside : Type 0
 CommandsStayInside =
     (d : Declared) (s : State) (e : Entry) (w v : ℕ) (c : Numbered) (deed : Deed) (x y : ℤ) → Executes d s e w c
     → effect_of c.command ≡ at_view v deed → owned s w x y ≡ false → pixel_at (step d s e) x y ≡ pixel_at s x y
-
--- whether the pixel waits to be drawn
-abbrev pub mark_at : State → ℤ → ℤ → Option Bool
-mark_at s x y = option_map (λ cell. cell.dirty) (pixel_at s x y)
 
 -- what draws leaves each mark
 abbrev pub DrawingLeavesMarks : Type 0

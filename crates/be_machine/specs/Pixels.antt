@@ -1,5 +1,6 @@
 -- What is said of single pixels of a state, and of who may change them.
-use Rattle.std.specs.Prelude.{◌≡◌, ◌⊎◌, ℕ, ℤ, Option, Some, slice_get, option_and_then}
+use Rattle.std.specs.Prelude.{◌≡◌, ◌⊎◌, ℕ, ℤ, Bool, Option, Some, slice_get, option_map, option_and_then}
+use Rattle.be_color.specs.declared.colors.Rgb.{Rgb}
 use Rattle.be_link.specs.Queues.{Numbered}
 use Rattle.be_script.specs.Script.{Declared}
 use Rattle.be_span.specs.Screen.{cell_at}
@@ -15,6 +16,13 @@ use Rattle.be_machine.specs.Windows.{width_of}
 -- the cell at a column and a row of the screen; none off the screen
 abbrev pub pixel_at : State → ℤ → ℤ → Option Cell
 pixel_at s x y = cell_at (width_of s) s.screen x y
+
+-- its colour, and whether it waits to be drawn
+abbrev pub color_at : State → ℤ → ℤ → Option Rgb
+color_at s x y = option_map (λ cell. cell.rgb) (pixel_at s x y)
+
+abbrev pub mark_at : State → ℤ → ℤ → Option Bool
+mark_at s x y = option_map (λ cell. cell.dirty) (pixel_at s x y)
 
 -- the window that owns the pixel; none on the desktop and off the screen
 abbrev pub owner_in : State → ℤ → ℤ → Option ℕ

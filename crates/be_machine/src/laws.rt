@@ -1,11 +1,16 @@
 //! What holds of every legal history. Each law is the contract of a function with an empty body.
 
+mod cells;
 mod counts;
 mod orderly;
 mod pixels;
 mod progress;
 mod touched;
 
+pub use cells::{
+    colors_change_by_commands_and_events, commands_reach_their_view_alone,
+    every_owned_pixel_has_a_view_and_a_color, what_is_exposed_is_marked,
+};
 pub use counts::{no_history_outgrows_its_work, numbers_stay_small};
 pub use orderly::every_history_is_orderly;
 pub use pixels::{
