@@ -1,0 +1,120 @@
+-- What is proved of the rules. Each statement is the contract of a function in src/laws.rt.
+use Rattle.std.specs.Prelude.{◌≡◌, ◌+◌, ◌≤◌, ℕ, true, List, Some, None}
+use Rattle.be_hall.specs.Machine.{Fits, HeldFit, IsHeld, IsReady}
+use Rattle.be_hall.specs.Numbers.{total}
+use Rattle.be_script.specs.Limits.{IsWithinLimits}
+use Rattle.be_script.specs.Script.{Declared}
+use Rattle.be_script.specs.Work.{work_of}
+use Rattle.be_machine.specs.Activities.{Activity, activities, activity_of}
+use Rattle.be_machine.specs.declared.Act.{Act}
+use Rattle.be_machine.specs.declared.Act.TheVariants.{Stop}
+use Rattle.be_machine.specs.declared.Entry.{Entry}
+use Rattle.be_machine.specs.History.{IsLegalHistory, state_after}
+use Rattle.be_machine.specs.Legal.{IsLegal, legal_act, want_act}
+use Rattle.be_machine.specs.State.{opening_state}
+use Rattle.be_machine.specs.Step.{step}
+use Rattle.be_machine.specs.Touched.{Part}
+use Rattle.be_machine.specs.Wants.{Want, stops, want_of}
+use Rattle.be_rules.specs.Found.{CannotAct, NeedsPart, OwnHeld}
+use Rattle.be_rules.specs.Places.{IsPart, place_of}
+use Rattle.be_rules.specs.Rules.{IsSound, IsNext, SliceFits, TouchesAt, world_machine}
+use Rattle.be_rules.specs.Shares.{share}
+use Rattle.be_rules.specs.Slices.{Slice, slices, state_of}
+use Rattle.be_rules.specs.Sure.{IsAmong, in_hand, parts_by, seen_in}
+
+-- ---- cutting a state
+
+-- the slices of a state after a legal history are put together to that state again
+abbrev pub SlicesAreTheState : Type 0
+SlicesAreTheState =
+    (d : Declared) (h : List Entry) → IsWithinLimits d → IsLegalHistory d h
+    → state_of d (slices d (state_after d h)) ≡ state_after d h
+
+-- those of the opening are sound, and can bring no more entries than the script's work
+abbrev pub OpeningIsSound : Type 0
+OpeningIsSound = (d : Declared) → IsWithinLimits d → IsSound d (slices d (opening_state d))
+
+abbrev pub OpeningIsWithinWork : Type 0
+OpeningIsWithinWork =
+    (d : Declared) → IsWithinLimits d → total (share d) (slices d (opening_state d)) ≤ work_of d
+
+-- ---- with some parts in hand
+
+-- an entry that is legal in one sound list with these parts, and touches none but them there, is so in each
+abbrev pub OneListTellsAll : Type 0
+OneListTellsAll =
+    (d : Declared) (e : Entry) (held : List (ℕ × Slice)) (all : List Slice) → IsSound d all → Fits all held
+    → IsLegal d (state_of d all) e → ((p : ℕ) → TouchesAt d (state_of d all) e p → IsHeld held p)
+    → IsReady (world_machine d) held e
+
+-- then there is what it makes of them, whatever the other parts are
+abbrev pub NextIsKnown : Type 0
+NextIsKnown =
+    (d : Declared) (e : Entry) (held : List (ℕ × Slice)) (all : List Slice) → IsSound d all → Fits all held
+    → IsReady (world_machine d) held e → (next : List (ℕ × Slice)) × IsNext d held e next
+
+-- and it has grown by one entry at most
+abbrev pub NextFits : Type 0
+NextFits =
+    (d : Declared) (n : ℕ) (e : Entry) (held next : List (ℕ × Slice)) (all : List Slice)
+    → IsSound d all → Fits all held → IsReady (world_machine d) held e → IsNext d held e next
+    → HeldFit SliceFits n held → HeldFit SliceFits (n + 1) next
+
+-- ---- with an activity's own parts in hand
+
+-- it wants the same in every sound list with these parts
+abbrev pub WantsAreKnown : Type 0
+WantsAreKnown =
+    (d : Declared) (held : List (ℕ × Slice)) (all other : List Slice) (who : Activity)
+    → IsSound d all → IsSound d other → Fits all held → Fits other held → OwnHeld d held all who
+    → want_of d (state_of d other) who ≡ want_of d (state_of d all) who
+
+-- a part that is told by the parts in hand, and isn't among them, is touched in every such list
+abbrev pub PartsAreNeeded : Type 0
+PartsAreNeeded =
+    (d : Declared) (held : List (ℕ × Slice)) (all : List Slice) (a : ℕ) (who : Activity) (want : Want) (p : Part)
+    → IsSound d all → Fits all held → activity_of d a ≡ Some who → OwnHeld d held all who
+    → want_of d (state_of d all) who ≡ Some want → IsPart d p → IsAmong p (parts_by (in_hand d held) want)
+    → (IsHeld held (place_of d p) → ⊥) → NeedsPart d held a (place_of d p)
+
+-- where all that it touches for sure is in hand, and it has no legal entry in one list, it has none in any
+abbrev pub WaitingIsKnown : Type 0
+WaitingIsKnown =
+    (d : Declared) (held : List (ℕ × Slice)) (all : List Slice) (a : ℕ) (who : Activity) (want : Want)
+    → IsSound d all → Fits all held → activity_of d a ≡ Some who → OwnHeld d held all who
+    → want_of d (state_of d all) who ≡ Some want → (want ≡ stops → ⊥)
+    → ((p : Part) → IsAmong p (parts_by (seen_in (state_of d all)) want) → IsHeld held (place_of d p))
+    → want_act d (state_of d all) want ≡ None → CannotAct d held a
+
+-- and where it wants nothing in one list it has no legal entry in any
+abbrev pub EndingIsKnown : Type 0
+EndingIsKnown =
+    (d : Declared) (held : List (ℕ × Slice)) (all : List Slice) (a : ℕ) (who : Activity)
+    → IsSound d all → Fits all held → activity_of d a ≡ Some who → OwnHeld d held all who
+    → want_of d (state_of d all) who ≡ None → CannotAct d held a
+
+-- ---- the end
+
+-- where nobody has a legal entry the run has stopped
+abbrev pub NobodyIsStuck : Type 0
+NobodyIsStuck =
+    (d : Declared) (all : List Slice) → IsSound d all
+    → ((e : Entry) → IsLegal d (state_of d all) e → ⊥) → (state_of d all).stopped ≡ true
+
+-- Stop alone stops it
+abbrev pub StopStops : Type 0
+StopStops =
+    (d : Declared) (all : List Slice) (e : Entry) → IsSound d all → IsLegal d (state_of d all) e
+    → (state_of d (slices d (step d (state_of d all) e))).stopped ≡ true → e.act ≡ Stop
+
+-- nothing is legal after it
+abbrev pub NothingFollows : Type 0
+NothingFollows =
+    (d : Declared) (all : List Slice) (s e : Entry) → IsSound d all → IsLegal d (state_of d all) s → s.act ≡ Stop
+    → IsLegal d (state_of d (slices d (step d (state_of d all) s))) e → ⊥
+
+-- the last activity makes no other entry
+abbrev pub LastOneStops : Type 0
+LastOneStops =
+    (d : Declared) (all : List Slice) (a : ℕ) (act : Act) → a + 1 ≡ activities d
+    → legal_act d (state_of d all) a ≡ Some act → act ≡ Stop

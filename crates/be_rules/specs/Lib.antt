@@ -1,0 +1,9 @@
+pub mod Slices
+pub mod Shares
+pub mod Rules
+pub mod Own
+pub mod Sure
+pub mod Far
+pub mod Places
+pub mod Found
+pub mod Laws

@@ -1,0 +1,44 @@
+ghost use Rattle.be_hall.specs.Machine.{Lawful};
+ghost use Rattle.be_rules.specs.Laws.{SlicesAreTheState, OpeningIsSound, OpeningIsWithinWork, OneListTellsAll, NextIsKnown, NextFits, WantsAreKnown, PartsAreNeeded, WaitingIsKnown, EndingIsKnown, NobodyIsStuck, StopStops, NothingFollows, LastOneStops};
+ghost use Rattle.be_rules.specs.Rules.{world_machine};
+ghost use Rattle.be_script.specs.Script.{Declared};
+
+/// The rules keep what a hall asks of rules, whatever the script.
+pub fn the_rules_are_lawful()
+    ensures { (d : Declared) → Lawful (world_machine d) }
+{}
+
+/// Nothing is lost where a state is cut into slices.
+pub fn slices_are_the_state()
+    ensures { SlicesAreTheState }
+{}
+
+/// A run may begin with the slices of the opening.
+pub fn the_opening_is_sound()
+    ensures sound { OpeningIsSound }
+    ensures work { OpeningIsWithinWork }
+{}
+
+/// Whoever has the parts that an entry touches knows that it is legal, and what it makes of them.
+pub fn one_list_tells_all()
+    ensures ready { OneListTellsAll }
+    ensures next { NextIsKnown }
+    ensures fits { NextFits }
+{}
+
+/// Whoever has an activity's own parts knows what it wants; which parts beside them it touches is seen
+/// in the parts in hand.
+pub fn own_parts_tell_what_is_wanted()
+    ensures wants { WantsAreKnown }
+    ensures needs { PartsAreNeeded }
+    ensures waits { WaitingIsKnown }
+    ensures ends { EndingIsKnown }
+{}
+
+/// A run goes on until Stop, and no further.
+pub fn nobody_is_stuck()
+    ensures stuck { NobodyIsStuck }
+    ensures stops { StopStops }
+    ensures follows { NothingFollows }
+    ensures last { LastOneStops }
+{}
