@@ -25,7 +25,7 @@ use Rattle.be_rules.proofs.Local.{is_part, at_place, part_by, others_same}
 use Rattle.be_rules.proofs.NotYet.{waits_by}
 use Rattle.be_rules.proofs.WantBy.{BothSettled, both_settled, want_by}
 
-same_place : (all other : List Slice) (held : List (ℕ × Slice)) (p : ℕ) → Fits all held → Fits other held → IsHeld held p → get_elem? all p ≡ get_elem? other p
+pub same_place : (all other : List Slice) (held : List (ℕ × Slice)) (p : ℕ) → Fits all held → Fits other held → IsHeld held p → get_elem? all p ≡ get_elem? other p
 same_place all other [] p f g h = absurd h
 same_place all other (x ∷ xs) p f g h = ⊎_elim (λ is. ap (get_elem? all) (sym is) ∙ f.0 ∙ sym g.0 ∙ ap (get_elem? other) is) (λ later. same_place all other xs p f.1 g.1 later) h
 

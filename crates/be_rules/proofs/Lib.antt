@@ -18,3 +18,5 @@ pub mod Begins
 pub mod Locks
 pub mod Ending
 pub mod Told
+pub mod Spots
+pub mod Far

@@ -147,6 +147,17 @@ there_in (z ∷ zs) (suc i) x e = let h = there_in zs i x e in omega arith
 pub same_elements : {X : Type 0} (x y : X) → some x ≡ some y → x ≡ y
 same_elements x y e = some-injective x y e
 
+pub same_by_elements : {X : Type 0} (xs ys : List X) → ((i : ℕ) → get_elem? xs i ≡ get_elem? ys i) → xs ≡ ys
+same_by_elements [] [] h = refl
+same_by_elements [] (y ∷ ys) h = absurd (some-ne-none y (sym (h 0)))
+same_by_elements (x ∷ xs) [] h = absurd (some-ne-none x (h 0))
+same_by_elements (x ∷ xs) (y ∷ ys) h = λ i. same_elements x y (h 0) i ∷ same_by_elements xs ys (λ j. h (suc j)) i
+
+pub past_elements : {X : Type 0} (xs : List X) (i : ℕ) → length xs ≤ i → get_elem? xs i ≡ none
+past_elements [] i le = refl
+past_elements (x ∷ xs) zero le = absurd (omega arith)
+past_elements (x ∷ xs) (suc i) le = past_elements xs i (omega arith)
+
 abbrev pub slice_or : {X : Type 0} → X → opt.Option X → X
 slice_or x (some y) = y
 slice_or x none = x

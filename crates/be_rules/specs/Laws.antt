@@ -1,25 +1,34 @@
 -- What is proved of the rules. Each statement is the contract of a function in src/laws.rt.
-use Rattle.std.specs.Prelude.{◌≡◌, ◌+◌, ◌≤◌, ℕ, true, List, Some, None}
+use Rattle.std.specs.Prelude.{◌≡◌, ◌+◌, ◌<◌, ◌≤◌, ℕ, true, List, length, Some, None, slice_get, option_and_then}
+use Rattle.be_command.specs.Effects.{changes, effect_of}
+use Rattle.be_geom.specs.declared.change.Change.{Change}
+use Rattle.be_geom.specs.declared.change.Change.TheVariants.{Activate}
 use Rattle.be_hall.specs.Machine.{Fits, HeldFit, IsHeld, IsReady}
 use Rattle.be_hall.specs.Numbers.{total}
+use Rattle.be_input.specs.declared.Event.{Event}
+use Rattle.be_link.specs.Queues.{Numbered}
+use Rattle.be_script.specs.declared.InputLine.{InputLine}
 use Rattle.be_script.specs.Limits.{IsWithinLimits}
 use Rattle.be_script.specs.Script.{Declared}
 use Rattle.be_script.specs.Work.{work_of}
-use Rattle.be_machine.specs.Activities.{Activity, activities, activity_of}
+use Rattle.be_machine.specs.Activities.{Activity, activities, activity_of, input, twin}
 use Rattle.be_machine.specs.declared.Act.{Act}
 use Rattle.be_machine.specs.declared.Act.TheVariants.{Stop}
 use Rattle.be_machine.specs.declared.Entry.{Entry}
 use Rattle.be_machine.specs.History.{IsLegalHistory, state_after}
+use Rattle.be_machine.specs.Input.{delivery_of}
 use Rattle.be_machine.specs.Legal.{IsLegal, legal_act, want_act}
 use Rattle.be_machine.specs.State.{opening_state}
 use Rattle.be_machine.specs.Step.{step}
 use Rattle.be_machine.specs.Touched.{Part}
-use Rattle.be_machine.specs.Wants.{Want, stops, want_of}
+use Rattle.be_machine.specs.Touched as part
+use Rattle.be_machine.specs.Wants.{Want, executes, stops, uses, want_of}
+use Rattle.be_rules.specs.Far.{IsAltered, event_in}
 use Rattle.be_rules.specs.Found.{CannotAct, NeedsPart, OwnHeld}
 use Rattle.be_rules.specs.Places.{IsPart, place_of}
 use Rattle.be_rules.specs.Rules.{IsSound, IsNext, SliceFits, TouchesAt, world_machine}
 use Rattle.be_rules.specs.Shares.{share}
-use Rattle.be_rules.specs.Slices.{Slice, slices, state_of}
+use Rattle.be_rules.specs.Slices.{Slice, all_parts, slices, state_of}
 use Rattle.be_rules.specs.Sure.{IsAmong, in_hand, parts_by, seen_in}
 
 -- ---- cutting a state
@@ -92,6 +101,36 @@ EndingIsKnown =
     (d : Declared) (held : List (ℕ × Slice)) (all : List Slice) (a : ℕ) (who : Activity)
     → IsSound d all → Fits all held → activity_of d a ≡ Some who → OwnHeld d held all who
     → want_of d (state_of d all) who ≡ None → CannotAct d held a
+
+-- with all parts in hand an activity that has no legal entry in one list has none in any
+abbrev pub AllPartsTell : Type 0
+AllPartsTell =
+    (d : Declared) (held : List (ℕ × Slice)) (all : List Slice) (a : ℕ) → IsSound d all → Fits all held
+    → ((p : ℕ) → p < length (all_parts d) → IsHeld held p) → legal_act d (state_of d all) a ≡ None
+    → CannotAct d held a
+
+-- ---- panes that a change alters
+
+-- the twin needs the pane of each window that the change at the front of its link alters
+abbrev pub AlteredAreNeeded : Type 0
+AlteredAreNeeded =
+    (d : Declared) (held : List (ℕ × Slice)) (all : List Slice) (a w u : ℕ) (c : Numbered) (change : Change)
+    → IsSound d all → Fits all held → activity_of d a ≡ Some (twin w) → OwnHeld d held all (twin w)
+    → IsHeld held (place_of d part.desk) → IsHeld held (place_of d (part.link w))
+    → want_of d (state_of d all) (twin w) ≡ Some (executes w)
+    → option_and_then (λ l. slice_get l 0) (slice_get (state_of d all).links w) ≡ Some c
+    → effect_of c.command ≡ changes change → IsAltered (state_of d all).desk w change u → IsPart d (part.pane u)
+    → (IsHeld held (place_of d (part.pane u)) → ⊥) → NeedsPart d held a (place_of d (part.pane u))
+
+-- and input that of each window that is altered where an event activates a window
+abbrev pub ActivatedAreNeeded : Type 0
+ActivatedAreNeeded =
+    (d : Declared) (held : List (ℕ × Slice)) (all : List Slice) (a w u : ℕ) (it : InputLine) (ev : Event)
+    → IsSound d all → Fits all held → event_in it ≡ Some ev → activity_of d a ≡ Some input
+    → OwnHeld d held all input → IsHeld held (place_of d part.desk)
+    → want_of d (state_of d all) input ≡ Some (uses it) → (delivery_of (state_of d all) ev).activate ≡ Some w
+    → IsAltered (state_of d all).desk w Activate u → IsPart d (part.pane u)
+    → (IsHeld held (place_of d (part.pane u)) → ⊥) → NeedsPart d held a (place_of d (part.pane u))
 
 -- ---- the end
 

@@ -1,5 +1,5 @@
 ghost use Rattle.be_hall.specs.Machine.{Lawful};
-ghost use Rattle.be_rules.specs.Laws.{SlicesAreTheState, OpeningIsSound, OpeningIsWithinWork, OneListTellsAll, NextIsKnown, NextFits, WantsAreKnown, PartsAreNeeded, WaitingIsKnown, EndingIsKnown, NobodyIsStuck, StopStops, NothingFollows, LastOneStops};
+ghost use Rattle.be_rules.specs.Laws.{SlicesAreTheState, OpeningIsSound, OpeningIsWithinWork, OneListTellsAll, NextIsKnown, NextFits, WantsAreKnown, PartsAreNeeded, WaitingIsKnown, EndingIsKnown, AllPartsTell, AlteredAreNeeded, ActivatedAreNeeded, NobodyIsStuck, StopStops, NothingFollows, LastOneStops};
 ghost use Rattle.be_rules.specs.Rules.{world_machine};
 ghost use Rattle.be_script.specs.Script.{Declared};
 
@@ -33,6 +33,13 @@ pub fn own_parts_tell_what_is_wanted()
     ensures needs { PartsAreNeeded }
     ensures waits { WaitingIsKnown }
     ensures ends { EndingIsKnown }
+    ensures all { AllPartsTell }
+{}
+
+/// The panes of the windows that a change alters are known once the desk is in hand.
+pub fn altered_panes_are_needed()
+    ensures changed { AlteredAreNeeded }
+    ensures activated { ActivatedAreNeeded }
 {}
 
 /// A run goes on until Stop, and no further.
