@@ -20,3 +20,4 @@ pub mod Ending
 pub mod Told
 pub mod Spots
 pub mod Far
+pub mod Named
