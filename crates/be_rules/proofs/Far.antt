@@ -1,5 +1,5 @@
 -- The pane of a window that owns other pixels after a change is touched, in every sound list with the parts in hand.
-use Rattle.std.proofs.Common.{◌≡◌, ℕ, ◌<◌, List, Option, Some, None, Result, Ok, Err, inl, inr, refl, sym, ap, subst, ◌∙◌}
+use Rattle.std.proofs.Common.{◌≡◌, ℕ, List, Option, Some, Result, Ok, Err, inr, refl, sym, ap, subst, ◌∙◌}
 use Rattle.std.specs.Prelude.{slice_get, option_and_then}
 use Rattle.std.specs.Option.{option_map_or}
 use Rattle.std.proofs.lemmas.Option.{same_Some}
@@ -129,18 +129,18 @@ needs_touched d held all sound fits a who want p number own wanted there out tou
 pub needs_altered : (d : Declared) (held : List (ℕ × Slice)) (all : List Slice) (sound : IsSound d all) → Fits all held → (a w u : ℕ) (c : Numbered) (change : Change) → activity_of d a ≡ Some (twin w) → OwnHeld d held all (twin w) → IsHeld held (place_of d part.desk) → IsHeld held (place_of d (part.link w)) → want_of d (state d all sound) (twin w) ≡ Some (executes w) → option_and_then (λ l. slice_get l 0) (slice_get (state d all sound).links w) ≡ Some c → effect_of c.command ≡ changes change → IsAltered (state d all sound).desk w change u → IsPart d (pane u) → (IsHeld held (place_of d (pane u)) → ⊥) → NeedsPart d held a (place_of d (pane u))
 needs_altered d held all sound fits a w u c change number own desk link wanted front effect other there out =
     needs_touched d held all sound fits a (twin w) (executes w) (pane u) number own wanted there out (λ more sound' fits' e wants.
-        let r : State = state d more sound' in
-        let same : r.desk ≡ (state d all sound).desk = same_in_hand d held all more sound sound' fits fits' part.desk desk in
-        let queue : slice_get r.links w ≡ slice_get (state d all sound).links w = same_in_hand d held all more sound sound' fits fits' (part.link w) link in
-        exec_touches d r e w u c change wants (ap (option_and_then (λ l. slice_get l 0)) queue ∙ front) effect (subst (λ k. IsAltered k w change u) (sym same) other))
+    let r : State = state d more sound' in
+    let same : r.desk ≡ (state d all sound).desk = same_in_hand d held all more sound sound' fits fits' part.desk desk in
+    let queue : slice_get r.links w ≡ slice_get (state d all sound).links w = same_in_hand d held all more sound sound' fits fits' (part.link w) link in
+    exec_touches d r e w u c change wants (ap (option_and_then (λ l. slice_get l 0)) queue ∙ front) effect (subst (λ k. IsAltered k w change u) (sym same) other))
 
 -- with the desk in hand, those of the windows that own other pixels once an event activates its window
 event_needs : (d : Declared) (held : List (ℕ × Slice)) (all : List Slice) (sound : IsSound d all) → Fits all held → (a w u : ℕ) (it : InputLine) (ev : Event) → ((s : State) → IsEvent s it (delivery_of s ev)) → activity_of d a ≡ Some input → OwnHeld d held all input → IsHeld held (place_of d part.desk) → want_of d (state d all sound) input ≡ Some (uses it) → (delivery_of (state d all sound) ev).activate ≡ Some w → IsAltered (state d all sound).desk w Activate u → IsPart d (pane u) → (IsHeld held (place_of d (pane u)) → ⊥) → NeedsPart d held a (place_of d (pane u))
 event_needs d held all sound fits a w u it ev is number own desk wanted active other there out =
     needs_touched d held all sound fits a input (uses it) (pane u) number own wanted there out (λ more sound' fits' e wants.
-        let r : State = state d more sound' in
-        let same : r.desk ≡ (state d all sound).desk = same_in_hand d held all more sound sound' fits fits' part.desk desk in
-        event_touches d r e it (delivery_of r ev) w u wants (is r) (ap (λ (k : Desk). (delivered k.windows k.pointing ev).activate) same ∙ active) (subst (λ k. IsAltered k w Activate u) (sym same) other))
+    let r : State = state d more sound' in
+    let same : r.desk ≡ (state d all sound).desk = same_in_hand d held all more sound sound' fits fits' part.desk desk in
+    event_touches d r e it (delivery_of r ev) w u wants (is r) (ap (λ (k : Desk). (delivered k.windows k.pointing ev).activate) same ∙ active) (subst (λ k. IsAltered k w Activate u) (sym same) other))
 
 is_event : (it : InputLine) (ev : Event) → event_in it ≡ Some ev → (s : State) → IsEvent s it (delivery_of s ev)
 is_event (line.Press at) ev e s = subst (λ v. IsEvent s (line.Press at) (delivery_of s v)) (same_Some (event.Press at) ev e) (record { leaves = refl; touches = λ r p h. h })

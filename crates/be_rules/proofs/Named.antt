@@ -1,6 +1,6 @@
 -- The parts that an activity's want names are the script's, but for those that an event names.
-use Rattle.std.proofs.Common.{◌≡◌, ℕ, zero, suc, ◌+◌, ◌<◌, ◌≤◌, Bool, true, false, List, [], ◌∷◌, ◌++◌, length, Option, Some, None, ◌⊎◌, inl, inr, ⊎_elim, refl, sym, ap, subst, ◌∙◌, arith}
-use Rattle.std.specs.Prelude.{◌==◌, ◌&&◌, nat_lt, drop, position, slice_get, option_map, option_and_then, if◌then◌else◌}
+use Rattle.std.proofs.Common.{◌≡◌, ℕ, zero, suc, ◌+◌, ◌<◌, ◌≤◌, Bool, true, false, List, [], ◌∷◌, ◌++◌, length, Option, Some, None, inl, inr, refl, sym, ap, subst, arith}
+use Rattle.std.specs.Prelude.{◌==◌, ◌&&◌, nat_lt, drop, slice_get, option_map, option_and_then, if◌then◌else◌}
 use Rattle.std.proofs.lemmas.Bool.Decides.{nat_tests}
 use Rattle.std.proofs.lemmas.List.Quantifiers.{position-Some}
 use Rattle.std.proofs.lemmas.Option.{same_Some}
@@ -17,21 +17,18 @@ use Rattle.be_looper.specs.Duties.{Hand, waiter}
 use Rattle.be_message.specs.Messages.{Message}
 use Rattle.be_port.specs.declared.Duty.{Duty}
 use Rattle.be_port.specs.declared.Duty.TheVariants.{Owed, Done, Free}
-use Rattle.be_script.specs.declared.InputLine.{InputLine}
 use Rattle.be_script.specs.Limits.{IsWithinLimits}
 use Rattle.be_script.specs.Programs.{is_app_step, is_body_step, is_draw_step}
 use Rattle.be_script.specs.Script.{Declared}
 use Rattle.be_machine.specs.Activities as by
 use Rattle.be_machine.specs.Activities.{Activity, Runner, runner, twin, input, closing}
-use Rattle.be_machine.specs.Program.{app_program, buffered, is_locked_by, letter_program, update_program, body_wish}
+use Rattle.be_machine.specs.Program.{app_program, buffered, is_locked_by, letter_program, update_program}
 use Rattle.be_machine.specs.State.{State, App, Looper, free, locked, handling, Stage, in_body, beginning, in_update, ending}
 use Rattle.be_machine.specs.Touched.{Part, desk, cell, looper, port, link, pane, own_part}
-use Rattle.be_machine.specs.Touched as part
 use Rattle.be_machine.specs.Update.{owes_notice}
-use Rattle.be_machine.specs.Wants.{Want, asks, takes, begins, flushes, draws_end, ends, notifies, executes, uses, stops, asks_or, end_want, draw_end_want, stage_want, looper_want, want_of}
-use Rattle.be_machine.proofs.HasParts.{HasParts}
+use Rattle.be_machine.specs.Wants.{Want, asks, flushes, draws_end, ends, notifies, executes, stops, asks_or, end_want, draw_end_want, stage_want, looper_want, want_of}
 use Rattle.be_machine.proofs.Histories.{InRange}
-use Rattle.be_machine.proofs.Lists.{IsThere, there, all_get}
+use Rattle.be_machine.proofs.Lists.{all_get}
 use Rattle.be_machine.proofs.ProgressAfter.{IsSettled}
 use Rattle.be_machine.proofs.ProgressCan.{is_below}
 use Rattle.be_machine.proofs.ProgressCases.{by_outcome}

@@ -19,6 +19,8 @@ use Rattle.be_machine.specs.State.{State}
 use Rattle.be_machine.specs.Touched.{Part}
 use Rattle.be_machine.specs.Touched as part
 use Rattle.be_machine.specs.Wants.{Want, executes, stops, uses, want_of}
+use Rattle.be_machine.proofs.Histories.{in_range}
+use Rattle.be_machine.proofs.ProgressAfter.{IsSettled, settled_after}
 use Rattle.be_rules.specs.Far.{IsAltered, event_in}
 use Rattle.be_rules.specs.Found.{CannotAct, NeedsPart, OwnHeld}
 use Rattle.be_rules.specs.Places.{IsPart, place_of}
@@ -29,10 +31,17 @@ use Rattle.be_rules.proofs.Everywhere.{same_place, wants_same, needs_part, canno
 use Rattle.be_rules.proofs.Far.{needs_altered, needs_activated}
 use Rattle.be_rules.proofs.Lawfully.{state, back}
 use Rattle.be_rules.proofs.ListLemmas.{past_elements, same_by_elements}
+use Rattle.be_rules.proofs.Named.{parts_named}
 
 pub wants_known : (d : Declared) (held : List (ℕ × Slice)) (all other : List Slice) (who : Activity) → IsSound d all → IsSound d other → Fits all held → Fits other held → OwnHeld d held all who → want_of d (state_of d other) who ≡ want_of d (state_of d all) who
 wants_known d held all other who sound sound' fits fits' own =
     ap (λ s. want_of d s who) (back d other sound') ∙ wants_same d held all other sound sound' fits fits' who own ∙ ap (λ s. want_of d s who) (sym (back d all sound))
+
+pub parts_are_known : (d : Declared) (all : List Slice) (a : ℕ) (who : Activity) (want : Want) (p : Part) → IsSound d all → activity_of d a ≡ Some who → (who ≡ input → ⊥) → want_of d (state_of d all) who ≡ Some want → IsAmong p (parts_by (seen_in (state_of d all)) want) → IsPart d p
+parts_are_known d all a who want p sound number other wanted among =
+    let is : state_of d all ≡ state d all sound = back d all sound in
+    let settled : IsSettled d (state d all sound) = settled_after d sound.history sound.limits sound.legal in
+    parts_named d (state d all sound) settled sound.limits who want (in_range d a who number) other (subst (λ s. want_of d s who ≡ Some want) is wanted) p (subst (λ s. IsAmong p (parts_by (seen_in s) want)) is among)
 
 pub parts_needed : (d : Declared) (held : List (ℕ × Slice)) (all : List Slice) (a : ℕ) (who : Activity) (want : Want) (p : Part) → IsSound d all → Fits all held → activity_of d a ≡ Some who → OwnHeld d held all who → want_of d (state_of d all) who ≡ Some want → IsPart d p → IsAmong p (parts_by (in_hand d held) want) → (IsHeld held (place_of d p) → ⊥) → NeedsPart d held a (place_of d p)
 parts_needed d held all a who want p sound fits number own wanted there among out =

@@ -31,7 +31,8 @@ step_of d m a = slice_get (app_program d m) a.place.step
 abbrev pub SameOwn : Declared → State → State → Activity → Type 0
 SameOwn d s r (runner (app m)) =
     SamePart s r (part.cell m)
-    × ((a : App) (w : ℕ) → slice_get s.apps m ≡ Some a → reads_buffer (step_of d m a) ≡ true → lock_of d m a ≡ Some w → SamePart s r (part.looper w))
+    × ((a : App) (w : ℕ) → slice_get s.apps m ≡ Some a → reads_buffer (step_of d m a) ≡ true
+    → lock_of d m a ≡ Some w → SamePart s r (part.looper w))
 SameOwn d s r (runner (looper w)) = SamePart s r (part.looper w)
 SameOwn d s r (twin w) = SamePart s r (part.pane w)
 SameOwn d s r input = SamePart s r part.input

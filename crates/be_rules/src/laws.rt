@@ -1,5 +1,5 @@
 ghost use Rattle.be_hall.specs.Machine.{Lawful};
-ghost use Rattle.be_rules.specs.Laws.{SlicesAreTheState, OpeningIsSound, OpeningIsWithinWork, OneListTellsAll, NextIsKnown, NextFits, WantsAreKnown, PartsAreNeeded, WaitingIsKnown, EndingIsKnown, AllPartsTell, AlteredAreNeeded, ActivatedAreNeeded, NobodyIsStuck, StopStops, NothingFollows, LastOneStops};
+ghost use Rattle.be_rules.specs.Laws.{SlicesAreTheState, OpeningIsSound, OpeningIsWithinWork, OneListTellsAll, NextIsKnown, NextFits, WantsAreKnown, PartsAreTheScripts, PartsAreNeeded, WaitingIsKnown, EndingIsKnown, AllPartsTell, AlteredAreNeeded, ActivatedAreNeeded, NobodyIsStuck, StopStops, NothingFollows, LastOneStops};
 ghost use Rattle.be_rules.specs.Rules.{world_machine};
 ghost use Rattle.be_script.specs.Script.{Declared};
 
@@ -30,6 +30,7 @@ pub fn one_list_tells_all()
 /// in the parts in hand.
 pub fn own_parts_tell_what_is_wanted()
     ensures wants { WantsAreKnown }
+    ensures parts { PartsAreTheScripts }
     ensures needs { PartsAreNeeded }
     ensures waits { WaitingIsKnown }
     ensures ends { EndingIsKnown }
