@@ -1,9 +1,9 @@
--- A change that is carried out on the desk and its panes.
+-- A change that is carried out on a pane, and on the desk.
 use Rattle.std.specs.Prelude.{◌==◌, slice_get, slice_set, option_and_then}
 use Rattle.std.specs.Option.{option_map}
-use Rattle.std.proofs.Common.{◌≡◌, ℕ, zero, suc, [], ◌∷◌, ◌<◌, ◌≤◌, ◌+◌, Bool, true, false, List, length, Option, Some, None, Result, Ok, Err, OnOk, IsErr, inl, inr, eq-eqb, refl, sym, ap, ◌∙◌, subst, arith}
-use Rattle.std.proofs.lemmas.Bool.{cases_lt, eqb-true, false≢true}
-use Rattle.std.proofs.lemmas.Option.{none-some, same_Some, slice_get_within}
+use Rattle.std.proofs.Common.{◌≡◌, ℕ, Bool, true, false, List, Option, Some, None, Result, Ok, Err, OnOk, IsErr, eq-eqb, refl, sym, ap, ◌∙◌, subst}
+use Rattle.std.proofs.lemmas.Bool.{eqb-true, false≢true}
+use Rattle.std.proofs.lemmas.Option.{none-some, same_Some}
 use Rattle.be_geom.specs.declared.change.Change.{Change}
 use Rattle.be_geom.specs.declared.change.Change.TheVariants.{Show, Hide, MoveTo, MoveBy, ResizeTo, Activate, Behind, Focus, Close}
 use Rattle.be_input.specs.Pointing.{Pointing}
@@ -17,11 +17,11 @@ use Rattle.be_views.specs.Trees.{Tree}
 use Rattle.be_desk.specs.Carrying.{IsCarriedOver, IsFollowed}
 use Rattle.be_desk.specs.Changes.{Desk, desk_after, desk_unless, desk_with, with_tree}
 use Rattle.be_desk.specs.Desks.{IsPaired, IsTaken}
-use Rattle.be_desk.specs.Plans.{IsPaneOf, ArePanesOf, Planned, IsPlanOf, IsCarried, AreCarried, then_spans}
+use Rattle.be_desk.specs.Plans.{CarriesOver, IsCarried, IsDeskPlan, IsPaneOf, Planned, then_spans}
 use Rattle.be_desk.proofs.DeskLemmas.{IsAfter, TreesAfter, is_after}
-use Rattle.be_desk.proofs.OthersLemmas.{others_stay}
-use Rattle.be_desk.proofs.PairedLemmas.{other_trees, paired_after, set_many, set_other, set_there}
-use Rattle.be_desk.proofs.SpansLemmas.{corner_within, pane_after}
+use Rattle.be_desk.proofs.PairedLemmas.{other_trees, paired_after, set_there}
+use Rattle.be_desk.proofs.SpansLemmas.{pane_after}
+use Rattle.be_desk.proofs.StandLemmas.{panes_are_whole}
 
 -- ---- the desk
 
@@ -112,89 +112,16 @@ is_carried before after w change these old new is of_pane over = record {
   notice = over.notice;
 }
 
--- ---- all panes, one by one
+-- a pane of the desk with the pixels that are right for it
+pub carries_over : (plan : Planned) (these : Option Spans) (old new : Pane) → IsCarriedOver these plan.windows plan.window plan.change old new → CarriesOver plan these old new
+carries_over plan these old new over before after panes paired taken same of_pane changed =
+    let is = is_after before after plan.window plan.change taken in
+    let carried : IsCarried after (then_spans these old) old new = is_carried before after plan.window plan.change these old new is of_pane (subst (λ (w : Windows). IsCarriedOver these w plan.window plan.change old new) (sym same) over) in
+    let then_of : IsPaneOf after new = pane_after before after plan.window plan.change panes old new (then_spans these old) is of_pane changed carried in
+    (then_of, panes_are_whole after new (paired_after before after plan.window plan.change paired is) then_of, carried)
 
-not_below : (k n : ℕ) → k < n → k ≡ n → ⊥
-not_below k n less e = omega arith
-
-not_above : (k n : ℕ) → n + 1 ≤ k → k ≡ n → ⊥
-not_above k n more e = omega arith
-
--- those up to a place are carried over, and those behind it are as they were, with their spans
-pub record AreCarriedTo (windows : Windows) (w : ℕ) (change : Change) (old now : List Pane) (spans left : List (Option Spans)) (n : ℕ) : Type 0 where
-  pub each : length now ≡ length old
-  pub many : length left ≡ length spans
-  pub over : (k : ℕ) (pane new : Pane) (these : Option Spans) → k < n → slice_get old k ≡ Some pane → slice_get spans k ≡ Some these → slice_get now k ≡ Some new → IsCarriedOver these windows w change pane new
-  pub panes : (k : ℕ) → n ≤ k → slice_get now k ≡ slice_get old k
-  pub spans_left : (k : ℕ) → n ≤ k → slice_get left k ≡ slice_get spans k
-
-pub none_carried : (windows : Windows) (w : ℕ) (change : Change) (old : List Pane) (spans : List (Option Spans)) → AreCarriedTo windows w change old old spans spans 0
-none_carried windows w change old spans = record {
-  each = refl;
-  many = refl;
-  over = λ k pane new these less. absurd (omega arith);
-  panes = λ k less. refl;
-  spans_left = λ k less. refl;
-}
-
-pub one_carried : (windows : Windows) (w : ℕ) (change : Change) (old now : List Pane) (spans left : List (Option Spans)) (n : ℕ) (pane new : Pane) (these other : Option Spans) → AreCarriedTo windows w change old now spans left n → n < length old → slice_get now n ≡ Some pane → slice_get left n ≡ Some these → IsCarriedOver these windows w change pane new → AreCarriedTo windows w change old (slice_set now n new) spans (slice_set left n other) (n + 1)
-one_carried windows w change old now spans left n pane new these other to within got got_spans over = record {
-  each = set_many now n new ∙ to.each;
-  many = set_many left n other ∙ to.many;
-  over = λ k p q t less at at_spans then_at.
-      elim (cases_lt k n) [
-        | inl below ↦
-            let apart : k ≡ n → ⊥ = λ e. not_below k n below e in
-            to.over k p q t below at at_spans (sym (set_other now n k new apart) ∙ then_at)
-        | inr above ↦
-            let same : k ≡ n = omega arith in
-            let is_new = same_Some new q (sym (set_there now n new pane got) ∙ ap (slice_get (slice_set now n new)) (sym same) ∙ then_at) in
-            let is_pane = same_Some pane p (sym got ∙ to.panes n (omega arith) ∙ ap (slice_get old) (sym same) ∙ at) in
-            let is_spans = same_Some these t (sym got_spans ∙ to.spans_left n (omega arith) ∙ ap (slice_get spans) (sym same) ∙ at_spans) in
-            subst (λ (x : Pane). IsCarriedOver t windows w change p x) is_new
-            (subst (λ (x : Pane). IsCarriedOver t windows w change x new) is_pane (subst (λ (x : Option Spans). IsCarriedOver x windows w change pane new) is_spans over))
-      ];
-  panes = λ k more. set_other now n k new (λ e. not_above k n more e) ∙ to.panes k (omega arith);
-  spans_left = λ k more. set_other left n k other (λ e. not_above k n more e) ∙ to.spans_left k (omega arith);
-}
-
-pub all_carried : (plan : Planned) (desk after : Desk) (old new : List Pane) (left : List (Option Spans)) (n : ℕ) → IsPlanOf plan desk old → desk_after desk plan.window plan.change ≡ Ok after → AreCarriedTo after.windows plan.window plan.change old new plan.spans left n → length old ≤ n → AreCarried plan after old new
-all_carried plan desk after old new left n is taken to all = record {
-  each = to.each;
-  panes = λ k pane these at at_spans next then_at.
-      let within = slice_get_within old k pane at in
-      is_carried desk after plan.window plan.change these pane next (is_after desk after plan.window plan.change taken) (is.panes_of k pane at) (to.over k pane next these (omega arith) at at_spans then_at);
-}
-
--- a pane's window is there afterwards
-pub pane_there : (plan : Planned) (desk after : Desk) (old now : List Pane) (left : List (Option Spans)) (n : ℕ) (pane : Pane) → IsPlanOf plan desk old → desk_after desk plan.window plan.change ≡ Ok after → AreCarriedTo after.windows plan.window plan.change old now plan.spans left n → slice_get now n ≡ Some pane → pane.window < length after.windows.windows
-pane_there plan desk after old now left n pane is taken to got =
-    let of_pane = is.panes_of n pane (sym (to.panes n (omega arith)) ∙ got) in
-    let within = corner_within desk.windows pane.window pane.place of_pane.place in
-    let many = (others_stay desk.windows after.windows plan.window plan.change (is_after desk after plan.window plan.change taken).windows).many in
-    omega arith
-
--- the desk once the plan's windows are there and its views have followed
-pub carried_after : (plan : Planned) (desk : Desk) (panes : List Pane) (q : Pointing) → IsPlanOf plan desk panes → ((s t : Windows) → desk_with (desk_by s desk.pointing) plan.window t plan.change ≡ Ok (desk_by t q)) → desk_after desk plan.window plan.change ≡ Ok (desk_by plan.windows q)
-carried_after plan desk panes q is pointed =
-    carried_desk desk plan.window plan.change plan.windows q is.taken is.windows pointed
-
-pub got_some : {A : Type 0} (xs : List A) (k : ℕ) → k < length xs → (x : A) × (slice_get xs k ≡ Some x)
-got_some [] k h = absurd (omega arith)
-got_some (x ∷ xs) zero h = (x, refl)
-got_some (x ∷ xs) (suc k) h = got_some xs k (omega arith)
-
--- the panes are those of the desk afterwards
-pub panes_after : (plan : Planned) (desk after : Desk) (old new : List Pane) → IsPlanOf plan desk old → desk_after desk plan.window plan.change ≡ Ok after → AreCarried plan after old new → ArePanesOf after new
-panes_after plan desk after old new is taken carried k pane got =
-    let within = slice_get_within new k pane got in
-    let each = carried.each in
-    let was = got_some old k (omega arith) in
-    let every = is.each in
-    let these = got_some plan.spans k (omega arith) in
-    pane_after desk after plan.window plan.change old was.0 pane (then_spans these.0 was.0) (is_after desk after plan.window plan.change taken) (is.panes_of k was.0 was.1) (is.changed after taken k was.0 these.0 was.1 these.1) (carried.panes k was.0 these.0 was.1 these.1 pane got)
-
--- and windows and views still go together
-pub paired_then : (plan : Planned) (desk after : Desk) (panes : List Pane) → IsPlanOf plan desk panes → desk_after desk plan.window plan.change ≡ Ok after → IsPaired after
-paired_then plan desk after panes is taken =
-    paired_after desk after plan.window plan.change is.asked.paired (is_after desk after plan.window plan.change taken)
+-- and the desk
+pub desk_carried : (plan : Planned) (desk : Desk) (q : Pointing) → IsDeskPlan plan desk → ((s t : Windows) → desk_with (desk_by s desk.pointing) plan.window t plan.change ≡ Ok (desk_by t q)) → (desk_after desk plan.window plan.change ≡ Ok (desk_by plan.windows q)) × IsPaired (desk_by plan.windows q)
+desk_carried plan desk q is pointed =
+    let e = carried_desk desk plan.window plan.change plan.windows q is.taken is.then_windows pointed in
+    (e, paired_after desk (desk_by plan.windows q) plan.window plan.change is.asked.paired (is_after desk (desk_by plan.windows q) plan.window plan.change e))

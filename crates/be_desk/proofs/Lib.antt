@@ -11,5 +11,7 @@ pub mod DeskLemmas
 pub mod PairedLemmas
 pub mod PlanLemmas
 pub mod SpansLemmas
-pub mod CarryLemmas
 pub mod StandLemmas
+mod ShownLemmas
+pub mod CarryLemmas
+mod LentLemmas

@@ -208,9 +208,11 @@ taken_by desk after w change e = subst (λ (r : Result Desk ChangeFault). IsTake
 
 pub is_plan : (desk after : Desk) (w : ℕ) (change : Change) (panes : List Pane) (spans : List (Option Spans)) → IsAsked desk w change → desk_after desk w change ≡ Ok after → ArePanesOf desk panes → AreChangedTo desk after w change panes spans (length panes) → IsPlanOf (record { window = w; change = change; windows = after.windows; spans = spans }) desk panes
 is_plan desk after w change panes spans asked e panes_of listed = record {
-  asked = asked;
-  taken = taken_by desk after w change e;
-  windows = λ other then_e. sym (ap (λ (d : Desk). d.windows) (same_desk after other (sym e ∙ then_e)));
+  on_desk = record {
+    asked = asked;
+    taken = taken_by desk after w change e;
+    then_windows = λ other then_e. sym (ap (λ (d : Desk). d.windows) (same_desk after other (sym e ∙ then_e)));
+  };
   panes_of = panes_of;
   each = listed.each;
   changed = λ other then_e k pane these got got_spans.

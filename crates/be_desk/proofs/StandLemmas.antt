@@ -4,13 +4,14 @@ use Rattle.std.specs.Option.{option_map}
 use Rattle.std.proofs.Common.{◌≡◌, ℕ, Bool, true, false, cond, List, Option, Some, None, inl, inr, refl, sym, ap, ◌∙◌, subst, arith}
 use Rattle.std.proofs.lemmas.Bool.{eqb-true, false≢true}
 use Rattle.std.proofs.lemmas.Int.{ints}
-use Rattle.std.proofs.lemmas.Option.{same_Some, slice_get_within}
+use Rattle.std.proofs.lemmas.Option.{same_Some}
 use Rattle.be_geom.specs.declared.rect.Rect.{Rect}
 use Rattle.be_geom.specs.declared.point.Point.{Point}
 use Rattle.be_color.specs.declared.colors.Color.{Color}
 use Rattle.be_geom.specs.Numbers.{is_number}
 use Rattle.be_geom.specs.Rects.{rect_has, moved_rect}
 use Rattle.be_geom.specs.declared.change.Change.{Change}
+use Rattle.be_pane.specs.declared.pane.Pane.{Pane}
 use Rattle.be_pane.specs.SameStacks.{SameStacks}
 use Rattle.be_region.specs.Sessions.{SameSession}
 use Rattle.be_region.specs.Regions.{region_has}
@@ -24,24 +25,20 @@ use Rattle.be_views.specs.Trees.{Tree, left_top}
 use Rattle.be_desk.specs.Affected.{AreAffected, OwnsTheSame}
 use Rattle.be_desk.specs.Changes as changes
 use Rattle.be_desk.specs.Changes.{Desk, owns, own_cell, cell_of, changed_cell, motion_of, exposed_at}
-use Rattle.be_desk.specs.Laws.{CarriedAsTheMachine, OthersAsTheMachine, EachPixelOnce, PanesAreWhole}
+use Rattle.be_desk.specs.Laws.{CarriedAsTheMachine, PlannedForEach, OthersAsTheMachine, EachPixelOnce, PanesAreWhole}
+use Rattle.be_desk.specs.Plans.{AreChanged, then_spans}
 use Rattle.be_desk.specs.Desks.{at_origin}
-use Rattle.be_desk.proofs.CarryLemmas.{got_some}
 use Rattle.be_desk.proofs.DeskLemmas.{is_after}
 use Rattle.be_desk.proofs.OthersLemmas.{others_stay}
 use Rattle.be_desk.proofs.PairedLemmas.{other_trees}
 use Rattle.be_desk.proofs.PlanLemmas.{owned_in, owner_is}
 use Rattle.be_desk.proofs.SameLemmas.{rebuilt}
 
--- ---- the panes of the change
+-- ---- a pane of the change
 
 pub carried_as_machine : CarriedAsTheMachine
-carried_as_machine plan desk after panes then_panes cells colors old is taken are screen looks k pane then_pane got then_got corner then_corner kept tree then_tree colored stands then_at then_views =
-    let within = slice_get_within panes k pane got in
-    let each = is.each in
-    let these = got_some plan.spans k (omega arith) in
-    let carried = are.panes k pane these.0 got these.1 then_pane then_got in
-    let changed = is.changed after taken k pane these.0 got these.1 in
+carried_as_machine plan these before after panes pane then_pane cells colors old corner kept tree paired taken same of_pane changed over screen looks colored stands then_corner then_tree then_at then_views =
+    let carried = (over before after panes paired taken same of_pane changed).2 in
     record {
       number = carried.window;
       place = same_Some then_pane.place then_corner (sym carried.place ∙ then_at);
@@ -55,6 +52,25 @@ carried_as_machine plan desk after panes then_panes cells colors old is taken ar
       session = subst (λ (s : Option (List Rect)). SameSession s kept.session) (sym carried.session) stands.session;
       notice = carried.notice ∙ stands.notice;
     }
+
+-- ---- another pane for the same window
+
+planned_alike : (before after : Desk) (w : ℕ) (change : Change) (panes : List Pane) (pane other : Pane) (these : Option Spans) → pane.window ≡ other.window → pane.colors.items ≡ other.colors.items → ((x y : ℤ) → region_has other.spans.rects x y ≡ region_has pane.spans.rects x y) → ((x y : ℤ) → region_has other.spans.rects x y ≡ true → cell_in other.spans x y ≡ cell_in pane.spans x y) → AreChanged before after w change panes pane (then_spans these pane) → AreChanged before after w change panes other (then_spans these other)
+planned_alike before after w change panes pane other (Some spans) window colors region cells changed = record {
+  pixels = λ x y. changed.pixels x y ∙ ap (λ u. owns after u x y) window;
+  cells = λ screen all old is colored looks x y owned. changed.cells screen all old is (ap (slice_get all) window ∙ colored ∙ ap (λ (l : List Color). Some l) (sym colors)) looks x y (ap (λ u. owns after u x y) window ∙ owned);
+}
+planned_alike before after w change panes pane other None window colors region cells changed = record {
+  pixels = λ x y. region x y ∙ changed.pixels x y ∙ ap (λ u. owns after u x y) window;
+  cells = λ screen all old is colored looks x y owned.
+      let its : owns after pane.window x y ≡ true = ap (λ u. owns after u x y) window ∙ owned in
+      cells x y (region x y ∙ changed.pixels x y ∙ its) ∙ changed.cells screen all old is (ap (slice_get all) window ∙ colored ∙ ap (λ (l : List Color). Some l) (sym colors)) looks x y its;
+}
+
+pub planned_for_each : PlannedForEach
+planned_for_each before after w change panes pane other these u corner kept tree owned cells stands also changed =
+    planned_alike before after w change panes pane other these (stands.number ∙ sym also.number) (stands.colors ∙ sym also.colors) (λ x y. also.pixels x y ∙ sym (stands.pixels x y))
+    (λ x y has. let its = sym (also.pixels x y) ∙ has in also.shown x y its ∙ sym (stands.shown x y its)) changed
 
 -- ---- the others
 

@@ -1,5 +1,5 @@
 -- What a change that is carried out makes of the windows for which the panes stand (this project's own).
-use Rattle.std.specs.Prelude.{◌≡◌, ℕ, ℤ, true, List, Some, None, Ok, Contains, slice_get}
+use Rattle.std.specs.Prelude.{◌≡◌, ℕ, ℤ, Bool, true, List, Option, Some, None, Ok, Contains, length, slice_get}
 use Rattle.be_color.specs.declared.colors.Color.{Color}
 use Rattle.be_geom.specs.declared.change.Change.{Change}
 use Rattle.be_geom.specs.declared.point.Point.{Point}
@@ -9,31 +9,44 @@ use Rattle.be_pane.specs.StandsFor.{PaneStandsFor, IsWhole}
 use Rattle.be_pane.specs.declared.pane.Pane.{Pane}
 use Rattle.be_region.specs.Regions.{region_has}
 use Rattle.be_span.specs.Cells.{Lookup, desktop_cell}
+use Rattle.be_span.specs.Spans.{Spans, pixels_of}
 use Rattle.be_span.specs.declared.Cell.{Cell}
 use Rattle.be_stack.specs.Owner.{owner_at}
 use Rattle.be_views.specs.Trees.{Tree}
 use Rattle.be_desk.specs.Affected.{AreAffected}
 use Rattle.be_desk.specs.Changes.{Desk, owns, desk_after, changed_cell}
 use Rattle.be_desk.specs.Desks.{IsPaired}
-use Rattle.be_desk.specs.Plans.{IsPaneOf, Planned, IsPlanOf, IsScreenOf, LooksUp, AreCarried}
+use Rattle.be_desk.specs.Plans.{AreAscending, AreChanged, ArePanesOf, CarriesOver, IsPaneOf, IsScreenOf, LooksUp, Planned, then_spans}
 
 -- the screen's cells after a change of window w, where the windows' views have these colours
 abbrev pub changed_cells : Desk → Desk → List (List Color) → ℕ → Change → Lookup → (ℤ → ℤ → Cell) → ℤ → ℤ → Cell
 changed_cells before after colors w change old cells x y = changed_cell before after colors w change old x y (cells x y)
 
--- A pane that stands for its window stands, once the planned change is carried out, for the window where the machine's
--- desk has it then, with its views and its pixels of the machine's screen; and what the machine keeps of it stays.
+-- The pane stands for window u as the machine leaves it after a change of window w: where its desk has the window then,
+-- with its views and its pixels of the screen. What else the machine keeps of the window stays.
+abbrev pub StandsAfterChange : Desk → Desk → List (List Color) → ℕ → Change → Lookup → (ℤ → ℤ → Cell) → ℕ → machine.Pane → Pane → Type 0
+StandsAfterChange before after colors w change old cells u kept new =
+    (corner : Point) (tree : Tree) → corner_of after.windows u ≡ Some corner → slice_get after.pointing.trees u ≡ Some tree →
+    PaneStandsFor new u corner kept tree (owns after u) (changed_cells before after colors w change old cells)
+
+-- A pane that stands for its window stands, once a planned change is carried out on it, for the window as the machine
+-- leaves it.
 abbrev pub CarriedAsTheMachine : Type 0
 CarriedAsTheMachine =
-    (plan : Planned) (desk after : Desk) (panes then_panes : List Pane) (cells : ℤ → ℤ → Cell) (colors : List (List Color)) (old : Lookup) →
-    IsPlanOf plan desk panes → desk_after desk plan.window plan.change ≡ Ok after → AreCarried plan after panes then_panes →
-    IsScreenOf cells desk panes → LooksUp old desk plan.window cells →
-    (k : ℕ) (pane then_pane : Pane) → slice_get panes k ≡ Some pane → slice_get then_panes k ≡ Some then_pane →
-    (corner then_corner : Point) (kept : machine.Pane) (tree then_tree : Tree) →
-    slice_get colors pane.window ≡ Some kept.colors →
-    PaneStandsFor pane pane.window corner kept tree (owns desk pane.window) cells →
-    corner_of after.windows pane.window ≡ Some then_corner → slice_get after.pointing.trees pane.window ≡ Some then_tree →
-    PaneStandsFor then_pane pane.window then_corner kept then_tree (owns after pane.window) (changed_cells desk after colors plan.window plan.change old cells)
+    (plan : Planned) (these : Option Spans) (before after : Desk) (panes : List Pane) (pane then_pane : Pane) (cells : ℤ → ℤ → Cell) (colors : List (List Color)) (old : Lookup) (corner : Point) (kept : machine.Pane) (tree : Tree) →
+    IsPaired before → desk_after before plan.window plan.change ≡ Ok after → after.windows ≡ plan.windows →
+    IsPaneOf before pane → AreChanged before after plan.window plan.change panes pane (then_spans these pane) →
+    CarriesOver plan these pane then_pane →
+    IsScreenOf cells before panes → LooksUp old before plan.window cells → slice_get colors pane.window ≡ Some kept.colors →
+    PaneStandsFor pane pane.window corner kept tree (owns before pane.window) cells →
+    StandsAfterChange before after colors plan.window plan.change old cells pane.window kept then_pane
+
+-- What is planned for a pane is right for each that stands for the same window.
+abbrev pub PlannedForEach : Type 0
+PlannedForEach =
+    (before after : Desk) (w : ℕ) (change : Change) (panes : List Pane) (pane other : Pane) (these : Option Spans) (u : ℕ) (corner : Point) (kept : machine.Pane) (tree : Tree) (owned : ℤ → ℤ → Bool) (cells : ℤ → ℤ → Cell) →
+    PaneStandsFor pane u corner kept tree owned cells → PaneStandsFor other u corner kept tree owned cells →
+    AreChanged before after w change panes pane (then_spans these pane) → AreChanged before after w change panes other (then_spans these other)
 
 -- A pane of a window that the change doesn't alter stands for its window then as it is.
 abbrev pub OthersAsTheMachine : Type 0
@@ -47,7 +60,7 @@ OthersAsTheMachine =
     × (corner_of after.windows u ≡ corner_of desk.windows u)
     × (slice_get after.pointing.trees u ≡ slice_get desk.pointing.trees u)
 
--- No pixel is in the panes of two windows, and where no window is the desktop shows.
+-- No pixel is in the panes of two windows, and where no window is the machine's screen shows the desktop.
 abbrev pub EachPixelOnce : Type 0
 EachPixelOnce =
     (desk after : Desk) (w : ℕ) (change : Change) (cells : ℤ → ℤ → Cell) (colors : List (List Color)) (old : Lookup) (x y : ℤ) →
@@ -57,3 +70,10 @@ EachPixelOnce =
 -- A pane of its window on a desk where windows and views go together has no pixel outside its root's frame.
 abbrev pub PanesAreWhole : Type 0
 PanesAreWhole = (desk : Desk) (pane : Pane) → IsPaired desk → IsPaneOf desk pane → IsWhole pane
+
+-- Panes of different windows of a desk, each with a cell for each of its pixels, show a screen.
+abbrev pub PanesShowAScreen : Type 0
+PanesShowAScreen =
+    (desk : Desk) (panes : List Pane) → ArePanesOf desk panes → AreAscending panes →
+    ((k : ℕ) (pane : Pane) → slice_get panes k ≡ Some pane → length pane.spans.cells ≡ pixels_of pane.spans.rects) →
+    (cells : ℤ → ℤ → Cell) × IsScreenOf cells desk panes

@@ -1,8 +1,11 @@
 -- What is made ready of a change before it is carried out, and what it leaves then (this project's own).
-use Rattle.std.specs.Prelude.{◌≡◌, ◌<◌, ℕ, ℤ, true, List, length, Some, None, Ok, slice_get, Option}
+use Rattle.std.specs.Prelude.{◌≡◌, ◌<◌, ℕ, ℤ, true, List, length, map, Some, None, Ok, slice_get, Option}
+use Rattle.std.specs.Borrow.{Bor}
+use Rattle.std.specs.List.{AllPairs}
 use Rattle.be_color.specs.declared.colors.Color.{Color}
 use Rattle.be_geom.specs.declared.change.Change.{Change}
 use Rattle.be_input.specs.Pointing.{corner_of}
+use Rattle.be_pane.specs.StandsFor.{IsWhole}
 use Rattle.be_pane.specs.declared.pane.Pane.{Pane}
 use Rattle.be_region.specs.Regions.{region_has}
 use Rattle.be_span.specs.Cells.{Lookup, desktop_cell}
@@ -11,7 +14,7 @@ use Rattle.be_span.specs.declared.Cell.{Cell}
 use Rattle.be_stack.specs.Owner.{owner_at}
 use Rattle.be_stack.specs.Windows.{Windows}
 use Rattle.be_desk.specs.Changes.{Desk, owns, desk_after, changed_cell}
-use Rattle.be_desk.specs.Desks.{IsAsked, IsTaken}
+use Rattle.be_desk.specs.Desks.{IsAsked, IsPaired, IsTaken}
 
 -- ---- panes of a desk
 
@@ -28,6 +31,14 @@ pub record IsPaneOf (desk : Desk) (pane : Pane) : Type 0 where
 -- all of them are
 abbrev pub ArePanesOf : Desk → List Pane → Type 0
 ArePanesOf desk panes = (k : ℕ) (pane : Pane) → slice_get panes k ≡ Some pane → IsPaneOf desk pane
+
+-- the panes behind references
+abbrev pub lent : List (Bor Pane) → List Pane
+lent panes = map (λ pane. pane.now) panes
+
+-- they are of different windows, in ascending order of number
+abbrev pub AreAscending : List Pane → Type 0
+AreAscending panes = AllPairs (λ pane other. pane.window < other.window) panes
 
 -- A screen of which the panes have their windows' cells, and on which the desktop shows where no window is. A cell is
 -- given for each pixel.
@@ -60,11 +71,19 @@ pub record AreChanged (before after : Desk) (w : ℕ) (change : Change) (panes :
   pub pixels : (x y : ℤ) → region_has spans.rects x y ≡ owns after pane.window x y
   pub cells : (cells : ℤ → ℤ → Cell) (colors : List (List Color)) (old : Lookup) → IsScreenOf cells before panes → slice_get colors pane.window ≡ Some pane.colors.items → LooksUp old before w cells → (x y : ℤ) → owns after pane.window x y ≡ true → cell_in spans x y ≡ Some (changed_cell before after colors w change old x y (cells x y))
 
--- a plan of a change that may be asked of the desk and isn't refused, with the spans of each pane of the desk
+-- a change of window w that may be asked of the desk and isn't refused, and the windows after it
+pub record LeadsTo (desk : Desk) (w : ℕ) (change : Change) (windows : Windows) : Type 0 where
+  pub asked : IsAsked desk w change
+  pub taken : IsTaken (desk_after desk w change)
+  pub then_windows : (after : Desk) → desk_after desk w change ≡ Ok after → after.windows ≡ windows
+
+-- what the desk needs of a plan
+abbrev pub IsDeskPlan : Planned → Desk → Type 0
+IsDeskPlan plan desk = LeadsTo desk plan.window plan.change plan.windows
+
+-- a plan for the desk, with the spans of each pane of the desk
 pub record IsPlanOf (plan : Planned) (desk : Desk) (panes : List Pane) : Type 0 where
-  pub asked : IsAsked desk plan.window plan.change
-  pub taken : IsTaken (desk_after desk plan.window plan.change)
-  pub windows : (after : Desk) → desk_after desk plan.window plan.change ≡ Ok after → after.windows ≡ plan.windows
+  pub on_desk : IsDeskPlan plan desk
   pub panes_of : ArePanesOf desk panes
   pub each : length plan.spans ≡ length panes
   pub changed : (after : Desk) → desk_after desk plan.window plan.change ≡ Ok after → (k : ℕ) (pane : Pane) (spans : Option Spans) → slice_get panes k ≡ Some pane → slice_get plan.spans k ≡ Some spans → AreChanged desk after plan.window plan.change panes pane (then_spans spans pane)
@@ -82,7 +101,10 @@ pub record IsCarried (after : Desk) (these : Spans) (old new : Pane) : Type 0 wh
   pub session : new.session ≡ old.session
   pub notice : new.notified ≡ old.notified
 
--- each pane has the plan's spans
-pub record AreCarried (plan : Planned) (after : Desk) (old new : List Pane) : Type 0 where
-  pub each : length new ≡ length old
-  pub panes : (k : ℕ) (pane : Pane) (spans : Option Spans) → slice_get old k ≡ Some pane → slice_get plan.spans k ≡ Some spans → (then_pane : Pane) → slice_get new k ≡ Some then_pane → IsCarried after (then_spans spans pane) pane then_pane
+-- What becomes of a pane on which a plan is carried out with these spans: whatever pane of the desk it is, as long as the
+-- spans are those of the pane after the change.
+abbrev pub CarriesOver : Planned → Option Spans → Pane → Pane → Type 0
+CarriesOver plan these old new =
+    (before after : Desk) (panes : List Pane) → IsPaired before → desk_after before plan.window plan.change ≡ Ok after → after.windows ≡ plan.windows →
+    IsPaneOf before old → AreChanged before after plan.window plan.change panes old (then_spans these old) →
+    IsPaneOf after new × IsWhole new × IsCarried after (then_spans these old) old new

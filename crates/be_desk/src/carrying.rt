@@ -1,11 +1,12 @@
-ghost use Rattle.std.specs.Prelude.{◌≡◌, ◌<◌, IfSome, IsTrue, Ok, Some, length, slice_get, if◌then◌else◌, ◌==◌};
+ghost use Rattle.std.specs.Prelude.{◌≡◌, ◌<◌, IsTrue, Ok, Option, Some, length, slice_get, slice_set};
 ghost use Rattle.be_input.specs.Pointing.{corner_of};
+ghost use Rattle.be_span.specs.Spans.{Spans};
 ghost use Rattle.be_stack.specs.Limits.{is_within_limits};
 ghost use Rattle.be_stack.specs.Windows as windows;
 ghost use Rattle.be_desk.specs.Carrying.{IsCarriedOver, IsFollowed};
 ghost use Rattle.be_desk.specs.Changes.{desk_after, desk_with};
 ghost use Rattle.be_desk.specs.Desks.{desk_of, IsPaired, IsTaken};
-ghost use Rattle.be_desk.specs.Plans.{ArePanesOf, AreCarried, IsPlanOf};
+ghost use Rattle.be_desk.specs.Plans.{CarriesOver, IsDeskPlan};
 
 use crate::desk::Desk;
 use crate::planned::Plan;
@@ -17,32 +18,37 @@ use be_stack::Stack;
 use be_views::ViewTree;
 use std::mem::swap;
 
-/// Carries out a planned change on the desk and the panes with which it was planned. It takes no
-/// memory and can't be refused: what the plan has made takes the place of what was there.
-pub fn carry_out(desk: &mut Desk, panes: &mut [Pane], plan: Plan)
-    requires { IsPlanOf plan (desk_of desk.old) panes.old }
+/// Carries a planned change out on a pane, with the spans of this number. It takes no memory and
+/// can't be refused: what the plan has made takes the place of what was there, which goes into the
+/// plan.
+pub fn carry_out_pane(plan: &mut Plan, number: usize, pane: &mut Pane)
+    requires there { number < length plan.old.spans }
+    requires window { pane.old.window < length plan.old.windows.windows }
+    requires within_limits { IsTrue (is_within_limits plan.old.change) }
+    ensures carried { (these : Option Spans) → slice_get plan.old.spans number ≡ Some these
+        → CarriesOver plan.old these pane.old pane.new }
+    ensures plan { (other : Option Spans)
+        × (plan.new ≡ record plan.old { spans = slice_set plan.old.spans number other }) }
+{
+    let spans = &mut plan.spans[number];
+    carry_over(pane, spans, &plan.stack, plan.window, plan.change);
+}
+
+/// Carries a planned change out on the desk, once it is carried out on each pane. It takes no memory
+/// either.
+pub fn carry_out_desk(desk: &mut Desk, plan: Plan)
+    requires { IsDeskPlan plan (desk_of desk.old) }
     ensures desk { desk_after (desk_of desk.old) plan.window plan.change ≡ Ok (desk_of desk.new) }
-    ensures panes { AreCarried plan (desk_of desk.new) panes.old panes.new }
     ensures paired { IsPaired (desk_of desk.new) }
-    ensures panes_of { ArePanesOf (desk_of desk.new) panes.new }
 {
     let Plan {
         window,
         change,
         stack,
-        mut spans,
+        spans: _spans,
     } = plan;
     desk.stack = stack;
     point(&mut desk.pointing, window, change);
-    for place in 0..panes.len() {
-        carry_over(
-            &mut panes[place],
-            &mut spans[place],
-            &desk.stack,
-            window,
-            change,
-        );
-    }
 }
 
 /// Changes the views of a window that is resized, or the view that has the focus.

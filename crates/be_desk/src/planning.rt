@@ -6,7 +6,7 @@ ghost use Rattle.be_desk.specs.Affected.{HasAltered};
 ghost use Rattle.be_desk.specs.Changes as machine;
 ghost use Rattle.be_desk.specs.Changes.{desk_after};
 ghost use Rattle.be_desk.specs.Desks.{desk_of, desk_with_both, trees_with, IsAsked, IsRefusedFor};
-ghost use Rattle.be_desk.specs.Plans.{ArePanesOf, AreChanged, IsPlanOf, then_spans};
+ghost use Rattle.be_desk.specs.Plans.{AreAscending, AreChanged, ArePanesOf, IsPlanOf, lent, then_spans};
 ghost use Rattle.be_desk.specs.Renewed.{AreChangedTo, IsChange, IsRenewalIn, motion_in};
 ghost use Rattle.be_desk.specs.Renewals.{IsNearBy};
 ghost use Rattle.be_desk.specs.declared.renewal.Motion.TheVariants.{Still, Moving};
@@ -25,22 +25,25 @@ use be_views::ViewTree;
 use std::alloc::Global;
 
 /// Makes ready a change of window `w`. The panes are those of the windows that `affected` names, and
-/// more may be among them. It costs the rectangles of those whose frames meet `w`'s, and the pixels of
-/// those that win or lose some, are moved or resized.
+/// more may be among them, each of another window, in order of number.
+///
+/// It costs the rectangles of those whose frames meet `w`'s, and the pixels of those that win or lose
+/// some, are moved or resized.
 pub fn plan(
     alloc: Global,
     desk: &Desk,
-    panes: &[Pane],
+    panes: &[&Pane],
     w: u16,
     change: &Change,
 ) -> Result<Plan, PlanFault>
     requires asked { IsAsked (desk_of desk.now) w change.now }
-    requires panes { ArePanesOf (desk_of desk.now) panes.now }
+    requires panes { ArePanesOf (desk_of desk.now) (lent panes.now) }
+    requires ascending { AreAscending (lent panes.now) }
     requires named { (after : machine.Desk) → desk_after (desk_of desk.now) w change.now ≡ Ok after
-        → HasAltered desk.now.stack after.windows (map (λ pane. pane.window) panes.now) }
+        → HasAltered desk.now.stack after.windows (map (λ pane. pane.window) (lent panes.now)) }
     ensures window { IfOk result (λ plan. plan.window ≡ w) }
     ensures change { IfOk result (λ plan. plan.change ≡ change.now) }
-    ensures plan { IfOk result (λ plan. IsPlanOf plan (desk_of desk.now) panes.now) }
+    ensures plan { IfOk result (λ plan. IsPlanOf plan (desk_of desk.now) (lent panes.now)) }
     ensures refused { IfErr result (IsRefusedFor (desk_after (desk_of desk.now) w change.now)) }
 {
     let next = next_of(desk, w, change)?;
@@ -59,20 +62,20 @@ fn all_spans(
     alloc: Global,
     desk: &Desk,
     next: &Next,
-    panes: &[Pane],
+    panes: &[&Pane],
     w: u16,
     change: &Change,
 ) -> Result<Vec<Option<SpanBuf>>, NoMemory>
     requires { IsChange (desk_of desk.now)
         (desk_with_both (desk_of desk.now) w change.now next.now.stack next.now.tree)
-        w change.now panes.now }
+        w change.now (lent panes.now) }
     ensures { IfOk result (λ all. AreChangedTo (desk_of desk.now)
         (desk_with_both (desk_of desk.now) w change.now next.now.stack next.now.tree)
-        w change.now panes.now all.items (length panes.now)) }
+        w change.now (lent panes.now) all.items (length panes.now)) }
 {
     let mut all = Vec::with_capacity(alloc, panes.len())?;
     for pane in panes {
-        all.push(new_spans(alloc, desk, next, panes, pane, w, change)?)?;
+        all.push(new_spans(alloc, desk, next, panes, *pane, w, change)?)?;
     }
     Ok(all)
 }
@@ -83,18 +86,18 @@ fn new_spans(
     alloc: Global,
     desk: &Desk,
     next: &Next,
-    panes: &[Pane],
+    panes: &[&Pane],
     pane: &Pane,
     w: u16,
     change: &Change,
 ) -> Result<Option<SpanBuf>, NoMemory>
     requires change { IsChange (desk_of desk.now)
         (desk_with_both (desk_of desk.now) w change.now next.now.stack next.now.tree)
-        w change.now panes.now }
-    requires listed { Contains panes.now pane.now }
+        w change.now (lent panes.now) }
+    requires listed { Contains (lent panes.now) pane.now }
     ensures { IfOk result (λ spans. AreChanged (desk_of desk.now)
         (desk_with_both (desk_of desk.now) w change.now next.now.stack next.now.tree)
-        w change.now panes.now pane.now (then_spans spans pane.now)) }
+        w change.now (lent panes.now) pane.now (then_spans spans pane.now)) }
 {
     let renewal = renewal_of(desk, next, pane, w, change);
     if is_apart(&desk.stack, &next.stack, w, pane.window) {

@@ -3,6 +3,7 @@ ghost use Rattle.std.specs.List.{list_any};
 ghost use Rattle.be_region.specs.Regions.{region_has};
 ghost use Rattle.be_span.specs.declared.Cell.{Cell};
 ghost use Rattle.be_span.specs.Spans.{cell_in, laid};
+ghost use Rattle.be_desk.specs.Plans.{lent};
 ghost use Rattle.be_desk.specs.Renewals.{AreColored, AreShown, AreUnder, IsBackground, IsNearBy, brought_to, is_clear, is_in_some, renewed_cell};
 
 use crate::exposing::expose;
@@ -51,15 +52,15 @@ pub(crate) struct Renewal<'a> {
 pub(crate) fn renewed(
     alloc: Global,
     renewal: &Renewal<'_>,
-    panes: &[Pane],
+    panes: &[&Pane],
     region: Region,
 ) -> Result<SpanBuf, NoMemory>
-    requires listed { Contains panes.now renewal.now.pane.now }
+    requires listed { Contains (lent panes.now) renewal.now.pane.now }
     requires colored { AreColored renewal.now region }
     requires near { IsNearBy renewal.now.motion }
     ensures region { IfOk result (λ spans. spans.rects ≡ region) }
-    ensures cells { IfOk result (λ spans. (cells : ℤ → ℤ → Cell) → AreUnder panes.now region cells
-        → (x y : ℤ) → region_has region x y ≡ true
+    ensures cells { IfOk result (λ spans. (cells : ℤ → ℤ → Cell)
+        → AreUnder (lent panes.now) region cells → (x y : ℤ) → region_has region x y ≡ true
         → cell_in spans x y ≡ Some (renewed_cell renewal.now x y (cells x y))) }
 {
     let mut spans = background(alloc, region, &renewal.pane.colors, panes)?;
@@ -74,11 +75,11 @@ fn background(
     alloc: Global,
     region: Region,
     colors: &[Color],
-    panes: &[Pane],
+    panes: &[&Pane],
 ) -> Result<SpanBuf, NoMemory>
     ensures region { IfOk result (λ spans. spans.rects ≡ region) }
-    ensures cells { IfOk result (λ spans. (cells : ℤ → ℤ → Cell) → AreUnder panes.now region cells
-        → (x y : ℤ) → region_has region x y ≡ true
+    ensures cells { IfOk result (λ spans. (cells : ℤ → ℤ → Cell)
+        → AreUnder (lent panes.now) region cells → (x y : ℤ) → region_has region x y ≡ true
         → IsBackground colors.now (cells x y) (cell_in spans x y)) }
 {
     let mut spans = SpanBuf::filled(alloc, region, Rgb::DESKTOP)?;
@@ -105,11 +106,11 @@ fn is_clear(color: Color) -> bool
 }
 
 /// Gives each pixel the cell that a pane has there.
-fn lay_panes(spans: &mut SpanBuf, panes: &[Pane])
+fn lay_panes(spans: &mut SpanBuf, panes: &[&Pane])
     ensures region { spans.new.rects ≡ spans.old.rects }
-    ensures cells { (cells : ℤ → ℤ → Cell) → AreShown cells panes.now
+    ensures cells { (cells : ℤ → ℤ → Cell) → AreShown cells (lent panes.now)
         → (x y : ℤ) → IsSome (cell_in spans.old x y) → cell_in spans.new x y
-        ≡ (if is_in_some panes.now x y then Some (cells x y) else cell_in spans.old x y) }
+        ≡ (if is_in_some (lent panes.now) x y then Some (cells x y) else cell_in spans.old x y) }
 {
     for pane in panes {
         spans.lay(&pane.spans, 0, 0);

@@ -15,24 +15,24 @@ use Rattle.be_pane.specs.StandsFor.{PaneStandsFor}
 use Rattle.be_pane.specs.Owed.{IsClean}
 use Rattle.be_pane.specs.Laws.{OwedByPixels}
 
-both_closed : (a : Option (List Rect)) (b : Option (List Point)) → SameSession a b → a ≡ None → b ≡ None
+pub both_closed : (a : Option (List Rect)) (b : Option (List Point)) → SameSession a b → a ≡ None → b ≡ None
 both_closed (Some rects) b same e = absurd (none-some rects (sym e))
 both_closed None (Some pixels) same e = absurd same
 both_closed None None same e = refl
 
-closed_both : (a : Option (List Rect)) (b : Option (List Point)) → SameSession a b → b ≡ None → a ≡ None
+pub closed_both : (a : Option (List Rect)) (b : Option (List Point)) → SameSession a b → b ≡ None → a ≡ None
 closed_both a (Some pixels) same e = absurd (none-some pixels (sym e))
 closed_both (Some rects) None same e = absurd same
 closed_both None None same e = refl
 
-none_waits : (pane : Pane) (w : ℕ) (corner : Point) (kept : machine.Pane) (tree : Tree) (owned : ℤ → ℤ → Bool) (cells : ℤ → ℤ → Cell) → PaneStandsFor pane w corner kept tree owned cells → ((x y : ℤ) → owned x y ≡ true → (cells x y).dirty ≡ false) → IsClean pane.spans
+pub none_waits : (pane : Pane) (w : ℕ) (corner : Point) (kept : machine.Pane) (tree : Tree) (owned : ℤ → ℤ → Bool) (cells : ℤ → ℤ → Cell) → PaneStandsFor pane w corner kept tree owned cells → ((x y : ℤ) → owned x y ≡ true → (cells x y).dirty ≡ false) → IsClean pane.spans
 none_waits pane w corner kept tree owned cells stands none x y =
     elim (either (owned x y)) [
       | inl h ↦ ap is_dirty (stands.shown x y h) ∙ none x y h
       | inr h ↦ ap is_dirty (cell_none pane.spans x y (stands.pixels x y ∙ h))
     ]
 
-clean_owned : (pane : Pane) (w : ℕ) (corner : Point) (kept : machine.Pane) (tree : Tree) (owned : ℤ → ℤ → Bool) (cells : ℤ → ℤ → Cell) → PaneStandsFor pane w corner kept tree owned cells → IsClean pane.spans → (x y : ℤ) → owned x y ≡ true → (cells x y).dirty ≡ false
+pub clean_owned : (pane : Pane) (w : ℕ) (corner : Point) (kept : machine.Pane) (tree : Tree) (owned : ℤ → ℤ → Bool) (cells : ℤ → ℤ → Cell) → PaneStandsFor pane w corner kept tree owned cells → IsClean pane.spans → (x y : ℤ) → owned x y ≡ true → (cells x y).dirty ≡ false
 clean_owned pane w corner kept tree owned cells stands clean x y h = sym (ap is_dirty (stands.shown x y h)) ∙ clean x y
 
 pub owed_by_pixels : OwedByPixels

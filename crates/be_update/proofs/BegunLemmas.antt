@@ -1,10 +1,11 @@
 -- A pane whose update has begun, and the window for which it stands.
-use Rattle.std.proofs.Common.{◌≡◌, ℕ, ℤ, ◌+ℤ◌, Bool, true, ◌&&◌, cond, List, Option, Some, inl, inr, sym, ap, subst, ◌∙◌}
+use Rattle.std.proofs.Common.{◌≡◌, ℕ, ℤ, ◌+ℤ◌, Bool, true, ◌&&◌, cond, length, List, Option, Some, inl, inr, sym, ap, subst, ◌∙◌}
 use Rattle.std.specs.Option.{option_map}
 use Rattle.be_geom.specs.declared.point.Point.{Point}
 use Rattle.be_geom.specs.declared.rect.Rect.{Rect}
 use Rattle.be_geom.specs.Places.{less}
-use Rattle.std.specs.Prelude.{map}
+use Rattle.be_geom.specs.Rects.{moved_rect, rect_has}
+use Rattle.std.specs.Prelude.{map, slice_get}
 use Rattle.be_region.specs.Regions.{region_has}
 use Rattle.be_span.specs.declared.Cell.{Cell}
 use Rattle.be_span.specs.Cells.{unmarked}
@@ -17,11 +18,11 @@ use Rattle.be_pane.specs.Panes as machine
 use Rattle.be_pane.specs.SameStacks.{SameStacks}
 use Rattle.be_pane.specs.declared.pane.Pane.{Pane}
 use Rattle.be_region.specs.Sessions.{SameSession}
-use Rattle.be_pane.specs.StandsFor.{PaneStandsFor}
+use Rattle.be_pane.specs.StandsFor.{IsWhole, PaneStandsFor}
 use Rattle.be_update.specs.Sessions.{session_of, with_session}
 use Rattle.be_update.specs.Listing.{listed_views}
 use Rattle.be_update.specs.Surveys.{Surveyed, IsSurveyOf, HasBegun}
-use Rattle.be_update.specs.Laws.{AreDirty, BegunAsTheMachine, cleaned}
+use Rattle.be_update.specs.Laws.{AreDirty, BegunAsTheMachine, StaysWhole, SurveyedForEach, cleaned}
 use Rattle.be_update.proofs.PixelLemmas.{has_pixel, moved_has}
 
 dirty_there : (pane : Pane) (w : ℕ) (corner : Point) (kept : machine.Pane) (tree : Tree) (owned : ℤ → ℤ → Bool) (cells : ℤ → ℤ → Cell) → PaneStandsFor pane w corner kept tree owned cells → (x y : ℤ) → is_dirty (cell_in pane.spans x y) ≡ (owned x y && (cells x y).dirty)
@@ -38,6 +39,14 @@ session_same s pane w corner kept tree owned cells dirty survey stands are x y =
     ∙ sym (are (x +ℤ pane.place.x) (y +ℤ pane.place.y))
     ∙ sym (moved_has dirty pane.place x y)
     ∙ ap (λ (c : Point). has_pixel (map (λ p. less p c) dirty) x y) stands.place
+
+pub surveyed_for_each : SurveyedForEach
+surveyed_for_each s pane other w corner kept tree owned cells stands also survey = record {
+  session = λ x y.
+      let its : is_dirty (cell_in pane.spans (x +ℤ pane.place.x) (y +ℤ pane.place.y)) ≡ is_dirty (cell_in other.spans (x +ℤ pane.place.x) (y +ℤ pane.place.y)) = dirty_there pane w corner kept tree owned cells stands (x +ℤ pane.place.x) (y +ℤ pane.place.y) ∙ sym (dirty_there other w corner kept tree owned cells also (x +ℤ pane.place.x) (y +ℤ pane.place.y)) in
+      survey.session x y ∙ its ∙ ap (λ (at : Point). is_dirty (cell_in other.spans (x +ℤ at.x) (y +ℤ at.y))) (stands.place ∙ sym also.place);
+  views = λ pixels same. survey.views pixels same ∙ ap (λ t. listed_views t pixels) (stands.views ∙ sym also.views);
+}
 
 cleaned_there : (owned : ℤ → ℤ → Bool) (cells : ℤ → ℤ → Cell) (x y : ℤ) → owned x y ≡ true → cleaned owned cells x y ≡ unmarked (cells x y)
 cleaned_there owned cells x y h = ap (λ v. cond v (unmarked (cells x y)) (cells x y)) h
@@ -61,3 +70,17 @@ begun_as_the_machine s old new w corner kept tree owned cells dirty survey begun
   survey.views (session_of corner dirty) (session_same s old w corner kept tree owned cells dirty survey stands are)
       ∙ ap (λ t. listed_views t (session_of corner dirty)) stands.views,
 )
+
+-- ---- a pane stays whole
+
+whole_begun : (s : Surveyed) (old new : Pane) → HasBegun s old new → IsWhole old → IsWhole new
+whole_begun s old new begun whole = record {
+  colored = ap (λ l. length l) begun.colors ∙ whole.colored ∙ ap (λ (t : Tree). length t) (sym begun.tree);
+  drawn = ap (λ l. length l) begun.states ∙ whole.drawn ∙ ap (λ (t : Tree). length t) (sym begun.tree);
+  within = λ x y has root got.
+      ap (λ (at : Point). rect_has (moved_rect root.frame at.x at.y) x y) begun.place
+      ∙ whole.within x y (ap (λ rs. region_has rs x y) (sym begun.region) ∙ has) root (ap (λ (t : Tree). slice_get t 0) (sym begun.tree) ∙ got);
+}
+
+pub stays_whole : StaysWhole
+stays_whole = (whole_begun, λ pane whole. record { colored = whole.colored; drawn = whole.drawn; within = whole.within })

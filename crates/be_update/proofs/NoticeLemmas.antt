@@ -1,4 +1,4 @@
--- When a pane and the window for which it stands owe a notice.
+-- What waits in a pane and in the window for which it stands, and when they owe a notice.
 use Rattle.std.specs.Prelude.{is_none, not}
 use Rattle.std.specs.List.{list_any}
 use Rattle.std.proofs.Common.{◌≡◌, ℤ, Bool, true, false, ◌&&◌, List, [], ◌∷◌, Option, Some, None, refl, sym, ap, ◌∙◌}
@@ -8,13 +8,17 @@ use Rattle.be_geom.specs.Places.{at_pixel, same_point}
 use Rattle.be_span.specs.declared.Cell.{Cell}
 use Rattle.be_pane.specs.Panes as machine
 use Rattle.be_pane.specs.Laws.{OwesNotice}
-use Rattle.be_pane.proofs.OwedLemmas.{owed_by_pixels}
+use Rattle.be_pane.proofs.OwedLemmas.{both_closed, clean_owned, closed_both, none_waits, owed_by_pixels}
 use Rattle.be_update.specs.Sessions.{is_any, is_owed}
-use Rattle.be_update.specs.Laws.{AreDirty, OwedAsTheMachine}
+use Rattle.be_update.specs.Laws.{AreDirty, FoundAsTheMachine, OwedAsTheMachine}
 use Rattle.be_update.proofs.ListLemmas.{same_self}
 use Rattle.be_update.proofs.PixelLemmas.{has_pixel}
 
 -- ---- what waits
+
+false_unless : (b : Bool) → (b ≡ true → ⊥) → b ≡ false
+false_unless true h = absurd (h refl)
+false_unless false h = refl
 
 none_listed : (owned : ℤ → ℤ → Bool) (cells : ℤ → ℤ → Cell) (dirty : List Point) → AreDirty owned cells dirty → is_any dirty ≡ false → (x y : ℤ) → owned x y ≡ true → (cells x y).dirty ≡ false
 none_listed owned cells [] are h x y own = sym (are x y ∙ ap (λ b. b && (cells x y).dirty) own)
@@ -30,6 +34,15 @@ some_waits owned cells dirty are h none =
     let p = there.0 in
     let parts = and_parts (owned p.x p.y) (cells p.x p.y).dirty (sym (are p.x p.y) ∙ there.1) in
     true≢false (sym parts.1 ∙ none p.x p.y parts.0)
+
+pub found_as_the_machine : FoundAsTheMachine
+found_as_the_machine pane w corner kept tree owned cells dirty stands are = (
+  (both_closed pane.session kept.session stands.session, closed_both pane.session kept.session stands.session),
+  (
+    λ clean. false_unless (is_any dirty) (λ h. some_waits owned cells dirty are h (clean_owned pane w corner kept tree owned cells stands clean)),
+    λ h. none_waits pane w corner kept tree owned cells stands (none_listed owned cells dirty are h),
+  ),
+)
 
 -- ---- a notice
 

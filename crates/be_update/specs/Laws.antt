@@ -8,9 +8,9 @@ use Rattle.be_span.specs.Screen.{cell_at}
 use Rattle.be_views.specs.Trees.{Tree}
 use Rattle.be_pane.specs.Panes as machine
 use Rattle.be_pane.specs.declared.pane.Pane.{Pane}
-use Rattle.be_pane.specs.Owed.{IsOwed}
-use Rattle.be_pane.specs.StandsFor.{PaneStandsFor}
-use Rattle.be_update.specs.Sessions.{dirty_pixels, is_owed, session_of, with_session, passed, cleaned_cell}
+use Rattle.be_pane.specs.Owed.{IsClean, IsOwed}
+use Rattle.be_pane.specs.StandsFor.{IsWhole, PaneStandsFor}
+use Rattle.be_update.specs.Sessions.{dirty_pixels, is_any, is_owed, session_of, with_session, passed, cleaned_cell}
 use Rattle.be_update.specs.Listing.{listed_views}
 use Rattle.be_update.specs.Surveys.{Surveyed, IsSurveyOf, HasBegun, without_notice}
 
@@ -24,6 +24,21 @@ ListedAsDirty =
     (width : ℕ) (owned : ℤ → ℤ → Bool) (screen : List Cell) (cells : ℤ → ℤ → Cell) →
     ((x y : ℤ) → owned x y ≡ true → cell_at width screen x y ≡ Some (cells x y)) →
     AreDirty owned cells (dirty_pixels width owned screen)
+
+-- A pane has a session exactly where the machine keeps one of the window for which it stands, and nothing waits in it
+-- exactly where the machine lists nothing.
+abbrev pub FoundAsTheMachine : Type 0
+FoundAsTheMachine =
+    (pane : Pane) (w : ℕ) (corner : Point) (kept : machine.Pane) (tree : Tree) (owned : ℤ → ℤ → Bool) (cells : ℤ → ℤ → Cell) (dirty : List Point) →
+    PaneStandsFor pane w corner kept tree owned cells → AreDirty owned cells dirty →
+    ((pane.session ≡ None) ↔ (kept.session ≡ None)) × (IsClean pane.spans ↔ (is_any dirty ≡ false))
+
+-- A survey of a pane is one of each that stands for the same window.
+abbrev pub SurveyedForEach : Type 0
+SurveyedForEach =
+    (s : Surveyed) (pane other : Pane) (w : ℕ) (corner : Point) (kept : machine.Pane) (tree : Tree) (owned : ℤ → ℤ → Bool) (cells : ℤ → ℤ → Cell) →
+    PaneStandsFor pane w corner kept tree owned cells → PaneStandsFor other w corner kept tree owned cells →
+    IsSurveyOf s pane → IsSurveyOf s other
 
 -- A pane owes a notice exactly where the machine says that the window for which it stands is owed one. A window that is
 -- closed owns no pixel.
@@ -52,3 +67,9 @@ PassedAsTheMachine =
     (pane : Pane) (w : ℕ) (corner : Point) (kept : machine.Pane) (tree : Tree) (owned : ℤ → ℤ → Bool) (cells : ℤ → ℤ → Cell) →
     PaneStandsFor pane w corner kept tree owned cells →
     PaneStandsFor (without_notice pane) w corner (passed kept) tree owned cells
+
+-- A pane that is whole stays whole once an update has begun or was passed over.
+abbrev pub StaysWhole : Type 0
+StaysWhole =
+    ((s : Surveyed) (old new : Pane) → HasBegun s old new → IsWhole old → IsWhole new)
+    × ((pane : Pane) → IsWhole pane → IsWhole (without_notice pane))

@@ -1,2 +1,3 @@
 mod ScreenLemmas
+mod CarriedLemmas
 mod MadeLemmas

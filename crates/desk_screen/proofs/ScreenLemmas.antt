@@ -1,10 +1,10 @@
 -- A screen names each window that a change alters, and stays one.
 use Rattle.std.specs.Prelude.{slice_get, slice_set, Contains, map}
 use Rattle.std.proofs.Common.{◌≡◌, ℕ, zero, suc, ◌<◌, List, [], ◌∷◌, length, Some, Ok, inl, inr, refl, sym, ap, ◌∙◌, subst, arith}
-use Rattle.std.proofs.Common.{◌++◌, take, drop}
+use Rattle.std.proofs.Common.{◌++◌, take, drop, get_or}
 use Rattle.std.proofs.Math.Seq.{take-append_seam}
 use Rattle.std.proofs.lemmas.Bool.{cases_eq, cases_lt}
-use Rattle.std.proofs.lemmas.Option.{same_Some, slice_get_within}
+use Rattle.std.proofs.lemmas.Option.{same_Some, slice_get-get_or}
 use Rattle.be_color.specs.declared.colors.Color.{Color}
 use Rattle.be_geom.specs.declared.change.Change.{Change}
 use Rattle.be_geom.specs.declared.rect.Rect.{Rect}
@@ -15,7 +15,7 @@ use Rattle.be_views.specs.Trees.{Tree}
 use Rattle.be_desk.specs.Affected.{HasAltered}
 use Rattle.be_desk.specs.Changes.{Desk, desk_after, owns}
 use Rattle.be_desk.specs.Desks.{IsPaired}
-use Rattle.be_desk.specs.Plans.{Planned, ArePanesOf, AreCarried, IsPaneOf, IsPlanOf}
+use Rattle.be_desk.specs.Plans.{AreAscending, IsPaneOf}
 use Rattle.be_desk.proofs.AffectedLemmas.{past_owns_none}
 use Rattle.be_desk.proofs.DeskLemmas.{is_after}
 use Rattle.be_desk.proofs.OthersLemmas.{others_stay}
@@ -42,24 +42,12 @@ all_named before after panes w change screen taken u differs =
           absurd (differs (λ x y. past_owns_none before.windows u (omega arith) x y ∙ sym (past_owns_none after.windows u (omega arith) x y)))
     ]
 
--- and the panes still stand at their windows' numbers once a plan is carried out
-pub screen_after : (plan : Planned) (before after : Desk) (old new : List Pane) → IsScreen before old → IsPlanOf plan before old → desk_after before plan.window plan.change ≡ Ok after → AreCarried plan after old new → IsPaired after → ArePanesOf after new → IsScreen after new
-screen_after plan before after old new screen is_plan taken carried paired panes_of =
-    let stay = others_stay before.windows after.windows plan.window plan.change (is_after before after plan.window plan.change taken).windows in
-    let many = stay.many in
-    let each = screen.each in
-    let as_many = carried.each in
-    let as_planned = is_plan.each in
-    record {
-      paired = paired;
-      panes_of = panes_of;
-      each = omega arith;
-      numbered = λ k pane got.
-          let within = slice_get_within new k pane got in
-          let was = there old k (omega arith) in
-          let spans = there plan.spans k (omega arith) in
-          (carried.panes k was.0 spans.0 was.1 spans.1 pane got).window ∙ screen.numbered k was.0 was.1;
-    }
+-- and the panes are in order of their windows' numbers
+pub ascending : (desk : Desk) (panes : List Pane) → IsScreen desk panes → AreAscending panes
+ascending desk panes screen i j pane before within =
+    let first = screen.numbered i (get_or panes i pane) (slice_get-get_or panes i pane (omega arith)) in
+    let second = screen.numbered j (get_or panes j pane) (slice_get-get_or panes j pane within) in
+    omega arith
 
 -- ---- other cells
 

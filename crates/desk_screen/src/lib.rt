@@ -6,6 +6,7 @@
 #![tactic(auto)]
 
 mod asking;
+mod changing;
 mod declared;
 mod fault;
 mod making;

@@ -8,11 +8,12 @@ ghost use Rattle.desk_screen.specs.Making.{AreMade};
 ghost use Rattle.desk_screen.specs.Screens.{IsScreen};
 
 use crate::asking::is_askable;
+use crate::changing::{carry_out, planned};
 use crate::declared::Declared;
 use crate::fault::{Refusal, ScreenFault};
 use crate::making::Making;
 use crate::marking::{clear_all, set_in};
-use be_desk::{Desk, affected, carry_out, plan};
+use be_desk::{Desk, affected};
 use be_geom::Change;
 use be_input::Pointing;
 use be_pane::Pane;
@@ -152,7 +153,7 @@ fn change_parts(
     if !is_askable(&desk.stack, w, *change) {
         return Err(Refusal::Unasked);
     }
-    let ready = plan(alloc, desk, panes, w, change)?;
+    let ready = planned(alloc, desk, panes, w, change)?;
     carry_out(desk, panes, ready);
     Ok(())
 }
