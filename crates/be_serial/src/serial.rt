@@ -1,0 +1,140 @@
+//! All activities on one thread.
+ghost use Rattle.std.specs.Prelude.{◌≡◌, ℕ, ◌+◌, ◌^◌, ◌<◌, ◌≤◌, ◌++◌, ◌∷◌, [], List, Bool, true, false, All, Some, IfOk, OnOk, map, length, vec_len, vec_capacity, slice_index_or};
+ghost use Rattle.be_hall.specs.Numbers.{total};
+ghost use Rattle.be_hall.specs.Machine.{AllFit, leads};
+ghost use Rattle.be_turns.specs.Turning.{IsFinished, is_some};
+ghost use Rattle.be_serial.specs.Scheduled.{pushed_if, ready_below, Picked};
+ghost use Rattle.be_serial.specs.Running.{NeverStuck, Runs};
+
+use crate::schedule::Schedule;
+use be_geom::NoMemory;
+use be_hall::{Held, Parts, Verdict};
+use be_turns::{Turn, Turns};
+use std::alloc::Global;
+use std::snapshot::Snapshot;
+
+/// Activities that end: somebody has a legal entry until the closing one was made.
+pub trait Closing: Turns {
+    ghost closed: { Self → List Self.Meaning → Bool };
+
+    ghost never_stuck: { (it : Self) → NeverStuck (Self.machine it) (Self.legal it) Self.stops (Self.activities it) (closed it) };
+}
+
+/// What a run gives.
+#[derive(Drop)]
+pub struct Ran<W: Turns> {
+    pub rules: W,
+    /// By place.
+    pub parts: Vec<W::Part>,
+    pub history: Vec<W::Entry>,
+}
+
+// A run so far.
+#[derive(Drop)]
+struct Run<W: Turns> {
+    rules: W,
+    held: Held<W::Part>,
+    history: Vec<W::Entry>,
+    opening: Snapshot<Vec<W::Part>>,
+    limit: u64,
+}
+
+fn put(list: &mut Vec<u32>, place: u32, wanted: bool)
+    requires { vec_len list.old < vec_capacity list.old }
+    ensures places { list.new.items ≡ pushed_if wanted list.old.items place }
+    ensures room { vec_capacity list.new ≡ vec_capacity list.old }
+{
+    if wanted {
+        list.push_reserved(place);
+    }
+}
+
+impl<W: Turns> Run<W> {
+    // The activities that have a legal entry now, in order of number.
+    fn list_ready(&self, ready: &mut Vec<u32>)
+        requires runs { Runs (W.machine self.now.rules) W.meaning W.log (map W.meaning self.now.opening.value.items) self.now.limit self.now.held.parts self.now.history.items }
+        requires limit { self.now.limit ≤ 2 ^ 62 }
+        requires room { W.activities self.now.rules ≤ vec_capacity ready.old }
+        ensures room { W.activities self.now.rules ≤ vec_capacity ready.new }
+        ensures list { ready.new.items ≡ ready_below (W.legal self.now.rules) (leads (W.machine self.now.rules) (map W.meaning self.now.opening.value.items) self.now.history.items) (W.activities self.now.rules) }
+    {
+        ready.clear();
+        for who in 0..self.rules.activities() {
+            let has = self.rules.has_entry(who, &self.held);
+            put(ready, who, has);
+        }
+    }
+
+    // Makes the activity's legal entry.
+    fn step(&mut self, who: u32) -> Result<(), NoMemory>
+        requires runs { Runs (W.machine self.old.rules) W.meaning W.log (map W.meaning self.old.opening.value.items) self.old.limit self.old.held.parts self.old.history.items }
+        requires limit { self.old.limit ≤ 2 ^ 62 }
+        requires legal { (who < W.activities self.old.rules) × (is_some (W.legal self.old.rules (leads (W.machine self.old.rules) (map W.meaning self.old.opening.value.items) self.old.history.items) who) ≡ true) }
+        ensures same { (self.new.rules ≡ self.old.rules) × (self.new.opening ≡ self.old.opening) × (self.new.limit ≡ self.old.limit) }
+        ensures made { OnOk result ((e : W.Entry) × (self.new.history.items ≡ self.old.history.items ++ e ∷ []) × (W.legal self.old.rules (leads (W.machine self.old.rules) (map W.meaning self.old.opening.value.items) self.old.history.items) who ≡ Some e)) }
+        ensures runs { OnOk result (Runs (W.machine self.new.rules) W.meaning W.log (map W.meaning self.new.opening.value.items) self.new.limit self.new.held.parts self.new.history.items) }
+    {
+        let Turn::Entry(entry) = self.rules.next(who, &self.held)? else {
+            unreachable!()
+        };
+        let Verdict::Ready(ready) = self.rules.prepare(&mut self.held, &entry)? else {
+            unreachable!()
+        };
+        let number = self.history.len() as u64 + 1;
+        self.history.push(entry)?;
+        self.rules.perform(&mut self.held, ready, number);
+        Ok(())
+    }
+}
+
+/// Runs all activities on this thread, of which the seed picks one before each entry, until nobody has
+/// a legal entry. Before each entry each activity is asked once.
+pub fn run_serial<W: Closing + Drop>(
+    alloc: Global,
+    rules: W,
+    parts: Vec<W::Part>,
+    limit: u64,
+    seed: u32,
+) -> Result<Ran<W>, NoMemory>
+    requires limit { limit ≤ 2 ^ 62 }
+    requires few { vec_len parts < 2 ^ 32 }
+    requires sound { (W.machine rules).sound (map W.meaning parts.items) }
+    requires unclosed { W.closed rules (map W.meaning parts.items) ≡ false }
+    requires budgets { total (W.machine rules).budget (map W.meaning parts.items) ≤ limit }
+    requires fits { AllFit (W.machine rules).fits 0 (map W.meaning parts.items) }
+    requires logs { All (λ x. W.log x ≡ []) parts.items }
+    ensures rules { IfOk result (λ r. r.rules ≡ rules) }
+    ensures finished { IfOk result (λ r. IsFinished (W.machine rules) W.stops (map W.meaning parts.items) r.history.items (map W.meaning r.parts.items)) }
+    ensures scheduled { IfOk result (λ r. Picked (W.machine rules) (W.legal rules) (W.activities rules) seed seed (map W.meaning parts.items) r.history.items) }
+{
+    let opening = Snapshot::of(&parts);
+    let mut ready = Vec::with_capacity(alloc, rules.activities() as usize)?;
+    let mut schedule = Schedule::new(seed);
+    let mut run = Run {
+        rules,
+        held: Held::whole(parts),
+        history: Vec::new(alloc),
+        opening,
+        limit,
+    };
+    loop {
+        run.list_ready(&mut ready);
+        let listed = ready.as_slice();
+        if listed.len() == 0 {
+            break;
+        }
+        let place = schedule.pick(listed.len());
+        run.step(listed[place])?;
+    }
+    let Run {
+        rules,
+        held,
+        history,
+        ..
+    } = run;
+    Ok(Ran {
+        rules,
+        parts: held.into_parts(),
+        history,
+    })
+}
