@@ -69,6 +69,10 @@ pub mod ProgressLocks
 pub mod ProgressLockSteps
 pub mod ProgressLocksMet
 pub mod ProgressAfter
+pub mod KeptCommands
+pub mod KeptNotices
+pub mod KeptNoticeSteps
+pub mod KeptSessions
 pub mod ProgressCan
 pub mod ProgressNumbers
 pub mod ProgressStuck

@@ -24,7 +24,7 @@ repeated (suc n) (suc w) x y e = repeated n w x y e
 at_repeated : {X : Type 0} (P : X → Type 0) (n w : ℕ) (x : X) → P x → AtPlace P (replicate n x) w
 at_repeated P n w x h y e = subst P (repeated n w x y e) h
 
-at_mapped : {X Y : Type 0} (P : Y → Type 0) (f : X → Y) (xs : List X) (w : ℕ) → ((x : X) → P (f x)) → AtPlace P (map f xs) w
+pub at_mapped : {X Y : Type 0} (P : Y → Type 0) (f : X → Y) (xs : List X) (w : ℕ) → ((x : X) → P (f x)) → AtPlace P (map f xs) w
 at_mapped P f xs w h y e =
     let at : IsMapped f (slice_get xs w) y = mapped f (slice_get xs w) y (sym (slice_get-map f xs w) ∙ e) in
     subst P at.is (h at.from)

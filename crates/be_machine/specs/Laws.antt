@@ -1,5 +1,5 @@
--- What is proved of all legal histories, whoever steps. Each statement is the contract of a function in src/laws.
--- PixelLaws goes on from here, on single pixels.
+-- What is proved of all legal histories, whoever steps. Each statement is the contract of a function in src/laws. Two
+-- files go on from here: PixelLaws on single pixels, KeptLimits on what stays within limits.
 use Rattle.std.specs.Prelude.{◌≡◌, ◌↔◌, ◌≤◌, ◌*◌, ℕ, ℤ, true, false, List, length, Some, None, slice_get, option_map, option_and_then}
 use Rattle.be_command.specs.Effects.{Deed, at_view, effect_of}
 use Rattle.be_command.specs.Limits.{is_drawing}

@@ -2,6 +2,7 @@
 
 mod cells;
 mod counts;
+mod limits;
 mod orderly;
 mod pixels;
 mod progress;
@@ -12,6 +13,9 @@ pub use cells::{
     every_owned_pixel_has_a_view_and_a_color, what_is_exposed_is_marked,
 };
 pub use counts::{no_history_outgrows_its_work, numbers_stay_small};
+pub use limits::{
+    a_cell_is_idle_at_a_send, no_session_is_open_at_a_begin, waiting_commands_are_within_limits,
+};
 pub use orderly::every_history_is_orderly;
 pub use pixels::{
     a_pixel_is_changed_by_its_window_alone, commands_stay_in_their_window, drawing_leaves_marks,

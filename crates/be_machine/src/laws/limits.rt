@@ -1,0 +1,17 @@
+ghost use Rattle.be_machine.specs.KeptLimits.{LinkedAreWithinLimits, BufferedAreWithinLimits, NoSessionAtBegin, CellsAreIdleAtSends};
+
+/// Each command that is made and not executed yet is one that a script may say of its window, or ends an update.
+pub fn waiting_commands_are_within_limits()
+    ensures linked { LinkedAreWithinLimits }
+    ensures buffered { BufferedAreWithinLimits }
+{}
+
+/// While a looper has a notice that isn't begun, no session of its window is open.
+pub fn no_session_is_open_at_a_begin()
+    ensures { NoSessionAtBegin }
+{}
+
+/// An application that is about to send waits for no reply, and has none.
+pub fn a_cell_is_idle_at_a_send()
+    ensures { CellsAreIdleAtSends }
+{}
