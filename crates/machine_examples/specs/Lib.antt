@@ -19,3 +19,4 @@ pub mod PostedToAndFro
 pub mod TakenAfterClose
 pub mod Views
 pub mod Order
+pub mod LawsAtWork

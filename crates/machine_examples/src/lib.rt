@@ -22,6 +22,7 @@ ghost use Rattle.machine_examples.specs.PostedToAndFro as posted_to_and_fro_exam
 ghost use Rattle.machine_examples.specs.TakenAfterClose as taken_after_close_example;
 ghost use Rattle.machine_examples.specs.Order as order_example;
 ghost use Rattle.machine_examples.specs.Views as views_example;
+ghost use Rattle.machine_examples.specs.LawsAtWork as laws_at_work_example;
 
 /// A window is shown and filled: its update comes between the two commands.
 pub fn one_window()
@@ -116,4 +117,9 @@ pub fn one_window_in_order()
 /// Which view is at a pixel, where views are, which pixels two lines have, and four pixels of a letter.
 pub fn views_and_lines()
     ensures { views_example.Holds }
+{}
+
+/// A window with a child is shown, filled and updated, and an application sends: what the laws of pixels and limits say.
+pub fn laws_at_work()
+    ensures { laws_at_work_example.Holds }
 {}
