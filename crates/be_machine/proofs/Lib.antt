@@ -73,6 +73,9 @@ pub mod KeptCommands
 pub mod KeptNotices
 pub mod KeptNoticeSteps
 pub mod KeptSessions
+pub mod KeptDepths
+pub mod KeptLetters
+pub mod KeptLetterSteps
 pub mod ProgressCan
 pub mod ProgressNumbers
 pub mod ProgressStuck

@@ -8,6 +8,7 @@ use Rattle.be_input.specs.declared.Event.TheVariants as event
 use Rattle.be_input.specs.Deliveries.{Post, where_message, transit_message, place_in, mouse_post, mouse_posts, accepts, pressed, window_under, is_same, move_posts, key_message, focus_target, key_post, delivered}
 use Rattle.be_input.specs.Pointing.{Pointing, corner_of, under_pointer}
 use Rattle.be_message.specs.declared.target.Target.TheVariants as target
+use Rattle.be_message.specs.Depths.{depth_of}
 use Rattle.be_message.specs.Messages.{Message}
 use Rattle.be_message.specs.Words.{mouse_down, mouse_up, mouse_moved, key_down}
 use Rattle.be_stack.specs.declared.window.Window.{Window}
@@ -16,10 +17,11 @@ use Rattle.be_views.specs.Trees.{Tree}
 use Rattle.be_machine.proofs.WorkInstructions.{by_test}
 use Rattle.be_machine.proofs.WorkMessages.{is_shown_target}
 
--- a message with this word, to a window or a view
+-- a message with this word, to a window or a view, in which none lies
 pub record Fits (what : ℕ) (post : Post) : Type 0 where
   pub same : post.message.what ≡ what
   pub shown : is_shown_target post.target ≡ true
+  pub flat : depth_of post.message ≡ 1
 
 -- ... if there is one
 abbrev pub MayFit : ℕ → Option Post → Type 0
@@ -47,21 +49,21 @@ option_alone None = refl
 
 -- ---- the mouse
 
-placed_fits : (what : ℕ) (message : Point → Message) (p corner : Point) (at : ℕ × ℕ) (o : Option Point) → ((q : Point) → (message q).what ≡ what) → MayFit what (option_map (λ place. record { window = at.0; target = target.View at.1; message = message (less (less p corner) place) }) o)
+placed_fits : (what : ℕ) (message : Point → Message) (p corner : Point) (at : ℕ × ℕ) (o : Option Point) → ((q : Point) → ((message q).what ≡ what) × (depth_of (message q) ≡ 1)) → MayFit what (option_map (λ place. record { window = at.0; target = target.View at.1; message = message (less (less p corner) place) }) o)
 placed_fits what message p corner at (Some place) same post e =
     subst (Fits what) (same_Some (record { window = at.0; target = target.View at.1; message = message (less (less p corner) place) }) post e)
-    (record { same = same (less (less p corner) place); shown = refl })
+    (record { same = (same (less (less p corner) place)).0; shown = refl; flat = (same (less (less p corner) place)).1 })
 placed_fits what message p corner at None same post e = cc
 
-cornered_fits : (what : ℕ) (message : Point → Message) (p : Point) (at : ℕ × ℕ) (c o : Option Point) → ((q : Point) → (message q).what ≡ what) → MayFit what (option_and_then (λ corner. option_map (λ place. record { window = at.0; target = target.View at.1; message = message (less (less p corner) place) }) o) c)
+cornered_fits : (what : ℕ) (message : Point → Message) (p : Point) (at : ℕ × ℕ) (c o : Option Point) → ((q : Point) → ((message q).what ≡ what) × (depth_of (message q) ≡ 1)) → MayFit what (option_and_then (λ corner. option_map (λ place. record { window = at.0; target = target.View at.1; message = message (less (less p corner) place) }) o) c)
 cornered_fits what message p at (Some corner) o same = placed_fits what message p corner at o same
 cornered_fits what message p at None o same = none_fits what
 
-under_fits : (what : ℕ) (windows : Windows) (trees : List Tree) (message : Point → Message) (p : Point) (under : Option (ℕ × ℕ)) → ((q : Point) → (message q).what ≡ what) → MayFit what (option_and_then (mouse_post windows trees message p) under)
+under_fits : (what : ℕ) (windows : Windows) (trees : List Tree) (message : Point → Message) (p : Point) (under : Option (ℕ × ℕ)) → ((q : Point) → ((message q).what ≡ what) × (depth_of (message q) ≡ 1)) → MayFit what (option_and_then (mouse_post windows trees message p) under)
 under_fits what windows trees message p (Some at) same = cornered_fits what message p at (corner_of windows at.0) (place_in trees at) same
 under_fits what windows trees message p None same = none_fits what
 
-mouse_fits : (what : ℕ) (windows : Windows) (trees : List Tree) (message : Point → Message) (p : Point) (under : Option (ℕ × ℕ)) → ((q : Point) → (message q).what ≡ what) → AllFit what (mouse_posts windows trees message p under)
+mouse_fits : (what : ℕ) (windows : Windows) (trees : List Tree) (message : Point → Message) (p : Point) (under : Option (ℕ × ℕ)) → ((q : Point) → ((message q).what ≡ what) × (depth_of (message q) ≡ 1)) → AllFit what (mouse_posts windows trees message p under)
 mouse_fits what windows trees message p under same = option_fits what (option_and_then (mouse_post windows trees message p) under) (under_fits what windows trees message p under same)
 
 -- ---- what comes of an event
@@ -80,7 +82,7 @@ no_one what = record { fits = none_fits what; alone = refl }
 pressed_one : (windows : Windows) (pointing : Pointing) (p : Point) (under : Option (ℕ × ℕ)) (o : Option Window) → One mouse_down (pressed windows pointing p under o).first (pressed windows pointing p under o).second
 pressed_one windows pointing p (Some at) (Some window) =
     by_test (λ posts. One mouse_down (slice_get posts 0) (slice_get posts 1)) (accepts windows at.0 window) (mouse_posts windows pointing.trees (where_message mouse_down) p (Some at)) []
-    (λ _. one_of mouse_down (option_and_then (mouse_post windows pointing.trees (where_message mouse_down) p) (Some at)) (under_fits mouse_down windows pointing.trees (where_message mouse_down) p (Some at) (λ q. refl)))
+    (λ _. one_of mouse_down (option_and_then (mouse_post windows pointing.trees (where_message mouse_down) p) (Some at)) (under_fits mouse_down windows pointing.trees (where_message mouse_down) p (Some at) (λ q. (refl, refl))))
     (λ _. no_one mouse_down)
 pressed_one windows pointing p (Some at) None = no_one mouse_down
 pressed_one windows pointing p None o = no_one mouse_down
@@ -93,7 +95,7 @@ pub release_one : (windows : Windows) (pointing : Pointing) (p : Point) → One 
 unfolding delivered
 release_one windows pointing p =
     let under = under_pointer windows pointing.trees p in
-    one_of mouse_up (option_and_then (mouse_post windows pointing.trees (where_message mouse_up) p) under) (under_fits mouse_up windows pointing.trees (where_message mouse_up) p under (λ q. refl))
+    one_of mouse_up (option_and_then (mouse_post windows pointing.trees (where_message mouse_up) p) under) (under_fits mouse_up windows pointing.trees (where_message mouse_up) p under (λ q. (refl, refl)))
 
 focus_shown : (o : Option ℕ) → is_shown_target (focus_target o) ≡ true
 focus_shown (Some v) = refl
@@ -101,7 +103,7 @@ focus_shown None = refl
 
 focus_fits : (key : ℤ) (w : ℕ) (o : Option (Option ℕ)) → MayFit key_down (option_map (λ focus. record { window = w; target = focus_target focus; message = key_message key }) o)
 focus_fits key w (Some focus) post e =
-    subst (Fits key_down) (same_Some (record { window = w; target = focus_target focus; message = key_message key }) post e) (record { same = refl; shown = focus_shown focus })
+    subst (Fits key_down) (same_Some (record { window = w; target = focus_target focus; message = key_message key }) post e) (record { same = refl; shown = focus_shown focus; flat = refl })
 focus_fits key w None post e = cc
 
 active_fits : (pointing : Pointing) (key : ℤ) (o : Option ℕ) → MayFit key_down (option_and_then (key_post pointing key) o)
@@ -116,9 +118,9 @@ key_one windows pointing key = one_of key_down (option_and_then (key_post pointi
 moved_fit : (windows : Windows) (trees : List Tree) (p : Point) (old new : Option (ℕ × ℕ)) → AllFit mouse_moved (move_posts windows trees p old new)
 moved_fit windows trees p old new =
     by_test (AllFit mouse_moved) (is_same old new) (mouse_posts windows trees (transit_message 1) p new) (mouse_posts windows trees (transit_message 2) p old ++ mouse_posts windows trees (transit_message 0) p new)
-    (λ _. mouse_fits mouse_moved windows trees (transit_message 1) p new (λ q. refl))
+    (λ _. mouse_fits mouse_moved windows trees (transit_message 1) p new (λ q. (refl, refl)))
     (λ _. append_fits mouse_moved (mouse_posts windows trees (transit_message 2) p old) (mouse_posts windows trees (transit_message 0) p new)
-    (mouse_fits mouse_moved windows trees (transit_message 2) p old (λ q. refl)) (mouse_fits mouse_moved windows trees (transit_message 0) p new (λ q. refl)))
+    (mouse_fits mouse_moved windows trees (transit_message 2) p old (λ q. (refl, refl))) (mouse_fits mouse_moved windows trees (transit_message 0) p new (λ q. (refl, refl))))
 
 pub move_first : (windows : Windows) (pointing : Pointing) (p : Point) → MayFit mouse_moved (delivered windows pointing (event.Move p)).first
 unfolding delivered

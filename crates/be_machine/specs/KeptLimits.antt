@@ -1,10 +1,11 @@
 -- What stays within its limits through every legal history. Each statement is the contract of a function in src/laws.
-use Rattle.std.specs.Prelude.{◌≡◌, ◌⊎◌, ℕ, true, List, Some, None, slice_get}
+use Rattle.std.specs.Prelude.{◌≡◌, ◌⊎◌, ◌≤◌, ℕ, true, List, Some, None, slice_get}
 use Rattle.be_actor.specs.declared.Wish.TheVariants as wish
 use Rattle.be_command.specs.declared.Command.TheVariants.{EndUpdate}
 use Rattle.be_link.specs.Queues.{Buffer, Numbered}
 use Rattle.be_looper.specs.Duties.{Hand}
 use Rattle.be_message.specs.declared.target.Target.{Target}
+use Rattle.be_message.specs.Depths.{depth_of}
 use Rattle.be_message.specs.Messages.{Message}
 use Rattle.be_pane.specs.Panes.{Pane}
 use Rattle.be_reply.specs.Cells as reply
@@ -15,8 +16,16 @@ use Rattle.be_machine.specs.Activities.{app, runner}
 use Rattle.be_machine.specs.declared.Entry.{Entry}
 use Rattle.be_machine.specs.History.{IsLegalHistory, state_after}
 use Rattle.be_machine.specs.Looper.{cell_of}
+use Rattle.be_machine.specs.Program.{hand_at}
 use Rattle.be_machine.specs.State.{handling, beginning}
 use Rattle.be_machine.specs.Wants.{asks, want_of}
+
+-- No message in the one that a looper handles lies deeper than 15, so that a message made with it in its body lies at
+-- most 16 deep.
+abbrev pub HandsAreShallow : Type 0
+HandsAreShallow =
+    (d : Declared) (h : List Entry) (w : ℕ) (hand : Hand Message) → IsWithinLimits d → IsLegalHistory d h
+    → hand_at (state_after d h) w ≡ Some hand → depth_of hand.letter.body ≤ 15
 
 -- a command of window w that a script may say, or the end of an update
 abbrev pub IsOnItsWay : Declared → ℕ → Numbered → Type 0

@@ -1,4 +1,9 @@
-ghost use Rattle.be_machine.specs.KeptLimits.{LinkedAreWithinLimits, BufferedAreWithinLimits, NoSessionAtBegin, CellsAreIdleAtSends};
+ghost use Rattle.be_machine.specs.KeptLimits.{HandsAreShallow, LinkedAreWithinLimits, BufferedAreWithinLimits, NoSessionAtBegin, CellsAreIdleAtSends};
+
+/// The message that a looper handles lies at most 15 deep, so that one made with it lies at most 16 deep.
+pub fn messages_in_hand_are_shallow()
+    ensures { HandsAreShallow }
+{}
 
 /// Each command that is made and not executed yet is one that a script may say of its window, or ends an update.
 pub fn waiting_commands_are_within_limits()
