@@ -15,9 +15,11 @@ use Rattle.be_machine.specs.declared.Entry.{Entry}
 use Rattle.be_machine.specs.History.{state_after}
 use Rattle.be_machine.specs.Looper.{cell_of}
 use Rattle.be_machine.specs.Pixels.{color_at, mark_at, owner_in}
+use Rattle.be_machine.specs.Program.{hand_at}
 use Rattle.be_machine.specs.Schedule.{first_entries}
 use Rattle.be_machine.specs.State.{State}
 use Rattle.be_machine.specs.Windows.{view_colors}
+use Rattle.be_message.specs.Depths.{depth_of}
 use Rattle.be_reply.specs.Cells as reply
 use Rattle.be_script.specs.Programs.{is_command_for}
 use Rattle.be_script.specs.Script.{Declared}
@@ -97,3 +99,5 @@ pub record Holds : Type 0 where
   pub idle : cell_of (state_after replies.row []) (runner.app 0) ≡ Some reply.idle
   pub idle_again : cell_of (state_after replies.row (take 4 replies.history)) (runner.app 0) ≡ Some reply.idle
   pub waiting : cell_of (state_after replies.row (take 1 replies.history)) (runner.app 0) ≡ Some reply.waiting
+  -- the message in hand lies no deeper than its hop allows
+  pub depth : option_map (λ hand. depth_of hand.letter.body) (hand_at (state_after replies.row (take 2 replies.history)) 0) ≡ Some 1

@@ -23,4 +23,5 @@ returns c = record {
   idle = refl;
   idle_again = refl;
   waiting = refl;
+  depth = refl;
 }
