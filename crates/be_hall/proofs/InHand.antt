@@ -160,6 +160,7 @@ module _ {P T M E : Type 0} (machine : P → Machine M E) (meaning : T → M) (l
           missed = ap (λ (z : View P M E). z.missed) is;
           had = ap (λ (z : View P M E). z.had) is;
           met = ap (λ (z : View P M E). z.met) is;
+          branches = ap (λ (z : View P M E). z.branches) is;
           raised = ap (λ (z : View P M E). z.raised) is;
           knows = ap (λ (z : View P M E). z.knows) is;
           quiet = ap (λ (z : View P M E). z.quiet) is;

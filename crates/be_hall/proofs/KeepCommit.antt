@@ -17,6 +17,7 @@ use Rattle.be_hall.specs.Rule.{Tied, Kept}
 use Rattle.be_hall.specs.Steps.{Committed, commits}
 use Rattle.be_hall.proofs.Marked.{has_by_places, held_renewed}
 use Rattle.be_hall.proofs.MissLemmas.{same_marked}
+use Rattle.be_hall.proofs.Families.{family_kept}
 use Rattle.be_hall.proofs.KeepPlaces.{sees}
 use Rattle.be_hall.proofs.Stopping.{stop_set}
 use Rattle.be_hall.proofs.Growth.{inside, total_set, longer, leads_snoc, legal_snoc, all_longer, each_longer, all_snoc, rises_snoc, times_snoc, logged_snoc, in_longer, in_snoc, fits_known, held_place, renew, fits_once, appended_places, appended_fits, fits_logs, log_places}
@@ -145,6 +146,7 @@ module _ {P M E T : Type 0} (machine : P → Machine M E) (meaning : T → M) (l
         in_logs = t.in_logs;
         in_one_log = λ k. let was = r.in_one_log k in let now_one = t.in_one_log k in let more : once (length h') k ≡ once (length h) k + one_if (suc (length h)) k = ap (λ (c : ℕ). once c k) long in let same : one_if (length h + 1) k ≡ one_if (suc (length h)) k = ap (λ (c : ℕ). one_if c k) (omega arith) in omega arith;
         misses = same_marked s.views id me.0 at r.misses (length h + 1) e t.zs t.same_places;
+        family = family_kept s.views id me.0 w at r.family refl (λ p has. has_by_places t.zs me.0.marks p (sym t.same_places) has);
         stops = stop_set (get_or s.words 8 0) (get_or (set s.words 0 n) 8 0) s.views id me.0 w (get_or-set_other s.words 0 8 n 0 (λ z. omega arith)) at refl refl r.stops;
         about = λ j v b there_v is. ⊎_elim
             (λ (q : (j ≡ id) × (w ≡ v)). r.about id me.0 b at (ap (λ (u : V). u.about) q.1 ∙ is))

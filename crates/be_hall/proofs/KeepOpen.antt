@@ -15,6 +15,7 @@ use Rattle.be_hall.specs.Misses.{IsNamed}
 use Rattle.be_hall.specs.Logs.{logged, InHistory}
 use Rattle.be_hall.specs.History.{Knows}
 use Rattle.be_hall.specs.Rule.{Kept}
+use Rattle.be_hall.proofs.Families.{first_alone}
 
 module _ {A B : Type 0} (f : A → B) where
   pub map_long : (l : List A) → length (map f l) ≡ length l
@@ -86,6 +87,11 @@ module _ {P M E T : Type 0} (machine : P → Machine M E) (meaning : T → M) (l
         misses = record {
           had = λ j v e p h. absurd (only_one (λ (u : View P M E). HasPlace u.marks p → ⊥) (blank a) (λ k. k.1) j v e h);
           missed = λ j v e p h. absurd (only_one (λ (u : View P M E). IsNamed u.missed p → ⊥) (blank a) (λ k. k) j v e h);
+        };
+        family = record {
+          first = refl;
+          each = λ d. let one = first_alone d in omega arith;
+          real = λ j v e p h. absurd (only_one (λ (u : View P M E). HasPlace u.marks p → ⊥) (blank a) (λ k. k.1) j v e h);
         };
         stops = record { bit = inl (zero_at 8); told = λ j v e says. absurd (only_one (λ (u : View P M E). (u.raised ≡ true) ⊎ (u.knows ≡ true) → ⊥) (blank a) (λ k. ⊎_elim (λ z. grind rules) (λ z. grind rules) k) j v e says); raiser = λ one. let z = zero_at 8 in absurd (omega arith) };
         about = λ j v b e about_b. only_one (λ (u : View P M E). u.about ≡ b ∷ [] → b ≡ a) (blank a) (λ k. let f = ap (λ (l : List (About P M)). first_of b l) k in sym f) j v e about_b;

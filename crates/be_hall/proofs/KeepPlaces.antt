@@ -19,8 +19,9 @@ use Rattle.be_hall.specs.History.{Knows, RisesOver, EachRises, AllStand, EachSta
 use Rattle.be_hall.specs.Rule.{HoldsMark, Tied, AtHome, Kept}
 use Rattle.be_hall.specs.Steps.{tries, lets_go, looks, glances, Sees}
 use Rattle.be_hall.proofs.Stopping.{stop_set}
-use Rattle.be_hall.specs.Misses.{IsHadElsewhere, Misses}
-use Rattle.be_hall.proofs.MissLemmas.{still_missed, marked_more, missed_more, marked_less}
+use Rattle.be_hall.specs.Misses.{IsAlone, IsHadElsewhere, Misses}
+use Rattle.be_hall.proofs.MissLemmas.{still_missed, marked_more, missed_more, marked_less, has_before}
+use Rattle.be_hall.proofs.Families.{family_stays, family_kept, not_alone}
 use Rattle.be_hall.proofs.Marked.{has_snoc, has_left, has_last, but_last_snoc, place_before, held_renewed}
 use Rattle.be_hall.proofs.Growth.{there, inside, total_set, fits_known, fits_logs}
 
@@ -54,6 +55,7 @@ module _ {P M E T : Type 0} (machine : P → Machine M E) (meaning : T → M) (l
     pub seen : w.seen ≡ v.seen
     pub own : w.own ≡ v.own
     pub ended : w.ended ≡ v.ended
+    pub branches : w.branches ≡ v.branches
     pub raised : w.raised ≡ v.raised
     pub knows : w.knows ≡ v.knows
 
@@ -108,19 +110,20 @@ module _ {P M E T : Type 0} (machine : P → Machine M E) (meaning : T → M) (l
     in_logs = r.in_logs;
     in_one_log = r.in_one_log;
     misses = misses;
+    family = family_kept s.views id me.0 w at r.family same.branches (λ p h. subst (λ (l : List (Mark M E)). HasPlace l p) marks h);
     stops = stop_set (get_or s.words 8 0) (get_or s.words 8 0) s.views id me.0 w refl at same.raised same.knows r.stops;
     about = still_about s r id me.0 w at same;
   }
 
   -- the place p, which was free, goes to the seat id, and its lock word is b
-  takes_it : (s : St) (r : Rule s) (p b id : ℕ) (me : Own) (y : T) → 0 < b → get_elem? s.views id ≡ some me.0 → get_elem? r.holders p ≡ some none → get_elem? s.homes p ≡ some (some (Some y))
+  takes_it : (s : St) (r : Rule s) (p b id : ℕ) (me : Own) (y : T) → 0 < b → 0 < length me.0.branches → get_elem? s.views id ≡ some me.0 → get_elem? r.holders p ≡ some none → get_elem? s.homes p ≡ some (some (Some y))
       → Tied (leads x a.opening r.history) r.logs (mark p (meaning y) (log y)) → Rule (stepped s (8 * p + 16) b id me.1 (marking me.0 (mark p (meaning y) (log y))) (takes p (Some y)))
-  takes_it s r p b id me y above at free here tied =
+  takes_it s r p b id me y above real at free here tied =
       let long = r.long in
       let wide = r.wide in
       let w : V = marking me.0 (mark p (meaning y) (log y)) in
       let inn : p < length r.holders = inside r.holders p none free in
-      let same : Alike me.0 w = record { about = refl; seen = refl; own = refl; ended = refl; raised = refl; knows = refl } in
+      let same : Alike me.0 w = record { about = refl; seen = refl; own = refl; ended = refl; branches = refl; raised = refl; knows = refl } in
       let homes_long = length-set s.homes p none in
       let other : (q j : ℕ) → get_elem? r.holders q ≡ some (some j) → q ≢ p = λ q j e is. some-ne-none j (some-injective (some j) none (sym e ∙ (ap (get_elem? r.holders) is ∙ free))) in
       record {
@@ -171,6 +174,7 @@ module _ {P M E T : Type 0} (machine : P → Machine M E) (meaning : T → M) (l
         in_logs = r.in_logs;
         in_one_log = r.in_one_log;
         misses = marked_more s.views id me.0 at r.misses (mark p (meaning y) (log y));
+        family = family_stays s.views id me.0 w at r.family refl (λ q h. real);
         stops = stop_set (get_or s.words 8 0) (get_or (set s.words (8 * p + 16) b) 8 0) s.views id me.0 w (get_or-set_other s.words (8 * p + 16) 8 b 0 (λ z. omega arith)) at same.raised same.knows r.stops;
         about = still_about s r id me.0 w at same;
       }
@@ -212,6 +216,7 @@ module _ {P M E T : Type 0} (machine : P → Machine M E) (meaning : T → M) (l
         in_logs = r.in_logs;
         in_one_log = r.in_one_log;
         misses = misses;
+        family = family_kept s.views id me.0 w at r.family same.branches (λ q h. subst (λ (l : List (Mark M E)). HasPlace l q) marks h);
         stops = stop_set (get_or s.words 8 0) (get_or (set s.words (8 * p + 16) b) 8 0) s.views id me.0 w (get_or-set_other s.words (8 * p + 16) 8 b 0 (λ z. omega arith)) at same.raised same.knows r.stops;
         about = still_about s r id me.0 w at same;
       }
@@ -231,8 +236,19 @@ module _ {P M E T : Type 0} (machine : P → Machine M E) (meaning : T → M) (l
       (j, h.0, (λ is. apart (subst (λ (z : V). HasPlace z.marks p) (some-injective h.0 me.0 (sym h.1 ∙ (ap (get_elem? s.views) is ∙ at))) h.2)), h.1, inl (r.misses.had j h.0 h.1 p h.2)))
       t.0 t.1
 
-  tries_keep : (slots id : ℕ) (me : Own) (p : ℕ) → p < slots → (HasPlace me.0.marks p → ⊥) → Allows Rule slots id me (8 * p + 16) (λ n. either (eqb n 0) 1 n) (tries meaning log (step slots (8 * p + 16) 0 1 none) me)
-  tries_keep slots id me p fits apart s r count at _ =
+  -- so this one isn't alone
+  isnt_alone : (s : St) (r : Rule s) (p id : ℕ) (me : Own) → p < length s.homes → get_or s.words (8 * p + 16) 0 ≢ 0 → get_elem? s.views id ≡ some me.0 → (HasPlace me.0.marks p → ⊥) → IsAlone me.0 → ⊥
+  isnt_alone s r p id me within busy at apart = let long = r.long in let t = there r.holders p (omega arith) in
+      by_option (λ (o : Spot). get_elem? r.holders p ≡ some o → IsAlone me.0 → ⊥)
+      (λ free. absurd (busy (r.home p free).0))
+      (λ j out.
+      let h = r.held p j out in
+      let other : j ≢ id = λ is. apart (subst (λ (z : V). HasPlace z.marks p) (some-injective h.0 me.0 (sym h.1 ∙ (ap (get_elem? s.views) is ∙ at))) h.2) in
+      not_alone s.views id me.0 at r.family j h.0 other h.1 (r.family.real j h.0 h.1 p h.2))
+      t.0 t.1
+
+  tries_keep : (slots id : ℕ) (me : Own) (p : ℕ) → p < slots → 0 < length me.0.branches → (HasPlace me.0.marks p → ⊥) → Allows Rule slots id me (8 * p + 16) (λ n. either (eqb n 0) 1 n) (tries meaning log (step slots (8 * p + 16) 0 1 none) me)
+  tries_keep slots id me p fits real apart s r count at _ =
       let n : ℕ = get_or s.words (8 * p + 16) 0 in
       let back : p ≡ ((8 * p + 16) - 16) / 8 = omega arith in
       let now : List M = leads x a.opening r.history in
@@ -245,7 +261,7 @@ module _ {P M E T : Type 0} (machine : P → Machine M E) (meaning : T → M) (l
         marking me.0 mk,
         takes p (Some y),
         h.1,
-        subst (λ b. Rule (stepped s (8 * p + 16) (either b 1 n) id me.1 (marking me.0 mk) (takes p (Some y)))) (sym (eq-eqb n 0 hit)) (takes_it s r p 1 id me y (omega arith) at free h.1 (h.2, h.3)),
+        subst (λ b. Rule (stepped s (8 * p + 16) (either b 1 n) id me.1 (marking me.0 mk) (takes p (Some y)))) (sym (eq-eqb n 0 hit)) (takes_it s r p 1 id me y (omega arith) real at free h.1 (h.2, h.3)),
         (
           (λ _. (y, ap (λ (k : ℕ). (k, Some y) ∷ me.1) back, ap (λ (k : ℕ). marking me.0 (mark k (meaning y) (log y))) back)),
           λ no. absurd (no hit),
@@ -255,16 +271,16 @@ module _ {P M E T : Type 0} (machine : P → Machine M E) (meaning : T → M) (l
         missing me.0 p,
         keeps,
         tt,
-        subst (λ b. Rule (stepped s (8 * p + 16) (either b 1 n) id me.1 (missing me.0 p) keeps)) (sym (ne_eqb n 0 miss)) (unmoved s r (8 * p + 16) id me (missing me.0 p) at record { about = refl; seen = refl; own = refl; ended = refl; raised = refl; knows = refl } refl (missed_more s.views id me.0 at r.misses p (missed_by s r p id me (omega arith) miss at apart))),
-        ((λ hit. absurd (miss hit)), λ _. (refl, ap (missing me.0) back)),
+        subst (λ b. Rule (stepped s (8 * p + 16) (either b 1 n) id me.1 (missing me.0 p) keeps)) (sym (ne_eqb n 0 miss)) (unmoved s r (8 * p + 16) id me (missing me.0 p) at record { about = refl; seen = refl; own = refl; ended = refl; branches = refl; raised = refl; knows = refl } refl (missed_more s.views id me.0 at r.misses p (missed_by s r p id me (omega arith) miss at apart))),
+        ((λ hit. absurd (miss hit)), λ _. (refl, ap (missing me.0) back, isnt_alone s r p id me (omega arith) miss at apart)),
       ))
 
-  pub tries_keep_at : (slots id : ℕ) (me : Own) (p word : ℕ) → word ≡ 8 * p + 16 → p < slots → (HasPlace me.0.marks p → ⊥) → Allows Rule slots id me word (λ n. either (eqb n 0) 1 n) (tries meaning log (step slots word 0 1 none) me)
-  tries_keep_at slots id me p word is fits apart = subst (λ (w : ℕ). Allows Rule slots id me w (λ n. either (eqb n 0) 1 n) (tries meaning log (step slots w 0 1 none) me)) (sym is) (tries_keep slots id me p fits apart)
+  pub tries_keep_at : (slots id : ℕ) (me : Own) (p word : ℕ) → word ≡ 8 * p + 16 → p < slots → 0 < length me.0.branches → (HasPlace me.0.marks p → ⊥) → Allows Rule slots id me word (λ n. either (eqb n 0) 1 n) (tries meaning log (step slots word 0 1 none) me)
+  tries_keep_at slots id me p word is fits real apart = subst (λ (w : ℕ). Allows Rule slots id me w (λ n. either (eqb n 0) 1 n) (tries meaning log (step slots w 0 1 none) me)) (sym is) (tries_keep slots id me p fits real apart)
 
   -- the same where the lock word becomes 2 in any case
-  waits_keep : (slots id : ℕ) (me : Own) (p : ℕ) → p < slots → (HasPlace me.0.marks p → ⊥) → Allows Rule slots id me (8 * p + 16) (λ _. 2) (tries meaning log (step slots (8 * p + 16) 2 0 none) me)
-  waits_keep slots id me p fits apart s r count at _ =
+  waits_keep : (slots id : ℕ) (me : Own) (p : ℕ) → p < slots → 0 < length me.0.branches → (HasPlace me.0.marks p → ⊥) → Allows Rule slots id me (8 * p + 16) (λ _. 2) (tries meaning log (step slots (8 * p + 16) 2 0 none) me)
+  waits_keep slots id me p fits real apart s r count at _ =
       let n : ℕ = get_or s.words (8 * p + 16) 0 in
       let back : p ≡ ((8 * p + 16) - 16) / 8 = omega arith in
       dite (ℕ_discrete n 0)
@@ -276,7 +292,7 @@ module _ {P M E T : Type 0} (machine : P → Machine M E) (meaning : T → M) (l
         marking me.0 mk,
         takes p (Some y),
         h.1,
-        takes_it s r p 2 id me y (omega arith) at free h.1 (h.2, h.3),
+        takes_it s r p 2 id me y (omega arith) real at free h.1 (h.2, h.3),
         (
           (λ _. (y, ap (λ (k : ℕ). (k, Some y) ∷ me.1) back, ap (λ (k : ℕ). marking me.0 (mark k (meaning y) (log y))) back)),
           λ no. absurd (no hit),
@@ -286,12 +302,12 @@ module _ {P M E T : Type 0} (machine : P → Machine M E) (meaning : T → M) (l
         missing me.0 p,
         keeps,
         tt,
-        slept s r p 2 id me (missing me.0 p) (omega arith) (omega arith) (omega arith) at record { about = refl; seen = refl; own = refl; ended = refl; raised = refl; knows = refl } refl (missed_more s.views id me.0 at r.misses p (missed_by s r p id me (omega arith) miss at apart)),
-        ((λ hit. absurd (miss hit)), λ _. (refl, ap (missing me.0) back)),
+        slept s r p 2 id me (missing me.0 p) (omega arith) (omega arith) (omega arith) at record { about = refl; seen = refl; own = refl; ended = refl; branches = refl; raised = refl; knows = refl } refl (missed_more s.views id me.0 at r.misses p (missed_by s r p id me (omega arith) miss at apart)),
+        ((λ hit. absurd (miss hit)), λ _. (refl, ap (missing me.0) back, isnt_alone s r p id me (omega arith) miss at apart)),
       ))
 
-  pub waits_keep_at : (slots id : ℕ) (me : Own) (p word : ℕ) → word ≡ 8 * p + 16 → p < slots → (HasPlace me.0.marks p → ⊥) → Allows Rule slots id me word (λ _. 2) (tries meaning log (step slots word 2 0 none) me)
-  waits_keep_at slots id me p word is fits apart = subst (λ (w : ℕ). Allows Rule slots id me w (λ _. 2) (tries meaning log (step slots w 2 0 none) me)) (sym is) (waits_keep slots id me p fits apart)
+  pub waits_keep_at : (slots id : ℕ) (me : Own) (p word : ℕ) → word ≡ 8 * p + 16 → p < slots → 0 < length me.0.branches → (HasPlace me.0.marks p → ⊥) → Allows Rule slots id me word (λ _. 2) (tries meaning log (step slots word 2 0 none) me)
+  waits_keep_at slots id me p word is fits real apart = subst (λ (w : ℕ). Allows Rule slots id me w (λ _. 2) (tries meaning log (step slots w 2 0 none) me)) (sym is) (waits_keep slots id me p fits real apart)
 
   -- the seat id gives back the place that it marked last
   lets_it_go : (s : St) (r : Rule s) (p id : ℕ) (me : Own) (y : T) (carried : List (ℕ × Option T)) (init : List (Mark M E)) → get_elem? s.views id ≡ some me.0
@@ -305,7 +321,7 @@ module _ {P M E T : Type 0} (machine : P → Machine M E) (meaning : T → M) (l
       let left : w.marks ≡ init = ap but_last is ∙ but_last_snoc init (mark p (meaning y) (log y)) in
       let mine = r.marked id me.0 at (mark p (meaning y) (log y)) (subst (λ (l : List (Mark M E)). Has l (mark p (meaning y) (log y))) (sym is) (has_last init (mark p (meaning y) (log y)))) in
       let inn : p < length r.holders = inside r.holders p (some id) mine.0 in
-      let same : Alike me.0 w = record { about = refl; seen = refl; own = refl; ended = refl; raised = refl; knows = refl } in
+      let same : Alike me.0 w = record { about = refl; seen = refl; own = refl; ended = refl; branches = refl; raised = refl; knows = refl } in
       let homes_long = length-set s.homes p (some (Some y)) in
       record {
         history = r.history;
@@ -351,6 +367,7 @@ module _ {P M E T : Type 0} (machine : P → Machine M E) (meaning : T → M) (l
         in_logs = r.in_logs;
         in_one_log = r.in_one_log;
         misses = marked_less s.views id me.0 at r.misses;
+        family = family_kept s.views id me.0 w at r.family refl (λ q h. (h.0, has_before me.0.marks h.0 h.1, h.2));
         stops = stop_set (get_or s.words 8 0) (get_or (set s.words (8 * p + 16) 0) 8 0) s.views id me.0 w (get_or-set_other s.words (8 * p + 16) 8 0 0 (λ z. omega arith)) at same.raised same.knows r.stops;
         about = still_about s r id me.0 w at same;
       }
@@ -397,7 +414,7 @@ module _ {P M E T : Type 0} (machine : P → Machine M E) (meaning : T → M) (l
     me.0,
     keeps,
     tt,
-    unmoved s r 0 id me me.0 at record { about = refl; seen = refl; own = refl; ended = refl; raised = refl; knows = refl } refl (still_missed s.views id me.0 at r.misses me.0 refl refl refl refl),
+    unmoved s r 0 id me me.0 at record { about = refl; seen = refl; own = refl; ended = refl; branches = refl; raised = refl; knows = refl } refl (still_missed s.views id me.0 at r.misses me.0 refl refl refl refl),
     (
       refl,
       λ b about_b. let same : b ≡ a = r.about id me.0 b at about_b in subst (λ (z : About P M). Sees machine slots z (get_or s.words 0 0) me.0) (sym same) (sees s r slots id me.0 at count),
@@ -409,7 +426,7 @@ module _ {P M E T : Type 0} (machine : P → Machine M E) (meaning : T → M) (l
     me.0,
     keeps,
     tt,
-    unmoved s r 8 id me me.0 at record { about = refl; seen = refl; own = refl; ended = refl; raised = refl; knows = refl } refl (still_missed s.views id me.0 at r.misses me.0 refl refl refl refl),
+    unmoved s r 8 id me me.0 at record { about = refl; seen = refl; own = refl; ended = refl; branches = refl; raised = refl; knows = refl } refl (still_missed s.views id me.0 at r.misses me.0 refl refl refl refl),
     (
       refl,
       λ b about_b. (

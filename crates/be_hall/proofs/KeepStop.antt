@@ -18,6 +18,7 @@ use Rattle.be_hall.proofs.Growth.{total_set}
 use Rattle.be_hall.specs.Misses.{Misses}
 use Rattle.be_hall.proofs.Marked.{held_renewed}
 use Rattle.be_hall.proofs.MissLemmas.{still_missed}
+use Rattle.be_hall.proofs.Families.{family_kept}
 use Rattle.be_hall.proofs.Stopping.{stop_set, stop_raised, stop_heard}
 
 bool_cases : (b : Bool) → (b ≡ true) ⊎ (b ≡ false)
@@ -47,6 +48,7 @@ module _ {P M E T : Type 0} (machine : P → Machine M E) (meaning : T → M) (l
     pub own : w.own ≡ v.own
     pub ended : w.ended ≡ v.ended
     pub marks : w.marks ≡ v.marks
+    pub branches : w.branches ≡ v.branches
 
   rung : (s : St) (r : Rule s) (n id : ℕ) (me : Own) (w : V) → get_elem? s.views id ≡ some me.0 → Near me.0 w → Misses (set s.views id w) → Stops (get_or (set s.words 8 n) 8 0) (set s.views id w) → Rule (stepped s 8 n id me.1 w keeps)
   rung s r n id me w at near misses stops =
@@ -85,6 +87,7 @@ module _ {P M E T : Type 0} (machine : P → Machine M E) (meaning : T → M) (l
         in_logs = r.in_logs;
         in_one_log = r.in_one_log;
         misses = misses;
+        family = family_kept s.views id me.0 w at r.family near.branches (λ p h. subst (λ (l : List (Mark M E)). HasPlace l p) near.marks h);
         stops = stops;
         about = λ j u b e. by (λ i v. v.about ≡ b ∷ [] → b ≡ a) (λ is. r.about id me.0 b at (sym near.about ∙ is)) (λ i v. r.about i v b) j u e;
       }
@@ -94,7 +97,7 @@ module _ {P M E T : Type 0} (machine : P → Machine M E) (meaning : T → M) (l
     raising me.0,
     keeps,
     tt,
-    rung s r 1 id me (raising me.0) at record { about = refl; seen = refl; own = refl; ended = refl; marks = refl } (still_missed s.views id me.0 at r.misses (raising me.0) refl refl refl refl) (stop_raised (get_or s.words 8 0) (get_or (set s.words 8 1) 8 0) s.views id me.0 (get_or-set_same s.words 8 1 0 (omega arith)) at),
+    rung s r 1 id me (raising me.0) at record { about = refl; seen = refl; own = refl; ended = refl; marks = refl; branches = refl } (still_missed s.views id me.0 at r.misses (raising me.0) refl refl refl refl) (stop_raised (get_or s.words 8 0) (get_or (set s.words 8 1) 8 0) s.views id me.0 (get_or-set_same s.words 8 1 0 (omega arith)) at),
     (refl, refl),
   )
 
@@ -109,14 +112,14 @@ module _ {P M E T : Type 0} (machine : P → Machine M E) (meaning : T → M) (l
         unheard me.0,
         keeps,
         tt,
-        rung s r n id me (unheard me.0) at record { about = refl; seen = refl; own = refl; ended = refl; marks = refl } (still_missed s.views id me.0 at r.misses (unheard me.0) refl refl refl refl) (stop_set n (get_or (set s.words 8 n) 8 0) s.views id me.0 (unheard me.0) same at refl refl r.stops),
+        rung s r n id me (unheard me.0) at record { about = refl; seen = refl; own = refl; ended = refl; marks = refl; branches = refl } (still_missed s.views id me.0 at r.misses (unheard me.0) refl refl refl refl) (stop_set n (get_or (set s.words 8 n) 8 0) s.views id me.0 (unheard me.0) same at refl refl r.stops),
         (refl, inr (z, ⊎_elim (λ k. absurd (silent (inr k))) (λ k. k) (bool_cases me.0.knows), ⊎_elim (λ k. absurd (silent (inl k))) (λ k. k) (bool_cases me.0.raised), refl)),
       ))
       (λ (one : n ≡ 1). (
         hearing me.0,
         keeps,
         tt,
-        rung s r n id me (hearing me.0) at record { about = refl; seen = refl; own = refl; ended = refl; marks = refl } (still_missed s.views id me.0 at r.misses (hearing me.0) refl refl refl refl) (stop_heard n (get_or (set s.words 8 n) 8 0) s.views id me.0 same one at r.stops),
+        rung s r n id me (hearing me.0) at record { about = refl; seen = refl; own = refl; ended = refl; marks = refl; branches = refl } (still_missed s.views id me.0 at r.misses (hearing me.0) refl refl refl refl) (stop_heard n (get_or (set s.words 8 n) 8 0) s.views id me.0 same one at r.stops),
         (refl, inl (one, refl)),
       ))
       r.stops.bit

@@ -4,6 +4,8 @@ mod HandLists
 mod Growth
 mod Marked
 mod MissLemmas
+mod Sums
+mod Families
 mod Stopping
 mod KeepPlaces
 mod KeepCommit

@@ -7,7 +7,7 @@ use lib.ListN.{get_elem?}
 use Rattle.atomic_table.proofs.Lists.{at_set, at_snoc, at_longer, set_here, set_else}
 use Rattle.be_hall.specs.declared.view.View.{View}
 use Rattle.be_hall.specs.declared.view.Mark.{Mark}
-use Rattle.be_hall.specs.Views.{Has, HasPlace, but_last, committing, joined, letting_go, marking, missing, parted, spent}
+use Rattle.be_hall.specs.Views.{Has, HasPlace, but_last, committing, joined, letting_go, marking, missing, parted, parting, spent}
 use Rattle.be_hall.specs.Misses.{IsNamed, IsHadElsewhere, Misses}
 use Rattle.be_hall.proofs.Growth.{inside}
 use Rattle.be_hall.proofs.Marked.{has_by_places, has_snoc}
@@ -24,7 +24,7 @@ named_snoc : (ps : List ℕ) (q p : ℕ) → IsNamed (ps ++ q ∷ []) p → IsNa
 named_snoc [] q p h = ⊎_elim (λ is. inr is) (λ never. absurd never) h
 named_snoc (x ∷ xs) q p h = ⊎_elim (λ is. inl (inl is)) (λ later. ⊎_elim (λ old. inl (inr old)) (λ new. inr new) (named_snoc xs q p later)) h
 
-has_before : {M E : Type 0} (xs : List (Mark M E)) (y : Mark M E) → Has (but_last xs) y → Has xs y
+pub has_before : {M E : Type 0} (xs : List (Mark M E)) (y : Mark M E) → Has (but_last xs) y → Has xs y
 has_before [] y h = absurd h
 has_before (x ∷ []) y h = absurd h
 has_before (x ∷ z ∷ zs) y h = ⊎_elim (λ is. inl is) (λ later. inr (has_before (z ∷ zs) y later)) h
@@ -88,14 +88,17 @@ module _ {P M E : Type 0} where
     pub same_marked : (n : ℕ) (e : E) (ys : List (Mark M E)) → map (λ y. y.place) ys ≡ map (λ y. y.place) v.marks → Misses (set views id (committing v n e ys))
     same_marked n e ys same = grown views id v (committing v n e ys) at m (λ p k. k) (λ p k. k) (λ p h. m.had id v at p (has_by_places ys v.marks p (sym same) h)) (λ p k. inl k)
 
-    pub missed_parted : Misses (views ++ parted v ∷ [])
-    missed_parted = record {
-      had = λ j u e p h. ⊎_elim (λ old. m.had j u old p h) (λ (t : parted v ≡ u). absurd (subst (λ (z : View P M E). HasPlace z.marks p) (sym t) h).1) (at_snoc views (parted v) u j e);
-      missed = λ j u e p h. ⊎_elim
-          (λ old. ⊎_elim (λ met. inl met) (λ else. inr (else.0, else.1, else.2, at_longer views (parted v ∷ []) else.0 else.1 else.3, else.4)) (m.missed j u old p h))
-          (λ (t : parted v ≡ u). absurd (subst (λ (z : View P M E). IsNamed z.missed p) (sym t) h))
-          (at_snoc views (parted v) u j e);
-    }
+    pub missed_parted : Misses (set views id (parting v) ++ parted v ∷ [])
+    missed_parted =
+        let first : Misses (set views id (parting v)) = still_missed (parting v) refl refl refl refl in
+        let before : List (View P M E) = set views id (parting v) in
+        record {
+          had = λ j u e p h. ⊎_elim (λ old. first.had j u old p h) (λ (t : parted v ≡ u). absurd (subst (λ (z : View P M E). HasPlace z.marks p) (sym t) h).1) (at_snoc before (parted v) u j e);
+          missed = λ j u e p h. ⊎_elim
+              (λ old. ⊎_elim (λ met. inl met) (λ else. inr (else.0, else.1, else.2, at_longer before (parted v ∷ []) else.0 else.1 else.3, else.4)) (first.missed j u old p h))
+              (λ (t : parted v ≡ u). absurd (subst (λ (z : View P M E). IsNamed z.missed p) (sym t) h))
+              (at_snoc before (parted v) u j e);
+        }
 
   -- a view whose places another one has met goes out
   gone : (views : List (View P M E)) (id other : ℕ) (v w : View P M E) → get_elem? views id ≡ some v → other ≢ id → get_elem? views other ≡ some w → ((p : ℕ) → IsNamed w.had p ⊎ IsNamed w.met p → IsNamed v.met p) → Misses views → Misses (set views other spent)

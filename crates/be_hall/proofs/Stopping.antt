@@ -6,7 +6,7 @@ use native.Mathlib.Decide.{ℕ_discrete}
 use lib.ListN.{get_elem?}
 use Rattle.atomic_table.proofs.Lists.{at_set, at_snoc, at_longer, set_here, set_else}
 use Rattle.be_hall.specs.declared.view.View.{View}
-use Rattle.be_hall.specs.Views.{parted, joined, spent, raising, hearing}
+use Rattle.be_hall.specs.Views.{parted, parting, joined, spent, raising, hearing}
 use Rattle.be_hall.specs.Stop.{Stops}
 use Rattle.be_hall.proofs.Growth.{inside}
 
@@ -55,13 +55,14 @@ module _ {P M E : Type 0} where
         (λ other. (r.0, r.1, set_else views id r.0 (hearing v) other ∙ r.2, r.3));
   }
 
-  pub stop_parted : (word : ℕ) (views : List (View P M E)) (v : View P M E) → Stops word views → Stops word (views ++ parted v ∷ [])
-  stop_parted word views v s = record {
-    bit = s.bit;
-    told = λ j u e says. ⊎_elim (λ old. s.told j u old says)
-        (λ (t : parted v ≡ u). ⊎_elim (λ r. untrue (ap (λ (z : View P M E). z.raised) t ∙ r)) (λ k. untrue (ap (λ (z : View P M E). z.knows) t ∙ k)) says) (at_snoc views (parted v) u j e);
-    raiser = λ one. let r = s.raiser one in (r.0, r.1, at_longer views (parted v ∷ []) r.0 r.1 r.2, r.3);
-  }
+  pub stop_parted : (word : ℕ) (views : List (View P M E)) (id : ℕ) (v : View P M E) → get_elem? views id ≡ some v → Stops word views → Stops word (set views id (parting v) ++ parted v ∷ [])
+  stop_parted word views id v at s =
+      let first : Stops word (set views id (parting v)) = stop_set word word views id v (parting v) refl at refl refl s in record {
+        bit = first.bit;
+        told = λ j u e says. ⊎_elim (λ old. first.told j u old says)
+            (λ (t : parted v ≡ u). ⊎_elim (λ r. untrue (ap (λ (z : View P M E). z.raised) t ∙ r)) (λ k. untrue (ap (λ (z : View P M E). z.knows) t ∙ k)) says) (at_snoc (set views id (parting v)) (parted v) u j e);
+        raiser = λ one. let r = first.raiser one in (r.0, r.1, at_longer (set views id (parting v)) (parted v ∷ []) r.0 r.1 r.2, r.3);
+      }
 
   pub stop_joined : (word : ℕ) (views : List (View P M E)) (id other : ℕ) (v w : View P M E) → get_elem? views id ≡ some v → other ≢ id → get_elem? views other ≡ some w → Stops word views → Stops word (set (set views id (joined v w)) other spent)
   stop_joined word views id other v w at apart there s =

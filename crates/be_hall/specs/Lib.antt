@@ -2,6 +2,7 @@ pub mod Numbers
 pub mod Hands
 pub mod Machine
 pub mod Answers
+pub mod Branches
 pub mod Views
 pub mod Logs
 pub mod History

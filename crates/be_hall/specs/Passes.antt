@@ -49,6 +49,7 @@ module _ {P T M E : Type 0} (machine : P → Machine M E) (meaning : T → M) (a
     pub missed : w.missed ≡ v.missed
     pub had : w.had ≡ v.had
     pub met : w.met ≡ v.met
+    pub branches : w.branches ≡ v.branches
     pub raised : w.raised ≡ v.raised
     pub knows : w.knows ≡ v.knows
     pub quiet : w.quiet ≡ v.quiet
@@ -60,6 +61,7 @@ pub record IsAlike {P M E : Type 0} (v w : View P M E) : Type 0 where
   pub own : w.own ≡ v.own
   pub ended : w.ended ≡ v.ended
   pub met : w.met ≡ v.met
+  pub branches : w.branches ≡ v.branches
   pub raised : w.raised ≡ v.raised
   pub knows : w.knows ≡ v.knows
   pub quiet : w.quiet ≡ v.quiet

@@ -13,7 +13,7 @@ use Rattle.be_hall.specs.Machine.{Machine, AllFit, leads, Legal}
 use Rattle.be_hall.specs.Views.{Has, HasPlace, counted}
 use Rattle.be_hall.specs.Logs.{logged, InHistory}
 use Rattle.be_hall.specs.History.{Knows}
-use Rattle.be_hall.specs.Misses.{Misses}
+use Rattle.be_hall.specs.Misses.{Family, Misses}
 use Rattle.be_hall.specs.Stop.{Stops}
 
 module _ {M E : Type 0} where
@@ -61,6 +61,8 @@ module _ {P M E T : Type 0} (machine : P → Machine M E) (meaning : T → M) (l
     pub in_one_log : (n : ℕ) → total (logged n) logs ≡ once (length history) n
     -- a place is missed only where another pass had it
     pub misses : Misses s.views
+    -- which passes there are
+    pub family : Family s.views
     pub stops : Stops (slice_index s.words 8) s.views
     -- what the hall is about
     pub about : (id : ℕ) (v : View P M E) (b : About P M) → get_elem? s.views id ≡ some v → v.about ≡ b ∷ [] → b ≡ a

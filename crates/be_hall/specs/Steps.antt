@@ -11,13 +11,14 @@ use Rattle.be_hall.specs.Machine.{Machine, Fits, AllFit, leads}
 use Rattle.be_hall.specs.Views.{mark, known, logs_of, counted, marking, missing, letting_go, committing, raising, hearing, unheard}
 use Rattle.be_hall.specs.Logs.{logged, InHistory, appended}
 use Rattle.be_hall.specs.History.{RisesOver, EachRises, Suits}
+use Rattle.be_hall.specs.Misses.{IsAlone}
 
 module _ {P M E : Type 0} where
-  -- the place is marked where its lock word was 0, and else missed
+  -- The place is marked where its lock word was 0, and else missed. It isn't missed by a pass that is alone.
   abbrev pub tries : {T : Type 0} → (T → M) → (T → List (ℕ × E)) → Step (Option T) → Me (Option T) (View P M E) → ℕ → Me (Option T) (View P M E) → Type 0
   tries {T} meaning log st m r m' =
       (r ≡ 0 → (x : T) × (m'.1 ≡ ((st.word - 16) / 8, Some x) ∷ m.1) × (m'.0 ≡ marking m.0 (mark ((st.word - 16) / 8) (meaning x) (log x))))
-      × (r ≢ 0 → (m'.1 ≡ m.1) × (m'.0 ≡ missing m.0 ((st.word - 16) / 8)))
+      × (r ≢ 0 → (m'.1 ≡ m.1) × (m'.0 ≡ missing m.0 ((st.word - 16) / 8)) × (IsAlone m.0 → ⊥))
 
   -- the place that was marked last goes back
   abbrev pub lets_go : {T : Type 0} → Step (Option T) → Me (Option T) (View P M E) → ℕ → Me (Option T) (View P M E) → Type 0

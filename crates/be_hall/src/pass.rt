@@ -1,5 +1,5 @@
 //! What a thread has of a hall.
-ghost use Rattle.std.specs.Prelude.{◌≡◌, ◌≤◌, min, true};
+ghost use Rattle.std.specs.Prelude.{◌≡◌, ◌<◌, ◌≤◌, length, min, true};
 ghost use Rattle.be_hall.specs.Hands.{places_of, all_below, rises_from};
 ghost use Rattle.be_hall.specs.Views.{gathered};
 ghost use Rattle.be_hall.specs.Passes.{marks_of, emptied};
@@ -26,5 +26,6 @@ pub struct Pass<P: Parts> {
     ghost rising: { rises_from 0 (places_of held.parts) ≡ true },
     ghost within: { all_below seat.table_id.slots (places_of held.parts) ≡ true },
     ghost room: { seat.table_id.slots ≤ held.room },
+    ghost real: { 0 < length seat.me.0.branches },
     ghost counts: { made ≡ min (gathered seat.me.0) 18446744073709551615 },
 }

@@ -1,7 +1,7 @@
 //! How passes part and meet, and how they look.
-ghost use Rattle.std.specs.Prelude.{◌≡◌, ℕ, [], ◌∷◌, IfOk};
+ghost use Rattle.std.specs.Prelude.{◌≡◌, ℕ, [], ◌∷◌, IfErr, IfOk};
 ghost use Rattle.be_hall.specs.declared.view.About.{About};
-ghost use Rattle.be_hall.specs.Views.{parted, joined};
+ghost use Rattle.be_hall.specs.Views.{parted, parting, joined};
 ghost use Rattle.be_hall.specs.Steps.{Sees};
 ghost use Rattle.be_hall.specs.Words.{IsPassOf, IsSame, hands_of, rules_of, view_of, in_hand};
 
@@ -30,11 +30,13 @@ impl<P: Parts + Drop> Hall<P> {
         &self.book.rules
     }
 
-    /// A pass that has seen as much. The first one stays as it is.
+    /// A pass that has seen as much. The first one has the same in hand, and knows that one more came of it.
     pub fn split(&self, pass: &mut Pass<P>) -> Result<Pass<P>, NoMemory>
         requires { IsPassOf P.meaning self.now pass.old }
-        ensures same { IsSame pass.old pass.new }
+        ensures same { IfErr result (λ _. IsSame pass.old pass.new) }
         ensures hall { IsPassOf P.meaning self.now pass.new }
+        ensures old { IfOk result (λ _. view_of pass.new ≡ parting (view_of pass.old)) }
+        ensures held { hands_of pass.new ≡ hands_of pass.old }
         ensures new { IfOk result (λ r. (view_of r ≡ parted (view_of pass.old)) × (in_hand r ≡ [])) }
         ensures new_hall { IfOk result (λ r. IsPassOf P.meaning self.now r) }
     {
@@ -49,7 +51,8 @@ impl<P: Parts + Drop> Hall<P> {
 
     fn part(&self, seat: &mut Place<P>) -> Place<P>
         requires { seat.old.table_id ≡ self.now.table.shared.table_id }
-        ensures same { (seat.new.table_id ≡ seat.old.table_id) × (seat.new.me ≡ seat.old.me) }
+        ensures same { (seat.new.table_id ≡ seat.old.table_id) × (seat.new.me.1 ≡ seat.old.me.1) }
+        ensures old { seat.new.me.0 ≡ parting seat.old.me.0 }
         ensures new { (result.table_id ≡ seat.old.table_id) × (result.me ≡ (parted seat.old.me.0, [])) }
     {
         self.table.shared.split_seat::<Parting>(seat)

@@ -4,6 +4,7 @@ ghost use Rattle.atomic_table.specs.Table.{rest};
 ghost use Rattle.be_hall.specs.declared.view.Mark.{Mark};
 ghost use Rattle.be_hall.specs.Hands.{places_of, rises_from, meant};
 ghost use Rattle.be_hall.specs.Machine.{IsAskable};
+ghost use Rattle.be_hall.specs.Misses.{IsAlone};
 ghost use Rattle.be_hall.specs.Views.{Has, HasPlace, mark, marking, missing, letting_go};
 ghost use Rattle.be_hall.specs.Passes.{IsAlike, Gives};
 ghost use Rattle.be_hall.specs.Words.{IsPassOf, IsSame, hands_of, in_hand, opened, rules_of, view_of};
@@ -35,10 +36,12 @@ impl<P: Parts + Drop> Hall<P> {
     // Tries to mark a place. Where it does, the part is in the seat's slot.
     fn mark(&self, seat: &mut Place<P>, place: u32, knock: Knock) -> bool
         requires same { (seat.old.table_id ≡ self.now.table.shared.table_id) × (place < self.now.book.places) }
+        requires real { 0 < length seat.old.me.0.branches }
         requires apart { ¬ HasPlace seat.old.me.0.marks place }
         ensures seat { (seat.new.table_id ≡ seat.old.table_id) × (seat.new.id ≡ seat.old.id) }
         ensures marked { result ≡ true → (x : P.Part) × (seat.new.me.1 ≡ (place, Some x) ∷ seat.old.me.1) × (seat.new.me.0 ≡ marking seat.old.me.0 (mark place (P.meaning x) (P.log x))) }
         ensures missed { result ≡ false → (seat.new.me.1 ≡ seat.old.me.1) × (seat.new.me.0 ≡ missing seat.old.me.0 place) }
+        ensures others { result ≡ false → ¬ IsAlone seat.old.me.0 }
     {
         let shared = &self.table.shared;
         let word = lock_of(place);
@@ -58,6 +61,7 @@ impl<P: Parts + Drop> Hall<P> {
         ensures known { IsAlike (view_of pass.old) (view_of pass.new) }
         ensures taken { result ≡ true → (places_of (in_hand pass.new) ≡ places_of (in_hand pass.old) ++ place ∷ []) × ((view_of pass.new).missed ≡ (view_of pass.old).missed) }
         ensures missed { result ≡ false → (hands_of pass.new ≡ hands_of pass.old) × ((view_of pass.new).missed ≡ (view_of pass.old).missed ++ place ∷ []) }
+        ensures others { result ≡ false → ¬ IsAlone (view_of pass.old) }
     {
         if !self.mark(&mut pass.seat, place, knock) {
             return false;
@@ -110,7 +114,8 @@ impl<P: Parts + Drop> Hall<P> {
         self.see(pass);
     }
 
-    /// Takes the parts at these places, or none of them where another pass has one.
+    /// Takes the parts at these places, or none of them where another pass has one. A pass that is alone, as the
+    /// first one is until it is split and again once all are joined into it, is never told so.
     pub fn try_take(&self, pass: &mut Pass<P>, places: &[u32]) -> Result<(), Busy>
         requires hall { IsPassOf P.meaning self.now pass.old }
         requires empty { in_hand pass.old ≡ [] }
@@ -122,6 +127,7 @@ impl<P: Parts + Drop> Hall<P> {
         ensures gives { IfOk result (λ _. Gives P.machine P.meaning (opened P.meaning self.now) (view_of pass.new) (in_hand pass.new)) }
         ensures askable { IfOk result (λ _. IsAskable (P.machine (rules_of self.now)) (meant P.meaning (in_hand pass.new))) }
         ensures busy { IfErr result (λ b. (in_hand pass.new ≡ []) × ((view_of pass.new).missed ≡ (view_of pass.old).missed ++ b.place ∷ []) × Contains places.now b.place) }
+        ensures others { IfErr result (λ _. ¬ IsAlone (view_of pass.old)) }
     {
         for i in 0..places.len() {
             if !self.try_one(pass, places[i], Knock::Once) {

@@ -36,6 +36,13 @@ pub struct Mark<M, E> {
     pub log: LinkedList<(u64, E)>,
 }
 
+/// A pass as one of those that came of the first one: how many splits lie between the two, and how many passes
+/// were split off it.
+pub struct Branch {
+    pub depth: u64,
+    pub parted: u64,
+}
+
 /// What a pass knows. No value of it is made. The spent one is about nothing.
 pub struct View<P, M, E> {
     pub about: LinkedList<About<P, M>>,
@@ -49,6 +56,8 @@ pub struct View<P, M, E> {
     pub had: LinkedList<u32>,
     /// Those that passes marked which were joined into it.
     pub met: LinkedList<u32>,
+    /// The pass itself, and those that were joined into it.
+    pub branches: LinkedList<Branch>,
     pub raised: bool,
     /// It knows that stop was raised.
     pub knows: bool,
@@ -114,9 +123,9 @@ impl<P: Parts, J: Aim<P::Entry>> Play<Option<P::Part>, View<P, P::Meaning, P::En
 pub struct Parting;
 
 impl<P, M, E> Split<View<P, M, E>> for Parting {
-    ghost use Rattle.be_hall.specs.Views.{parted};
+    ghost use Rattle.be_hall.specs.Views.{parting, parted};
 
-    ghost left = { λ v. v };
+    ghost left = { parting };
 
     ghost right = { parted };
 }

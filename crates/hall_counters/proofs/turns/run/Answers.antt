@@ -14,7 +14,7 @@ loop-i-preserved g c =
     let good = λ (t : Turn). IsPassOf (λ x. x.count) hall t.pass × (in_hand t.pass ≡ []) × (t.transfer.source < (rules_of hall).places) × (t.transfer.target < (rules_of hall).places) × (t.transfer.source ≢ t.transfer.target) in
     let told = All-get_or (λ (t : Transfer). (t.source < c.args.rules.places) × (t.target < c.args.rules.places) × (t.source ≢ t.target)) c.args.transfers.now c.loop-i.i record { source = 0; target = 0 } (search rules) c.requires in (
       c.in_ok-part.ensures.hall,
-      ap (λ h. h.parts) c.in_ok-part.ensures.same.1 ∙ i.1,
+      ap (λ h. h.parts) c.in_ok-part.ensures.held ∙ i.1,
       subst (All good) (sym c.push_reserved.ensures.items) (All-push good c.loop-i.turns.items _ i.2 (c.in_ok-part.ensures.new_hall, c.in_ok-part.ensures.new.1, subst (λ n. (slice_index_or c.args.transfers.now c.loop-i.i record { source = 0; target = 0 }).source < n) (sym places) told.0, subst (λ n. (slice_index_or c.args.transfers.now c.loop-i.i record { source = 0; target = 0 }).target < n) (sym places) told.1, told.2)),
       ap length c.push_reserved.ensures.items ∙ (more_long c.loop-i.turns.items _ ∙ ap (λ n. n + 1) i.3),
       subst (λ n. length c.args.transfers.now ≤ n) (sym c.push_reserved.ensures.capacity) i.4,

@@ -1,4 +1,4 @@
-use Rattle.std.proofs.Common.{rules, true, refl, ℕ, ◌+◌, ◌<◌, ◌≤◌, List, sym, ap, ◌∙◌, subst, ◌≡◌, arith}
+use Rattle.std.proofs.Common.{rules, true, refl, ℕ, ◌+◌, ◌<◌, ◌≤◌, List, length, sym, ap, ◌∙◌, subst, ◌≡◌, arith}
 use native.Mathlib.Numerals.{unary_clauses}
 use Rattle.be_hall.specs.Hands.{rises_from, all_below, meant}
 use Rattle.be_hall.specs.Machine.{IsReady, Fits, HeldFit}
@@ -56,6 +56,7 @@ invariant_of-pass g c =
       rising = ap (rises_from 0) c.perform.ensures.places ∙ it.rising;
       within = subst (λ (z : ℕ × List ℕ). all_below z.0 z.1 ≡ true) (λ i. ((sym c.tick-number.ensures.seat.0 i).slots, sym c.perform.ensures.places i)) it.within;
       room = subst (λ (z : ℕ × ℕ). z.0 ≤ z.1) (λ i. ((sym c.tick-number.ensures.seat.0 i).slots, sym c.perform.ensures.room i)) it.room;
+      real = subst (λ bs. 0 < length bs) (sym m.makes.branches) it.real;
       counts = counts_more _ 1 _ _ 1 _ 18446744073709551615 it.counts refl c.saturating_add-pass.ensures m.more;
     }
 

@@ -1,4 +1,4 @@
-use Rattle.std.proofs.Common.{ℕ, ◌<◌, ◌≤◌, ◌≡◌, true, ◌++◌, ◌∷◌, [], List, Option, Some, None, min, sym, ap, ◌∙◌, subst}
+use Rattle.std.proofs.Common.{ℕ, ◌<◌, ◌≤◌, ◌≡◌, true, ◌++◌, ◌∷◌, [], length, List, Option, Some, None, min, sym, ap, ◌∙◌, subst}
 use Rattle.std.specs.Prelude.{IfSome}
 use Rattle.atomic_table.specs.Table.{rest}
 use Rattle.be_hall.specs.Hands.{all_below, places_of}
@@ -47,5 +47,6 @@ invariant_of-pass g c =
       rising = t.rising;
       within = subst (λ n. all_below n (places_of new) ≡ true) (λ i. (sym c.let_go.ensures.seat.0 i).slots) t.within;
       room = subst (λ (z : ℕ × ℕ). z.0 ≤ z.1) (λ i. ((sym c.let_go.ensures.seat.0 i).slots, sym c.pop.ensures.room i)) it.room;
+      real = subst (λ v. 0 < length v.branches) (sym c.let_go.ensures.let_go.0) it.real;
       counts = it.counts ∙ ap (λ v. min (gathered v) 18446744073709551615) (sym c.let_go.ensures.let_go.0);
     }

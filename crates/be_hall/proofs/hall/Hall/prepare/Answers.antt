@@ -1,4 +1,4 @@
-use Rattle.std.proofs.Common.{List, ◌≡◌, true, ℕ, ◌≤◌, min, sym, ap, ◌∙◌, subst}
+use Rattle.std.proofs.Common.{List, ◌≡◌, true, ℕ, ◌<◌, ◌≤◌, length, min, sym, ap, ◌∙◌, subst}
 use Rattle.be_hall.specs.Hands.{rises_from, all_below}
 use Rattle.be_hall.specs.Views.{gathered}
 use Rattle.be_hall.specs.Passes.{about_of, emptied}
@@ -28,5 +28,6 @@ invariant_of-pass g c =
       rising = ap (rises_from 0) places ∙ it.rising;
       within = subst (λ (z : ℕ × List ℕ). all_below z.0 z.1 ≡ true) (λ i. ((sym same.0 i).slots, sym places i)) it.within;
       room = subst (λ (z : ℕ × ℕ). z.0 ≤ z.1) (λ i. ((sym same.0 i).slots, sym c.prepare.ensures.room i)) it.room;
+      real = subst (λ m. 0 < length m.0.branches) (sym same.2) it.real;
       counts = it.counts ∙ ap (λ m. min (gathered m.0) 18446744073709551615) (sym same.2);
     }

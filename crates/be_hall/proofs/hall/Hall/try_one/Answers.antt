@@ -1,4 +1,4 @@
-use Rattle.std.proofs.Common.{true, ℕ, ◌<◌, ◌≤◌, ◌≡◌, List, [], ◌∷◌, ◌++◌, Option, Some, None, min, sym, ap, ◌∙◌, subst}
+use Rattle.std.proofs.Common.{true, ℕ, ◌<◌, ◌≤◌, ◌≡◌, List, [], ◌∷◌, ◌++◌, length, Option, Some, None, min, sym, ap, ◌∙◌, subst}
 use Rattle.atomic_table.specs.Table.{rest}
 use Rattle.be_hall.specs.Hands.{places_of, rises_from, all_below}
 use Rattle.be_hall.specs.Views.{mark, gathered}
@@ -47,5 +47,6 @@ invariant_of-pass-2 g c =
       rising = ap (rises_from 0) places ∙ c.requires.above;
       within = ap (all_below c.exchange.new.seat.table_id.slots) places ∙ below_snoc c.exchange.new.seat.table_id.slots (places_of old) p (subst (λ n. all_below n (places_of old) ≡ true) (λ i. (sym table i).slots) it.within) (less_than p _ (subst (λ n. p < n) (sym ((λ i. ((table ∙ c.requires.hall.0) i).slots) ∙ (c.args.self.now.sized.0 ∙ c.args.self.now.book.counted))) c.requires.place));
       room = subst (λ (z : ℕ × ℕ). z.0 ≤ z.1) (λ i. ((sym table i).slots, sym c.push.ensures.room i)) it.room;
+      real = subst (λ v. 0 < length v.branches) (sym view) it.real;
       counts = it.counts ∙ ap (λ v. min (gathered v) 18446744073709551615) (sym view);
     }
