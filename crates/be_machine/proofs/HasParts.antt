@@ -60,6 +60,7 @@ pub record HasParts (d : Declared) (s : State) : Type 0 where
   pub apps : length s.apps ≡ length d.apps
   pub windows : length s.desk.windows.windows ≡ length d.windows
   pub trees : length s.desk.pointing.trees ≡ length d.windows
+  pub focus : length s.desk.pointing.focus ≡ length d.windows
   pub width : width_of s ≡ d.width
   pub height : s.desk.windows.height ≡ d.height
   pub screen : length s.screen ≡ d.width * d.height
@@ -80,6 +81,7 @@ step_parts d s e legal h =
       apps = new.apps;
       windows = seen.windows ∙ h.windows;
       trees = seen.trees ∙ h.trees;
+      focus = seen.focus ∙ h.focus;
       width = seen.width ∙ h.width;
       height = seen.height ∙ h.height;
       screen = seen.cells ∙ h.screen;

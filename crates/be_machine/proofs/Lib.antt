@@ -73,6 +73,8 @@ pub mod KeptCommands
 pub mod KeptNotices
 pub mod KeptNoticeSteps
 pub mod KeptSessions
+pub mod KeptPorts
+pub mod KeptOwed
 pub mod KeptDepths
 pub mod KeptLetters
 pub mod KeptLetterSteps

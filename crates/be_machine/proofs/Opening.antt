@@ -40,6 +40,7 @@ parts_opening d = record {
   apps = length-replicate (length d.apps) _;
   windows = length-map d.windows _;
   trees = length-map (enumerate_from 0 d.windows) _ ∙ length-enumerate_from 0 d.windows;
+  focus = length-replicate (length d.windows) _;
   width = refl;
   height = refl;
   screen = length-replicate (d.width * d.height) _;

@@ -101,7 +101,7 @@ effect_leaves pictures s w (at_view v deed) =
     found_leaves s (done_at_view pictures s w v deed) (slice_get s.panes w) (λ u. w ≡ u) (λ pane.
     own_leaves s (done_at_view pictures s w v deed pane) w (executed_cell pictures (owned s w) pane.colors deed (sight_at s w v pane)) refl refl (λ old x y c unowned. executed_stays pictures (owned s w) pane.colors deed (sight_at s w v pane) old x y c unowned))
 effect_leaves pictures s w (changes change) = own_change_leaves s w change
-effect_leaves pictures s w ends_update = shown_leaves s _ (λ u. w ≡ u) (record { windows = refl; trees = refl; colors = colors_kept s.panes w without_session (λ pane. refl); screen = refl })
+effect_leaves pictures s w ends_update = shown_leaves s _ (λ u. w ≡ u) (record { windows = refl; trees = refl; focus = refl; colors = colors_kept s.panes w without_session (λ pane. refl); screen = refl })
 
 -- what comes after a state that shows the same
 after_shown : (s r t : State) (P : ℕ → Type 0) → IsShown s r → Leaves r t P → Leaves s t P
@@ -117,7 +117,7 @@ exec_leaves : (d : Declared) (s : State) (w : ℕ) → Leaves s (executed d s w)
 unfolding executed
 exec_leaves d s w =
     found_leaves s (executed_command d s w) (option_and_then (λ link. slice_get link 0) (slice_get s.links w)) (λ u. w ≡ u) (λ c.
-    after_shown s (without_front s w) (executed_command d s w c) (λ u. w ≡ u) (record { windows = refl; trees = refl; colors = refl; screen = refl }) (effect_leaves d.pictures (without_front s w) w (effect_of c.command)))
+    after_shown s (without_front s w) (executed_command d s w c) (λ u. w ≡ u) (record { windows = refl; trees = refl; focus = refl; colors = refl; screen = refl }) (effect_leaves d.pictures (without_front s w) w (effect_of c.command)))
 
 -- ---- updates and input
 
@@ -130,21 +130,21 @@ unfolding begun
 begin_leaves s w =
     begun_by s w (is_any (dirty_of s w)) _ _
     (found_leaves s (opened s w) (corner_at s w) (λ u. w ≡ u) (λ corner. own_leaves s (opened s w corner) w (cleaned_cell (owned s w)) refl refl (λ old x y c unowned. cleaned_stays (owned s w) old x y c unowned)))
-    (shown_leaves s (passed_by s w) (λ u. w ≡ u) (record { windows = refl; trees = refl; colors = colors_kept s.panes w passed (λ pane. refl); screen = refl }))
+    (shown_leaves s (passed_by s w) (λ u. w ≡ u) (record { windows = refl; trees = refl; focus = refl; colors = colors_kept s.panes w passed (λ pane. refl); screen = refl }))
 
 activated_leaves : (s : State) (o : Option ℕ) (P : ℕ → Type 0) → Leaves s (activated s o) P
 activated_leaves s (Some w) P = still_leaves s w Activate P refl
 activated_leaves s None P = refused_leaves s P
 
 delivery_leaves : (s : State) (x : Delivery) (P : ℕ → Type 0) → Leaves s (with_delivery s x) P
-delivery_leaves s x P = after_shown s _ (with_delivery s x) P (record { windows = refl; trees = refl; colors = refl; screen = refl }) (activated_leaves _ x.activate P)
+delivery_leaves s x P = after_shown s _ (with_delivery s x) P (record { windows = refl; trees = refl; focus = refl; colors = refl; screen = refl }) (activated_leaves _ x.activate P)
 
 event_leaves : (s : State) (x : InputLine) (P : ℕ → Type 0) → Leaves s (with_event s x) P
 event_leaves s (line.Press p) P = delivery_leaves s (delivery_of s (event.Press p)) P
 event_leaves s (line.Release p) P = delivery_leaves s (delivery_of s (event.Release p)) P
 event_leaves s (line.Move p) P = delivery_leaves s (delivery_of s (event.Move p)) P
 event_leaves s (line.Key key) P = delivery_leaves s (delivery_of s (event.Key key)) P
-event_leaves s (line.After m) P = shown_leaves s (with_event s (line.After m)) P (record { windows = refl; trees = refl; colors = refl; screen = refl })
+event_leaves s (line.After m) P = shown_leaves s (with_event s (line.After m)) P (record { windows = refl; trees = refl; focus = refl; colors = refl; screen = refl })
 
 -- ---- all wants
 

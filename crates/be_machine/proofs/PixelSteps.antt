@@ -47,15 +47,16 @@ pub record Leaves (s r : State) (Excepted : ℕ → Type 0) : Type 0 where
   pub kept : (u : ℕ) (x y : ℤ) → (Excepted u → ⊥) → owner_in s x y ≡ Some u → owner_in r x y ≡ Some u → pixel_at r x y ≡ pixel_at s x y
   pub desktop : (x y : ℤ) → IsDesktopAt s x y → IsDesktopAt r x y
 
--- the same windows, views, colours of views and screen
+-- the same windows, views, focus, colours of views and screen
 pub record IsShown (s r : State) : Type 0 where
   pub windows : r.desk.windows ≡ s.desk.windows
   pub trees : r.desk.pointing.trees ≡ s.desk.pointing.trees
+  pub focus : r.desk.pointing.focus ≡ s.desk.pointing.focus
   pub colors : view_colors r ≡ view_colors s
   pub screen : r.screen ≡ s.screen
 
 pub shown : (s : State) → IsShown s s
-shown s = record { windows = refl; trees = refl; colors = refl; screen = refl }
+shown s = record { windows = refl; trees = refl; focus = refl; colors = refl; screen = refl }
 
 colors_set : (panes : List Pane) (w : ℕ) (old new : Pane) → slice_get panes w ≡ Some old → new.colors ≡ old.colors → map (λ (pane : Pane). pane.colors) (slice_set panes w new) ≡ map (λ pane. pane.colors) panes
 colors_set [] w old new e same = refl
@@ -93,48 +94,48 @@ tested_shown s false x y h k = k
 -- ---- what instructions do shows nothing
 
 duty_shown : (s : State) (f : Duty → Duty) (who : Runner) (r : State) → IsShown s r → IsShown s (with_duty f who r)
-duty_shown s f (looper v) r h = record { windows = h.windows; trees = h.trees; colors = h.colors; screen = h.screen }
+duty_shown s f (looper v) r h = record { windows = h.windows; trees = h.trees; focus = h.focus; colors = h.colors; screen = h.screen }
 duty_shown s f (app m) r h = h
 
 told_shown : (s : State) (message : Message) (o : Option ℕ) → IsShown s (told message o s)
-told_shown s message (Some m) = record { windows = refl; trees = refl; colors = refl; screen = refl }
+told_shown s message (Some m) = record { windows = refl; trees = refl; focus = refl; colors = refl; screen = refl }
 told_shown s message None = shown s
 
 waiting_shown : (s : State) (who : Runner) (r : State) → IsShown s r → IsShown s (with_waiting who r)
-waiting_shown s (app m) r h = record { windows = h.windows; trees = h.trees; colors = h.colors; screen = h.screen }
+waiting_shown s (app m) r h = record { windows = h.windows; trees = h.trees; focus = h.focus; colors = h.colors; screen = h.screen }
 waiting_shown s (looper v) r h = h
 
 claimed_shown : (s : State) (who : Runner) → IsShown s (claimed s who)
-claimed_shown s (app m) = record { windows = refl; trees = refl; colors = refl; screen = refl }
+claimed_shown s (app m) = record { windows = refl; trees = refl; focus = refl; colors = refl; screen = refl }
 claimed_shown s (looper v) = shown s
 
 flushed_shown : (s : State) (v : ℕ) → IsShown s (flushed s v)
-flushed_shown s v = found_shown s (flushed_into s v) (slice_get s.buffers v) (λ b. record { windows = refl; trees = refl; colors = refl; screen = refl })
+flushed_shown s v = found_shown s (flushed_into s v) (slice_get s.buffers v) (λ b. record { windows = refl; trees = refl; focus = refl; colors = refl; screen = refl })
 
 granted_shown : (s : State) (who : Runner) (x : Wish) → IsShown s (granted s who x)
 unfolding granted
 granted_shown s who (wish.Note word) = shown s
-granted_shown s who (wish.Post v target message) = record { windows = refl; trees = refl; colors = refl; screen = refl }
-granted_shown s who (wish.Send v target message) = tested_shown s (is_accepted_at s v (hop_of s who)) _ _ (waiting_shown s who _ (record { windows = refl; trees = refl; colors = refl; screen = refl })) (record { windows = refl; trees = refl; colors = refl; screen = refl })
+granted_shown s who (wish.Post v target message) = record { windows = refl; trees = refl; focus = refl; colors = refl; screen = refl }
+granted_shown s who (wish.Send v target message) = tested_shown s (is_accepted_at s v (hop_of s who)) _ _ (waiting_shown s who _ (record { windows = refl; trees = refl; focus = refl; colors = refl; screen = refl })) (record { windows = refl; trees = refl; focus = refl; colors = refl; screen = refl })
 granted_shown s who (wish.Forward v target) =
-    found_shown s (forwarded_hand s who v target) (hand_of s who) (λ hand. tested_shown s (is_accepted_at s v (hop_of s who)) _ _ (duty_shown s duty_after_forward who _ (record { windows = refl; trees = refl; colors = refl; screen = refl })) (record { windows = refl; trees = refl; colors = refl; screen = refl }))
+    found_shown s (forwarded_hand s who v target) (hand_of s who) (λ hand. tested_shown s (is_accepted_at s v (hop_of s who)) _ _ (duty_shown s duty_after_forward who _ (record { windows = refl; trees = refl; focus = refl; colors = refl; screen = refl })) (record { windows = refl; trees = refl; focus = refl; colors = refl; screen = refl }))
 granted_shown s who (wish.Reply message) = duty_shown s duty_after_reply who _ (told_shown s message _)
 granted_shown s who wish.Claim = claimed_shown s who
-granted_shown s who (wish.Lock v) = record { windows = refl; trees = refl; colors = refl; screen = refl }
-granted_shown s who wish.Unlock = found_shown s (freed s) (window_of s who) (λ v. record { windows = refl; trees = refl; colors = refl; screen = refl })
+granted_shown s who (wish.Lock v) = record { windows = refl; trees = refl; focus = refl; colors = refl; screen = refl }
+granted_shown s who wish.Unlock = found_shown s (freed s) (window_of s who) (λ v. record { windows = refl; trees = refl; focus = refl; colors = refl; screen = refl })
 granted_shown s who wish.Flush = found_shown s (flushed s) (window_of s who) (flushed_shown s)
 granted_shown s who wish.SyncDone = shown s
-granted_shown s who (wish.Draw c) = found_shown s (λ v. drawn s v c) (window_of s who) (λ v. record { windows = refl; trees = refl; colors = refl; screen = refl })
+granted_shown s who (wish.Draw c) = found_shown s (λ v. drawn s v c) (window_of s who) (λ v. record { windows = refl; trees = refl; focus = refl; colors = refl; screen = refl })
 
 moved_shown : (d : Declared) (who : Runner) (accepted : Bool) (x : Wish) (s r : State) → IsShown s r → IsShown s (moved_on d who accepted x r)
 unfolding moved_on
-moved_shown d (app m) accepted x s r h = record { windows = h.windows; trees = h.trees; colors = h.colors; screen = h.screen }
-moved_shown d (looper v) accepted x s r h = record { windows = h.windows; trees = h.trees; colors = h.colors; screen = h.screen }
+moved_shown d (app m) accepted x s r h = record { windows = h.windows; trees = h.trees; focus = h.focus; colors = h.colors; screen = h.screen }
+moved_shown d (looper v) accepted x s r h = record { windows = h.windows; trees = h.trees; focus = h.focus; colors = h.colors; screen = h.screen }
 
 ended_shown : (s : State) (v : ℕ) (hand : Hand Message) (x : EndTelling) → IsShown s (told_at_end x (freed s v))
-ended_shown s v hand nobody = record { windows = refl; trees = refl; colors = refl; screen = refl }
-ended_shown s v hand (no_reply m) = record { windows = refl; trees = refl; colors = refl; screen = refl }
-ended_shown s v hand (not_understood m) = record { windows = refl; trees = refl; colors = refl; screen = refl }
+ended_shown s v hand nobody = record { windows = refl; trees = refl; focus = refl; colors = refl; screen = refl }
+ended_shown s v hand (no_reply m) = record { windows = refl; trees = refl; focus = refl; colors = refl; screen = refl }
+ended_shown s v hand (not_understood m) = record { windows = refl; trees = refl; focus = refl; colors = refl; screen = refl }
 
 -- ---- wants that show nothing
 
@@ -154,15 +155,15 @@ is_quiet stops = true
 pub quiet_shown : (d : Declared) (s : State) (want : Want) → is_quiet want ≡ true → IsShown s (met d s want)
 unfolding met
 quiet_shown d s (asks who x) e = moved_shown d who (is_accepted_wish s who x) x s _ (granted_shown s who x)
-quiet_shown d s (takes w) e = found_shown s (with_letter_in_hand d s w) _ (λ x. record { windows = refl; trees = refl; colors = refl; screen = refl })
+quiet_shown d s (takes w) e = found_shown s (with_letter_in_hand d s w) _ (λ x. record { windows = refl; trees = refl; focus = refl; colors = refl; screen = refl })
 quiet_shown d s (begins w) e = cc
 quiet_shown d s (flushes w) e = flushed_shown s w
-quiet_shown d s (draws_end w) e = record { windows = refl; trees = refl; colors = refl; screen = refl }
+quiet_shown d s (draws_end w) e = record { windows = refl; trees = refl; focus = refl; colors = refl; screen = refl }
 quiet_shown d s (ends w) e = found_shown s (ended_hand s w) (hand_at s w) (λ hand. ended_shown s w hand (end_telling hand.duty hand.route))
-quiet_shown d s (notifies w) e = record { windows = refl; trees = refl; colors = colors_kept s.panes w with_notice (λ pane. refl); screen = refl }
+quiet_shown d s (notifies w) e = record { windows = refl; trees = refl; focus = refl; colors = colors_kept s.panes w with_notice (λ pane. refl); screen = refl }
 quiet_shown d s (executes w) e = cc
 quiet_shown d s (uses x) e = cc
-quiet_shown d s stops e = record { windows = refl; trees = refl; colors = refl; screen = refl }
+quiet_shown d s stops e = record { windows = refl; trees = refl; focus = refl; colors = refl; screen = refl }
 
 -- ---- commands, updates and input
 

@@ -113,7 +113,7 @@ exec_reads d s r w c is at_front =
     let r1 : State = without_front r w in
     let after : executed d s w ≡ executed_command d s w c = ap (λ o. option_map_or (executed_command d s w) o s) at_front in
     let screens : SameScreen s r = is.both.screens in
-    effect_reads d.pictures s1 r1 w (effect_of c.command) (record { width = screens.width; pixels = screens.pixels; height = screens.height; cells = screens.cells; windows = screens.windows; trees = screens.trees }) (λ x y. is.both.desktop_one x y) (λ x y. is.both.desktop_two x y) (λ p h.
+    effect_reads d.pictures s1 r1 w (effect_of c.command) (record { width = screens.width; pixels = screens.pixels; height = screens.height; cells = screens.cells; windows = screens.windows; trees = screens.trees; focus = screens.focus }) (λ x y. is.both.desktop_one x y) (λ x y. is.both.desktop_two x y) (λ p h.
     links_keep s r w shortened p (is.touched p (inr (subst (λ o. TouchesOldest s (executed d s w) w o p) (sym at_front) (subst (λ t. TouchesFor s t w (effect_of c.command) p) (sym after) (same_touch s w (executed_command d s w c) (effect_of c.command) p h))))))
 
 exec_by : (d : Declared) (s r : State) (w : ℕ) (c : Numbered) → Wanted d s r (executes w) → oldest s w ≡ Some c → Reads d s r (executes w)

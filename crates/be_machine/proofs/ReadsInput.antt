@@ -87,7 +87,7 @@ delivery_keeps d s r x both desk touched =
     let screens : SameScreen s r = both.screens in
     both_keep s r (before_active s x) (before_active r x) (with_delivery s x) (with_delivery r x) (before_keeps s r x)
     (activated_keeps (before_active s x) (before_active r x) x.activate
-    (record { desk = ap (with_under x) desk; screens = record { width = screens.width; pixels = screens.pixels; height = screens.height; cells = screens.cells; windows = screens.windows; trees = screens.trees }; one = λ a b. both.desktop_one a b; two = λ a b. both.desktop_two a b })
+    (record { desk = ap (with_under x) desk; screens = record { width = screens.width; pixels = screens.pixels; height = screens.height; cells = screens.cells; windows = screens.windows; trees = screens.trees; focus = screens.focus }; one = λ a b. both.desktop_one a b; two = λ a b. both.desktop_two a b })
     (λ p h. before_keeps s r x p (touched p (active_touches s (with_delivery s x) x x.activate p h))))
 
 -- ---- an event

@@ -1,4 +1,4 @@
--- The screen keeps its size and its pixels, whatever they show, and there are as many windows and view trees.
+-- The screen keeps its size and its pixels, whatever they show, and there are as many windows, view trees and focuses.
 use Rattle.std.proofs.Common.{◌≡◌, ℕ, suc, ◌+◌, List, [], ◌∷◌, length, Option, Some, None, Result, Ok, Err, refl, sym, ap, subst, ◌∙◌}
 use Rattle.std.specs.Prelude.{ℤ, slice_get, option_map, option_and_then}
 use Rattle.be_bitmap.specs.Pictures.{Picture}
@@ -39,7 +39,8 @@ use Rattle.be_machine.proofs.Sizes.{IsAsMany, KeepsCounts, as_many, desk_sizes}
 abbrev shape : Option Cell → Option Cell
 shape o = option_map (λ _. desktop_cell) o
 
--- A pixel is on the one screen where it is on the other, and the screens are as large; there are as many windows and trees.
+-- A pixel is on the one screen where it is on the other, and the screens are as large; there are as many windows, trees
+-- and focuses.
 pub record SameScreen (s r : State) : Type 0 where
   pub width : width_of r ≡ width_of s
   pub pixels : (x y : ℤ) → option_map (λ _. desktop_cell) (pixel_at r x y) ≡ option_map (λ _. desktop_cell) (pixel_at s x y)
@@ -47,6 +48,7 @@ pub record SameScreen (s r : State) : Type 0 where
   pub cells : length r.screen ≡ length s.screen
   pub windows : length r.desk.windows.windows ≡ length s.desk.windows.windows
   pub trees : length r.desk.pointing.trees ≡ length s.desk.pointing.trees
+  pub focus : length r.desk.pointing.focus ≡ length s.desk.pointing.focus
 
 pub same_screens : (s r t : State) → SameScreen s r → SameScreen r t → SameScreen s t
 same_screens s r t h k = record {
@@ -56,6 +58,7 @@ same_screens s r t h k = record {
   cells = k.cells ∙ h.cells;
   windows = k.windows ∙ h.windows;
   trees = k.trees ∙ h.trees;
+  focus = k.focus ∙ h.focus;
 }
 
 pub other_way : (s r : State) → SameScreen s r → SameScreen r s
@@ -66,6 +69,7 @@ other_way s r h = record {
   cells = sym h.cells;
   windows = sym h.windows;
   trees = sym h.trees;
+  focus = sym h.focus;
 }
 
 shown_screen : (s r : State) → IsShown s r → SameScreen s r
@@ -76,6 +80,7 @@ shown_screen s r is = record {
   cells = ap (λ (cells : List Cell). length cells) is.screen;
   windows = ap (λ (w : Windows). length w.windows) is.windows;
   trees = ap (λ (trees : List Tree). length trees) is.trees;
+  focus = ap (λ (focus : List (Option ℕ)). length focus) is.focus;
 }
 
 same_shape : (f : Cell → Cell) (o : Option Cell) → shape (option_map f o) ≡ shape o
@@ -96,6 +101,7 @@ ruled_screen s r rule desk screen = record {
   height = desk.sizes.height;
   windows = desk.sizes.windows;
   trees = desk.trees;
+  focus = desk.focus;
   cells = ap (λ (cells : List Cell). length cells) screen ∙ ruled_length (width_of s) rule s.screen;
   pixels = λ x y.
       ap (λ n. shape (cell_at n r.screen x y)) desk.sizes.width
@@ -120,35 +126,35 @@ effect_screen pictures s w (at_view v deed) =
     by_option (SameScreen s) (done_at_view pictures s w v deed) s (slice_get s.panes w) (again s) (λ pane.
     ruled_screen s (done_at_view pictures s w v deed pane) (executed_cell pictures (owned s w) pane.colors deed (sight_at s w v pane)) (as_many s.desk) refl)
 effect_screen pictures s w (changes change) = changed_screen s w change
-effect_screen pictures s w ends_update = shown_screen s _ (record { windows = refl; trees = refl; colors = colors_kept s.panes w without_session (λ pane. refl); screen = refl })
+effect_screen pictures s w ends_update = shown_screen s _ (record { windows = refl; trees = refl; focus = refl; colors = colors_kept s.panes w without_session (λ pane. refl); screen = refl })
 
 executed_screen : (d : Declared) (s : State) (w : ℕ) → SameScreen s (executed d s w)
 unfolding executed
 executed_screen d s w =
     by_option (SameScreen s) (executed_command d s w) s (option_and_then (λ link. slice_get link 0) (slice_get s.links w)) (again s) (λ c.
     let t : SameScreen _ _ = effect_screen d.pictures _ w (effect_of c.command) in
-    record { width = t.width; pixels = t.pixels; height = t.height; cells = t.cells; windows = t.windows; trees = t.trees })
+    record { width = t.width; pixels = t.pixels; height = t.height; cells = t.cells; windows = t.windows; trees = t.trees; focus = t.focus })
 
 begun_screen : (s : State) (w : ℕ) → SameScreen s (begun s w)
 unfolding begun
 begun_screen s w =
     by_test (SameScreen s) (is_any (dirty_of s w)) _ _
     (by_option (SameScreen s) (opened s w) s (corner_at s w) (again s) (λ corner. ruled_screen s (opened s w corner) (cleaned_cell (owned s w)) (as_many s.desk) refl))
-    (shown_screen s (passed_by s w) (record { windows = refl; trees = refl; colors = colors_kept s.panes w passed (λ pane. refl); screen = refl }))
+    (shown_screen s (passed_by s w) (record { windows = refl; trees = refl; focus = refl; colors = colors_kept s.panes w passed (λ pane. refl); screen = refl }))
 
 activated_screen : (s : State) (o : Option ℕ) → SameScreen s (activated s o)
 activated_screen s (Some w) = changed_screen s w Activate
 activated_screen s None = again s
 
 delivery_screen : (s : State) (x : Delivery) → SameScreen s (with_delivery s x)
-delivery_screen s x = let t : SameScreen _ _ = activated_screen _ x.activate in record { width = t.width; pixels = t.pixels; height = t.height; cells = t.cells; windows = t.windows; trees = t.trees }
+delivery_screen s x = let t : SameScreen _ _ = activated_screen _ x.activate in record { width = t.width; pixels = t.pixels; height = t.height; cells = t.cells; windows = t.windows; trees = t.trees; focus = t.focus }
 
 event_screen : (s : State) (x : InputLine) → SameScreen s (with_event s x)
 event_screen s (line.Press p) = delivery_screen s (delivery_of s (event.Press p))
 event_screen s (line.Release p) = delivery_screen s (delivery_of s (event.Release p))
 event_screen s (line.Move p) = delivery_screen s (delivery_of s (event.Move p))
 event_screen s (line.Key key) = delivery_screen s (delivery_of s (event.Key key))
-event_screen s (line.After m) = shown_screen s _ (record { windows = refl; trees = refl; colors = refl; screen = refl })
+event_screen s (line.After m) = shown_screen s _ (record { windows = refl; trees = refl; focus = refl; colors = refl; screen = refl })
 
 want_screen : (d : Declared) (s : State) (want : Want) → SameScreen s (met d s want)
 unfolding met

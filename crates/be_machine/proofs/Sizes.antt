@@ -1,4 +1,4 @@
--- A change keeps how many windows and view trees there are, and the size of the screen.
+-- A change keeps how many windows and view trees there are, for how many the focus is known, and the size of the screen.
 use Rattle.std.proofs.Common.{◌≡◌, ℕ, Bool, true, false, length, Option, Some, None, Result, Ok, Err, refl, length-set}
 use Rattle.std.specs.Prelude.{◌-ℤ◌, ◌==◌, slice_get, option_and_then, if◌then◌else◌}
 use Rattle.be_desk.specs.Changes.{Desk, desk_after, desk_with, desk_unless, with_tree}
@@ -62,32 +62,33 @@ windows_sizes s w change = gone_sizes s (is_gone s.windows w change) _ _ (at_siz
 
 -- ---- desks
 
--- as many windows and view trees
+-- as many windows, view trees and windows with a focus
 pub record IsAsMany (desk new : Desk) : Type 0 where
   pub sizes : IsAsLarge desk.windows new.windows
   pub trees : length new.pointing.trees ≡ length desk.pointing.trees
+  pub focus : length new.pointing.focus ≡ length desk.pointing.focus
 
 pub as_many : (desk : Desk) → IsAsMany desk desk
-as_many desk = record { sizes = as_large desk.windows; trees = refl }
+as_many desk = record { sizes = as_large desk.windows; trees = refl; focus = refl }
 
 abbrev pub KeepsCounts : Desk → Result Desk ChangeFault → Type 0
 KeepsCounts desk (Ok new) = IsAsMany desk new
 KeepsCounts desk (Err f) = Unit {0}
 
 with_sizes_tree : (desk : Desk) (windows : Windows) (w : ℕ) (o : Option Tree) → IsAsLarge desk.windows windows → KeepsCounts desk (with_tree desk windows w o)
-with_sizes_tree desk windows w (Some tree) h = record { sizes = h; trees = length-set desk.pointing.trees w tree }
+with_sizes_tree desk windows w (Some tree) h = record { sizes = h; trees = length-set desk.pointing.trees w tree; focus = refl }
 with_sizes_tree desk windows w None h = tt
 
 with_sizes : (desk : Desk) (w : ℕ) (windows : Windows) (change : Change) → IsAsLarge desk.windows windows → KeepsCounts desk (desk_with desk w windows change)
 with_sizes desk w windows (ResizeTo width height) h = with_sizes_tree desk windows w (option_and_then (λ tree. resized tree width height) (slice_get desk.pointing.trees w)) h
-with_sizes desk w windows (Focus view) h = record { sizes = h; trees = refl }
-with_sizes desk w windows Show h = record { sizes = h; trees = refl }
-with_sizes desk w windows Hide h = record { sizes = h; trees = refl }
-with_sizes desk w windows (MoveTo corner) h = record { sizes = h; trees = refl }
-with_sizes desk w windows (MoveBy dx dy) h = record { sizes = h; trees = refl }
-with_sizes desk w windows Activate h = record { sizes = h; trees = refl }
-with_sizes desk w windows (Behind other) h = record { sizes = h; trees = refl }
-with_sizes desk w windows Close h = record { sizes = h; trees = refl }
+with_sizes desk w windows (Focus view) h = record { sizes = h; trees = refl; focus = length-set desk.pointing.focus w view }
+with_sizes desk w windows Show h = record { sizes = h; trees = refl; focus = refl }
+with_sizes desk w windows Hide h = record { sizes = h; trees = refl; focus = refl }
+with_sizes desk w windows (MoveTo corner) h = record { sizes = h; trees = refl; focus = refl }
+with_sizes desk w windows (MoveBy dx dy) h = record { sizes = h; trees = refl; focus = refl }
+with_sizes desk w windows Activate h = record { sizes = h; trees = refl; focus = refl }
+with_sizes desk w windows (Behind other) h = record { sizes = h; trees = refl; focus = refl }
+with_sizes desk w windows Close h = record { sizes = h; trees = refl; focus = refl }
 
 unless_sizes : (desk : Desk) (w : ℕ) (change : Change) (r : Result Windows ChangeFault) → KeepsSizes desk.windows r → KeepsCounts desk (desk_unless desk w change r)
 unless_sizes desk w change (Ok windows) h = with_sizes desk w windows change h

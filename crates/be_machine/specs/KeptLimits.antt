@@ -1,5 +1,5 @@
 -- What stays within its limits through every legal history. Each statement is the contract of a function in src/laws.
-use Rattle.std.specs.Prelude.{◌≡◌, ◌⊎◌, ◌≤◌, ℕ, true, List, Some, None, slice_get}
+use Rattle.std.specs.Prelude.{◌≡◌, ◌⊎◌, ◌≤◌, ℕ, true, false, List, Some, None, slice_get}
 use Rattle.be_actor.specs.declared.Wish.TheVariants as wish
 use Rattle.be_command.specs.declared.Command.TheVariants.{EndUpdate}
 use Rattle.be_link.specs.Queues.{Buffer, Numbered}
@@ -8,6 +8,7 @@ use Rattle.be_message.specs.declared.target.Target.{Target}
 use Rattle.be_message.specs.Depths.{depth_of}
 use Rattle.be_message.specs.Messages.{Message}
 use Rattle.be_pane.specs.Panes.{Pane}
+use Rattle.be_port.specs.Ports.{Port, has_notice}
 use Rattle.be_reply.specs.Cells as reply
 use Rattle.be_script.specs.Limits.{IsWithinLimits}
 use Rattle.be_script.specs.Programs.{is_command_for}
@@ -18,6 +19,7 @@ use Rattle.be_machine.specs.History.{IsLegalHistory, state_after}
 use Rattle.be_machine.specs.Looper.{cell_of}
 use Rattle.be_machine.specs.Program.{hand_at}
 use Rattle.be_machine.specs.State.{handling, beginning}
+use Rattle.be_machine.specs.Update.{owes_notice}
 use Rattle.be_machine.specs.Wants.{asks, want_of}
 
 -- No message in the one that a looper handles lies deeper than 15, so that a message made with it in its body lies at
@@ -49,6 +51,13 @@ NoSessionAtBegin =
     (d : Declared) (h : List Entry) (w : ℕ) (hand : Hand Message) (pane : Pane) → IsWithinLimits d → IsLegalHistory d h
     → slice_get (state_after d h).loopers w ≡ Some (handling hand beginning) → slice_get (state_after d h).panes w ≡ Some pane
     → (pane.notified ≡ true) × (pane.session ≡ None)
+
+-- where a twin owes its window a notice, the window's port is open, and no notice waits in it
+abbrev pub OwedNoticesAreAlone : Type 0
+OwedNoticesAreAlone =
+    (d : Declared) (h : List Entry) (w : ℕ) (p : Port Message) → IsWithinLimits d → IsLegalHistory d h
+    → owes_notice (state_after d h) w ≡ true → slice_get (state_after d h).ports w ≡ Some p
+    → (p.closed ≡ false) × (has_notice p ≡ false)
 
 -- an application that is about to send waits for no reply, and has none that it didn't claim
 abbrev pub CellsAreIdleAtSends : Type 0

@@ -14,8 +14,8 @@ pub use cells::{
 };
 pub use counts::{no_history_outgrows_its_work, numbers_stay_small};
 pub use limits::{
-    a_cell_is_idle_at_a_send, messages_in_hand_are_shallow, no_session_is_open_at_a_begin,
-    waiting_commands_are_within_limits,
+    a_cell_is_idle_at_a_send, an_owed_notice_is_alone, messages_in_hand_are_shallow,
+    no_session_is_open_at_a_begin, waiting_commands_are_within_limits,
 };
 pub use orderly::every_history_is_orderly;
 pub use pixels::{

@@ -1,4 +1,4 @@
-ghost use Rattle.be_machine.specs.KeptLimits.{HandsAreShallow, LinkedAreWithinLimits, BufferedAreWithinLimits, NoSessionAtBegin, CellsAreIdleAtSends};
+ghost use Rattle.be_machine.specs.KeptLimits.{HandsAreShallow, LinkedAreWithinLimits, BufferedAreWithinLimits, NoSessionAtBegin, OwedNoticesAreAlone, CellsAreIdleAtSends};
 
 /// The message that a looper handles lies at most 15 deep, so that one made with it lies at most 16 deep.
 pub fn messages_in_hand_are_shallow()
@@ -14,6 +14,11 @@ pub fn waiting_commands_are_within_limits()
 /// While a looper has a notice that isn't begun, no session of its window is open.
 pub fn no_session_is_open_at_a_begin()
     ensures { NoSessionAtBegin }
+{}
+
+/// Where a notice is owed, the port that it goes to is open, and no other one waits in it.
+pub fn an_owed_notice_is_alone()
+    ensures { OwedNoticesAreAlone }
 {}
 
 /// An application that is about to send waits for no reply, and has none.
