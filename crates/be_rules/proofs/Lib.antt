@@ -20,4 +20,6 @@ pub mod Ending
 pub mod Told
 pub mod Spots
 pub mod Far
+pub mod Among
+pub mod Events
 pub mod Named

@@ -1,4 +1,4 @@
--- The parts that an activity's want names are the script's, but for those that an event names.
+-- The parts that an activity's want names are the script's.
 use Rattle.std.proofs.Common.{◌≡◌, ℕ, zero, suc, ◌+◌, ◌<◌, ◌≤◌, Bool, true, false, List, [], ◌∷◌, ◌++◌, length, Option, Some, None, inl, inr, refl, sym, ap, subst, arith}
 use Rattle.std.specs.Prelude.{◌==◌, ◌&&◌, nat_lt, drop, slice_get, option_map, option_and_then, if◌then◌else◌}
 use Rattle.std.proofs.lemmas.Bool.Decides.{nat_tests}
@@ -17,7 +17,7 @@ use Rattle.be_looper.specs.Duties.{Hand, waiter}
 use Rattle.be_message.specs.Messages.{Message}
 use Rattle.be_port.specs.declared.Duty.{Duty}
 use Rattle.be_port.specs.declared.Duty.TheVariants.{Owed, Done, Free}
-use Rattle.be_script.specs.Limits.{IsWithinLimits}
+use Rattle.be_script.specs.Limits.{IsWithinLimits, is_event}
 use Rattle.be_script.specs.Programs.{is_app_step, is_body_step, is_draw_step}
 use Rattle.be_script.specs.Script.{Declared}
 use Rattle.be_machine.specs.Activities as by
@@ -26,7 +26,7 @@ use Rattle.be_machine.specs.Program.{app_program, buffered, is_locked_by, letter
 use Rattle.be_machine.specs.State.{State, App, Looper, free, locked, handling, Stage, in_body, beginning, in_update, ending}
 use Rattle.be_machine.specs.Touched.{Part, desk, cell, looper, port, link, pane, own_part}
 use Rattle.be_machine.specs.Update.{owes_notice}
-use Rattle.be_machine.specs.Wants.{Want, asks, flushes, draws_end, ends, notifies, executes, stops, asks_or, end_want, draw_end_want, stage_want, looper_want, want_of}
+use Rattle.be_machine.specs.Wants.{Want, asks, flushes, draws_end, ends, notifies, executes, uses, stops, asks_or, end_want, draw_end_want, stage_want, looper_want, want_of}
 use Rattle.be_machine.proofs.Histories.{InRange}
 use Rattle.be_machine.proofs.Lists.{all_get}
 use Rattle.be_machine.proofs.ProgressAfter.{IsSettled}
@@ -37,6 +37,8 @@ use Rattle.be_machine.proofs.ProgressStands.{AppStands, app_stands, draw_step_is
 use Rattle.be_machine.proofs.Programs.{body_steps, update_steps}
 use Rattle.be_machine.proofs.Waiting.{one_where, owes, owed_by_looper, owed_in, due_to, total}
 use Rattle.be_rules.specs.Places.{IsPart}
+use Rattle.be_rules.proofs.Among.{alone, among_both, maybe_part}
+use Rattle.be_rules.proofs.Events.{event_named}
 use Rattle.be_rules.proofs.ListLemmas.{there_below}
 use Rattle.be_rules.specs.Sure.{seen_in, waiter_in, maybe, owned_window, who_waits, parts_for, port_for, effect_parts, parts_by, IsAmong}
 
@@ -100,19 +102,6 @@ body_known d w Sync h = nowhere d
 body_known d w (Draw c) h = nowhere d
 
 -- ---- parts
-
-alone : (d : Declared) (p x : Part) → IsPart d x → IsAmong p (x ∷ []) → IsPart d p
-alone d p x is (inl e) = subst (IsPart d) (sym e) is
-alone d p x is (inr nobody) = absurd nobody
-
-among_both : (d : Declared) (p : Part) (xs ys : List Part) → (IsAmong p xs → IsPart d p) → (IsAmong p ys → IsPart d p) → IsAmong p (xs ++ ys) → IsPart d p
-among_both d p [] ys f g h = g h
-among_both d p (x ∷ xs) ys f g (inl e) = f (inl e)
-among_both d p (x ∷ xs) ys f g (inr h) = among_both d p xs ys (λ k. f (inr k)) g h
-
-maybe_part : (d : Declared) (p : Part) (of : ℕ → Part) (o : Option ℕ) → ((n : ℕ) → o ≡ Some n → IsPart d (of n)) → IsAmong p (maybe of o) → IsPart d p
-maybe_part d p of (Some n) is h = alone d p (of n) (is n refl) h
-maybe_part d p of None is h = absurd h
 
 module _ (d : Declared) (s : State) (h : IsSettled d s) (limits : IsWithinLimits d) where
   -- who has a lock has one of a window that is there
@@ -271,14 +260,15 @@ some_map : {X Y : Type 0} (f : X → Y) (o : Option X) (y : Y) (P : Y → Type 0
 some_map f (Some x) y P e h = subst P (same_Some (f x) y e) (h x refl)
 some_map f None y P e h = absurd (cc)
 
--- a part that the want of an activity names is the script's; what an event names is left to whoever delivers it
-pub parts_named : (d : Declared) (s : State) → IsSettled d s → IsWithinLimits d → (who : Activity) (want : Want) → InRange (length d.apps) (length d.windows) who → (who ≡ input → ⊥) → want_of d s who ≡ Some want → (p : Part) → IsAmong p (parts_by (seen_in s) want) → IsPart d p
+-- a part that the want of an activity names is the script's
+pub parts_named : (d : Declared) (s : State) → IsSettled d s → IsWithinLimits d → (who : Activity) (want : Want) → InRange (length d.apps) (length d.windows) who → want_of d s who ≡ Some want → (p : Part) → IsAmong p (parts_by (seen_in s) want) → IsPart d p
 unfolding want_of
-parts_named d s h limits (runner (by.app m)) want lt other wanted p =
+parts_named d s h limits (runner (by.app m)) want lt wanted p =
     some_map (asks (by.app m)) _ want (λ z. AreParts d s h limits (λ w n. waits_by d s h w n (slice_get s.loopers w) refl) p z) wanted (λ x is. app_named d s h limits (λ w n. waits_by d s h w n (slice_get s.loopers w) refl) p m lt x (ap (option_map (asks (by.app m))) is))
-parts_named d s h limits (runner (by.looper w)) want lt other wanted p =
+parts_named d s h limits (runner (by.looper w)) want lt wanted p =
     some_map (looper_want d s w) (slice_get s.loopers w) want (λ z. AreParts d s h limits (λ w n. waits_by d s h w n (slice_get s.loopers w) refl) p z) wanted (λ l is. looper_named d s h limits (λ w n. waits_by d s h w n (slice_get s.loopers w) refl) p w lt l)
-parts_named d s h limits (twin w) want lt other wanted p =
+parts_named d s h limits (twin w) want lt wanted p =
     subst (λ z. AreParts d s h limits (λ w n. waits_by d s h w n (slice_get s.loopers w) refl) p z) (same_Some _ want wanted) (twin_named d s h limits (λ w n. waits_by d s h w n (slice_get s.loopers w) refl) p w lt (owes_notice s w))
-parts_named d s h limits input want lt other wanted p = absurd (other refl)
-parts_named d s h limits closing want lt other wanted p = subst (λ z. IsAmong p (parts_by (seen_in s) z) → IsPart d p) (same_Some stops want wanted) (λ k. absurd k)
+parts_named d s h limits input want lt wanted p =
+    some_map uses (slice_get d.input s.events) want (λ z. IsAmong p (parts_by (seen_in s) z) → IsPart d p) wanted (λ it is. event_named d s h.parts p it (all_get (is_event d) d.input s.events it limits.input is))
+parts_named d s h limits closing want lt wanted p = subst (λ z. IsAmong p (parts_by (seen_in s) z) → IsPart d p) (same_Some stops want wanted) (λ k. absurd k)

@@ -37,11 +37,11 @@ pub wants_known : (d : Declared) (held : List (ℕ × Slice)) (all other : List 
 wants_known d held all other who sound sound' fits fits' own =
     ap (λ s. want_of d s who) (back d other sound') ∙ wants_same d held all other sound sound' fits fits' who own ∙ ap (λ s. want_of d s who) (sym (back d all sound))
 
-pub parts_are_known : (d : Declared) (all : List Slice) (a : ℕ) (who : Activity) (want : Want) (p : Part) → IsSound d all → activity_of d a ≡ Some who → (who ≡ input → ⊥) → want_of d (state_of d all) who ≡ Some want → IsAmong p (parts_by (seen_in (state_of d all)) want) → IsPart d p
-parts_are_known d all a who want p sound number other wanted among =
+pub parts_are_known : (d : Declared) (all : List Slice) (a : ℕ) (who : Activity) (want : Want) (p : Part) → IsSound d all → activity_of d a ≡ Some who → want_of d (state_of d all) who ≡ Some want → IsAmong p (parts_by (seen_in (state_of d all)) want) → IsPart d p
+parts_are_known d all a who want p sound number wanted among =
     let is : state_of d all ≡ state d all sound = back d all sound in
     let settled : IsSettled d (state d all sound) = settled_after d sound.history sound.limits sound.legal in
-    parts_named d (state d all sound) settled sound.limits who want (in_range d a who number) other (subst (λ s. want_of d s who ≡ Some want) is wanted) p (subst (λ s. IsAmong p (parts_by (seen_in s) want)) is among)
+    parts_named d (state d all sound) settled sound.limits who want (in_range d a who number) (subst (λ s. want_of d s who ≡ Some want) is wanted) p (subst (λ s. IsAmong p (parts_by (seen_in s) want)) is among)
 
 pub parts_needed : (d : Declared) (held : List (ℕ × Slice)) (all : List Slice) (a : ℕ) (who : Activity) (want : Want) (p : Part) → IsSound d all → Fits all held → activity_of d a ≡ Some who → OwnHeld d held all who → want_of d (state_of d all) who ≡ Some want → IsPart d p → IsAmong p (parts_by (in_hand d held) want) → (IsHeld held (place_of d p) → ⊥) → NeedsPart d held a (place_of d p)
 parts_needed d held all a who want p sound fits number own wanted there among out =

@@ -78,11 +78,11 @@ WantsAreKnown =
     → IsSound d all → IsSound d other → Fits all held → Fits other held → OwnHeld d held all who
     → want_of d (state_of d other) who ≡ want_of d (state_of d all) who
 
--- each part that it names is one of the script's; of those that an event names this isn't said
+-- each part that it names is one of the script's
 abbrev pub PartsAreTheScripts : Type 0
 PartsAreTheScripts =
     (d : Declared) (all : List Slice) (a : ℕ) (who : Activity) (want : Want) (p : Part) → IsSound d all
-    → activity_of d a ≡ Some who → (who ≡ input → ⊥) → want_of d (state_of d all) who ≡ Some want
+    → activity_of d a ≡ Some who → want_of d (state_of d all) who ≡ Some want
     → IsAmong p (parts_by (seen_in (state_of d all)) want) → IsPart d p
 
 -- a part that is told by the parts in hand, and isn't among them, is touched in every such list
