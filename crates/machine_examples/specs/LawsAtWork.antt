@@ -18,8 +18,10 @@ use Rattle.be_machine.specs.Pixels.{color_at, mark_at, owner_in}
 use Rattle.be_machine.specs.Program.{hand_at}
 use Rattle.be_machine.specs.Schedule.{first_entries}
 use Rattle.be_machine.specs.State.{State}
+use Rattle.be_machine.specs.Update.{owes_notice}
 use Rattle.be_machine.specs.Windows.{view_colors}
 use Rattle.be_message.specs.Depths.{depth_of}
+use Rattle.be_port.specs.Ports.{has_notice}
 use Rattle.be_reply.specs.Cells as reply
 use Rattle.be_script.specs.Programs.{is_command_for}
 use Rattle.be_script.specs.Script.{Declared}
@@ -90,6 +92,10 @@ pub record Holds : Type 0 where
   -- the begin of the update takes the mark and leaves the colour
   pub unmarked : mark_at begun (pos 0) (pos 0) ≡ Some false
   pub same_color : color_at begun (pos 0) (pos 0) ≡ Some (rgb 0 0 0)
+  -- the notice that is owed then finds an open port in which none waits
+  pub owed : owes_notice shown 0 ≡ true
+  pub alone : option_map (λ p. has_notice p) (slice_get shown.ports 0) ≡ Some false
+  pub open_port : option_map (λ p. p.closed) (slice_get shown.ports 0) ≡ Some false
   -- both commands in the link are within their limits
   pub linked : option_map (map (λ c. is_command_for row 0 c.command)) (slice_get flushed.links 0) ≡ Some (true ∷ true ∷ [])
   -- before the begin a notice is on its way and no session is open, after it one is

@@ -20,3 +20,4 @@ pub mod TakenAfterClose
 pub mod Views
 pub mod Order
 pub mod LawsAtWork
+pub mod KeptPixels

@@ -23,6 +23,7 @@ ghost use Rattle.machine_examples.specs.TakenAfterClose as taken_after_close_exa
 ghost use Rattle.machine_examples.specs.Order as order_example;
 ghost use Rattle.machine_examples.specs.Views as views_example;
 ghost use Rattle.machine_examples.specs.LawsAtWork as laws_at_work_example;
+ghost use Rattle.machine_examples.specs.KeptPixels as kept_pixels_example;
 
 /// A window is shown and filled: its update comes between the two commands.
 pub fn one_window()
@@ -122,4 +123,9 @@ pub fn views_and_lines()
 /// A window with a child is shown, filled and updated, and an application sends: what the laws of pixels and limits say.
 pub fn laws_at_work()
     ensures { laws_at_work_example.Holds }
+{}
+
+/// A child is filled and invalidated, and a second window covers it: what changes, and what stays.
+pub fn kept_pixels()
+    ensures { kept_pixels_example.Holds }
 {}

@@ -1,4 +1,4 @@
-use Rattle.std.specs.Prelude.{refl, [], ◌∷◌}
+use Rattle.std.specs.Prelude.{refl}
 use Rattle.std.proofs.Common.{arith}
 use Rattle.be_machine.specs.Activities.{activity_of}
 use Rattle.be_machine.specs.Happenings.{happenings_at}
