@@ -1,4 +1,5 @@
-//! Bells: a worker that has nothing to do sleeps on its own, and who changes a part that it looked at rings it.
+//! Bells: a worker that has nothing to do sleeps on its own, and who changes a part that it looked at
+//! rings it.
 //!
 //! No clause of a run rests on who sleeps and who is woken, so nothing is said of either.
 #![tactic(auto)]
@@ -10,8 +11,8 @@ use std::sync::atomic::{AtomicU64, Ordering};
 
 /// A bell for each activity, watchers for each place, and who is awake and who has begun.
 ///
-/// A bell's lowest bit is 1 while its worker sleeps or is about to. The other bits count how often it was
-/// rung. A worker that hasn't begun counts as awake.
+/// A bell's lowest bit is 1 while its worker sleeps or is about to. The other bits count how often it
+/// was rung. A worker that hasn't begun counts as awake.
 #[derive(Drop)]
 pub struct Bells {
     bells: Vec<AtomicU64>,
@@ -108,7 +109,8 @@ impl Bells {
         }
     }
 
-    /// Sleeps until the bell is rung, if it still shows this. The last to fall asleep rings for the closing one.
+    /// Sleeps until the bell is rung, if it still shows this. The last to fall asleep rings for the
+    /// closing one.
     pub fn sleep<R: Wait>(&self, rt: &R, who: u32, shown: u64) {
         let Some(bell) = self.bells.get(who as usize) else {
             return;
@@ -131,8 +133,8 @@ impl Bells {
         self.awake.fetch_add(1, Ordering::SeqCst);
     }
 
-    /// This worker is awake no more. Where the last other one is left or none, it rings for the closing one,
-    /// which does not ring for itself.
+    /// This worker is awake no more. Where one other at most is awake, it rings for the closing one, which
+    /// does not ring for itself.
     pub fn leave(&self, who: u32) {
         let awake = self.awake.fetch_sub(1, Ordering::SeqCst);
         let unbegun = self.unbegun.load(Ordering::SeqCst);
