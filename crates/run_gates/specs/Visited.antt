@@ -1,0 +1,10 @@
+-- The visits that gates count.
+use Rattle.run_gates.specs.declared.visits.Visits.{Visits}
+use Rattle.run_gates.specs.declared.before.HoldsBefore.{HoldsBefore}
+use Rattle.run_gates.specs.declared.inside.HoldsInside.{HoldsInside}
+
+abbrev pub before_visits : HoldsBefore → Visits
+before_visits gate = gate.visits
+
+abbrev pub inside_visits : HoldsInside → Visits
+inside_visits gate = gate.visits
