@@ -1,0 +1,4 @@
+mod Some
+mod Wanted
+mod Turned
+mod Ending

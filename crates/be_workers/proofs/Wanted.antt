@@ -1,0 +1,99 @@
+-- The places that a turn wants.
+use Rattle.std.proofs.Common.{◌≡◌, ℕ, zero, suc, ◌+◌, ◌<◌, ◌≤◌, inl, inr, Bool, true, false, ◌||◌, ◌==◌, nat_lt, cond, List, [], ◌∷◌, ◌++◌, length, filter, All, Contains, refl, sym, ap, ◌∙◌, subst, append-nil, eq-eqb, arith}
+use Rattle.std.specs.List.{list_any}
+use Rattle.std.proofs.lemmas.List.Elements.{All-nil, All-cons, All-weaker, All-contains, All-filter, Contains-push, Contains-append_left, filter-append}
+use mathlib.Core.Logic.{dite}
+use native.Mathlib.Decide.{dec_le}
+use Rattle.be_hall.proofs.Rising.{both_true, other_true, both_hold, less_than, is_less}
+use Rattle.be_hall.proofs.UpFrom.{up_rises, up_below, up_snoc}
+use Rattle.be_hall.specs.Hands.{rises_from, up_from, places_of, meant}
+use Rattle.be_hall.specs.Machine.{IsHeld}
+use Rattle.be_workers.specs.Wanted.{is_wanted, wanted_below, pushed}
+
+pub longer : {A : Type 0} (xs : List A) (x : A) → length (xs ++ x ∷ []) ≡ length xs + 1
+longer [] x = refl
+longer (y ∷ ys) x = let r = longer ys x in omega arith
+
+or_other : (a b : Bool) → b ≡ true → (a || b) ≡ true
+or_other true b h = refl
+or_other false b h = h
+
+-- a rising list without some of its numbers
+rises_lower : (low high : ℕ) (ps : List ℕ) → low ≤ high → rises_from high ps ≡ true → rises_from low ps ≡ true
+rises_lower low high [] h r = refl
+rises_lower low high (p ∷ ps) h r =
+    let above : high < p + 1 = is_less high (p + 1) (both_true (nat_lt high (p + 1)) _ r) in
+    both_hold (nat_lt low (p + 1)) _ (less_than low (p + 1) (omega arith)) (other_true (nat_lt high (p + 1)) _ r)
+
+rises_kept : (low p : ℕ) (b : Bool) (ps : List ℕ) → nat_lt low (p + 1) ≡ true → rises_from (p + 1) ps ≡ true → rises_from low (cond b (p ∷ ps) ps) ≡ true
+rises_kept low p true ps l r = both_hold (nat_lt low (p + 1)) _ l r
+rises_kept low p false ps l r =
+    let above : low < p + 1 = is_less low (p + 1) l in rises_lower low (p + 1) ps (omega arith) r
+
+rises_filter : (test : ℕ → Bool) (low : ℕ) (ps : List ℕ) → rises_from low ps ≡ true → rises_from low (filter test ps) ≡ true
+rises_filter test low [] r = refl
+rises_filter test low (p ∷ ps) r =
+    rises_kept low p (test p) (filter test ps) (both_true (nat_lt low (p + 1)) _ r) (rises_filter test (p + 1) ps (other_true (nat_lt low (p + 1)) _ r))
+
+-- one number more
+kept_last : (b : Bool) (xs : List ℕ) (n : ℕ) → xs ++ cond b (n ∷ []) [] ≡ pushed b xs n
+kept_last true xs n = refl
+kept_last false xs n = append-nil xs
+
+pushed_here : (b : Bool) (xs : List ℕ) (n p : ℕ) → n ≡ p → b ≡ true → Contains (pushed b xs n) p
+pushed_here true xs n p e h = subst (λ (q : ℕ). Contains (xs ++ n ∷ []) q) e (Contains-push xs n)
+pushed_here false xs n p e h = absurd (no_false h) where
+  no_false : false ≡ true → ⊥
+  no_false k = cc
+
+pushed_before : (b : Bool) (xs : List ℕ) (n p : ℕ) → Contains xs p → Contains (pushed b xs n) p
+pushed_before true xs n p h = Contains-append_left xs (n ∷ []) p h
+pushed_before false xs n p h = h
+
+pub pushed_long : (b : Bool) (n : ℕ) (xs ys : List ℕ) → ys ≡ pushed b xs n → length xs ≤ n → length ys ≤ n + 1
+pushed_long true n xs ys is h = let l : length ys ≡ length xs + 1 = ap length is ∙ longer xs n in omega arith
+pushed_long false n xs ys is h = let l : length ys ≡ length xs = ap length is in omega arith
+
+pub last_any : (xs : List ℕ) (p : ℕ) → list_any (λ q. q == p) (xs ++ p ∷ []) ≡ true
+last_any [] p = ap (λ (b : Bool). b || false) (eq-eqb p p refl)
+last_any (x ∷ xs) p = or_other (x == p) _ (last_any xs p)
+
+module _ (owns : ℕ → Bool) (more : List ℕ) where
+  pub wanted_rises : (n : ℕ) → rises_from 0 (wanted_below owns more n) ≡ true
+  wanted_rises n = rises_filter (is_wanted owns more) 0 (up_from 0 n) (up_rises 0 n)
+
+  pub wanted_there : (n : ℕ) → All (λ p. p < n) (wanted_below owns more n)
+  wanted_there n = All-filter (is_wanted owns more) (λ p. p < n) (up_from 0 n) (up_below n n 0 (omega arith))
+
+  pub wanted_next : (n : ℕ) → wanted_below owns more (n + 1) ≡ pushed (is_wanted owns more n) (wanted_below owns more n) n
+  wanted_next n =
+      ap (filter (is_wanted owns more)) (up_snoc n)
+      ∙ (filter-append (is_wanted owns more) (up_from 0 n) (n ∷ []) ∙ kept_last (is_wanted owns more n) (wanted_below owns more n) n)
+
+  wanted_has : (n p : ℕ) → p < n → is_wanted owns more p ≡ true → Contains (wanted_below owns more n) p
+  wanted_has zero p below h = absurd (omega arith)
+  wanted_has (suc n) p below h =
+      let e : suc n ≡ n + 1 = omega arith in
+      subst (λ (l : List ℕ). Contains l p) (sym (ap (wanted_below owns more) e ∙ wanted_next n)) (dite (dec_le n p)
+      (λ last. let same : n ≡ p = omega arith in pushed_here (is_wanted owns more n) (wanted_below owns more n) n p same (subst (λ (q : ℕ). is_wanted owns more q ≡ true) (sym same) h))
+      (λ before. pushed_before (is_wanted owns more n) (wanted_below owns more n) n p (wanted_has n p (omega arith) h)))
+
+  pub owned : (n p : ℕ) → p < n → owns p ≡ true → Contains (wanted_below owns more n) p
+  owned n p below own = wanted_has n p below (ap (λ (b : Bool). b || list_any (λ q. q == p) more) own)
+
+  pub named : (n p : ℕ) → p < n → list_any (λ q. q == p) more ≡ true → Contains (wanted_below owns more n) p
+  named n p below any = wanted_has n p below (or_other (owns p) _ any)
+
+  -- one step of the choice
+  pub chosen : (b : Bool) (n : ℕ) (xs ys : List ℕ) → ys ≡ pushed b xs n → b ≡ is_wanted owns more n → xs ≡ wanted_below owns more n → ys ≡ wanted_below owns more (n + 1)
+  chosen b n xs ys is by so =
+      is ∙ (ap (λ (t : Bool). pushed t xs n) by ∙ (ap (λ (l : List ℕ). pushed (is_wanted owns more n) l n) so ∙ sym (wanted_next n)))
+
+module _ {T M : Type 0} (f : T → M) where
+  all_held : (held : List (ℕ × T)) → All (λ q. IsHeld (meant f held) q) (places_of held)
+  all_held [] = All-nil _
+  all_held (x ∷ xs) = All-cons (λ q. IsHeld (meant f (x ∷ xs)) q) x.0 (places_of xs) (inl refl) (All-weaker (λ q. IsHeld (meant f xs) q) (λ q. IsHeld (meant f (x ∷ xs)) q) (λ q h. inr h) (places_of xs) (all_held xs))
+
+  -- a place that was wanted is in hand
+  pub is_held : (held : List (ℕ × T)) (ps : List ℕ) (p : ℕ) → places_of held ≡ ps → Contains ps p → IsHeld (meant f held) p
+  is_held held ps p same has = All-contains (λ q. IsHeld (meant f held) q) (places_of held) p (all_held held) (subst (λ l. Contains l p) (sym same) has)

@@ -1,0 +1,160 @@
+//! One turn of an activity.
+ghost use Rattle.std.specs.Prelude.{◌≡◌, ◌+◌, ◌<◌, ◌==◌, [], true, false, All, IfOk, OnErr};
+ghost use Rattle.be_hall.specs.Hands.{places_of, rises_from};
+ghost use Rattle.be_hall.specs.Words.{IsPassOf, in_hand, rules_of};
+ghost use Rattle.be_workers.specs.Turned.{AskedOf, HoldsOwn, IsFree, KeepsCommits, Leaves, MayAsk};
+ghost use Rattle.be_workers.specs.Turned.{made_by};
+ghost use Rattle.be_workers.specs.Wanted.{HasRoom};
+
+use crate::tools::Tools;
+use crate::wants::Wants;
+use be_bells::Bells;
+use be_geom::NoMemory;
+use be_hall::{Hall, Pass, Verdict};
+use be_outside::{Gate, Spot};
+use be_turns::{Turn, Turns};
+use std::sync::Wait;
+
+/// What came of a turn.
+#[derive(Clone, Copy, Debug, PartialEq, Eq)]
+pub(crate) enum Did {
+    /// It made an entry.
+    Made,
+    /// It made the closing activity's entry.
+    Closed,
+    /// It made none: the activity has no legal entry now, or is the closing one and lacks a part.
+    Nothing,
+    /// The activity makes no entry any more.
+    Over,
+}
+
+// What came of asking with some parts in hand.
+#[derive(Clone, Copy)]
+enum Asked {
+    Came(Did),
+    Needs(u32),
+}
+
+// What it is to have made an entry of the activity.
+fn made<W: Turns>(rules: &W, who: u32) -> Did
+    requires { who < W.activities rules.now }
+    ensures { result ≡ made_by (who + 1 == W.activities rules.now) }
+{
+    let many = rules.activities();
+    if who + 1 == many {
+        Did::Closed
+    } else {
+        Did::Made
+    }
+}
+
+// Asks what the activity does with the parts in hand, and does it.
+fn ask<G: Gate, W: Turns + Drop>(
+    gate: &G,
+    hall: &Hall<W>,
+    who: u32,
+    pass: &mut Pass<W>,
+) -> Result<Asked, NoMemory>
+    requires hall { IsPassOf W.meaning hall.now pass.old }
+    requires there { who < W.activities (rules_of hall.now) }
+    requires own { HoldsOwn W.machine W.meaning W.owns hall.now who pass.old }
+    requires askable { MayAsk W.machine W.meaning hall.now pass.old }
+    ensures hall { IsPassOf W.meaning hall.now pass.new }
+    ensures ok { IfOk result (AskedOf W.machine W.legal W.stops hall.now who pass.old pass.new) }
+    ensures err { OnErr result (KeepsCommits pass.old pass.new) }
+{
+    let rules = hall.rules();
+    match rules.next(who, pass.held())? {
+        Turn::Ended => Ok(Asked::Came(Did::Over)),
+        Turn::NotYet => Ok(Asked::Came(Did::Nothing)),
+        Turn::Needs(place) => Ok(Asked::Needs(place)),
+        Turn::Entry(entry) => match hall.prepare(pass, &entry)? {
+            Verdict::Ready(ready) => {
+                gate.at(Spot::Inside, who);
+                hall.commit(pass, ready);
+                Ok(Asked::Came(made(rules, who)))
+            }
+            Verdict::Needs(place) => Ok(Asked::Needs(place)),
+            Verdict::NotLegal => Ok(Asked::Came(Did::Nothing)),
+        },
+    }
+}
+
+// Tells the bells what came of asking with the parts at these places, which are still in hand.
+fn tell(bells: &Bells, watcher: u32, places: &[u32], asked: &Result<Asked, NoMemory>) {
+    match asked {
+        Ok(Asked::Came(Did::Made | Did::Closed)) => {
+            for place in places {
+                bells.changed(*place);
+            }
+        }
+        Ok(Asked::Came(Did::Nothing)) => {
+            for place in places {
+                bells.watch(watcher, *place);
+            }
+        }
+        Ok(Asked::Came(Did::Over) | Asked::Needs(_)) | Err(NoMemory) => {}
+    }
+}
+
+// Takes the parts at these places. The closing activity, which wants all, doesn't wait for them.
+fn grab<R: Wait, W: Turns + Drop>(
+    rt: &R,
+    hall: &Hall<W>,
+    who: u32,
+    pass: &mut Pass<W>,
+    places: &[u32],
+) -> bool
+    requires pass { IsFree W.meaning hall.now pass.old }
+    requires there { who < W.activities (rules_of hall.now) }
+    requires rising { rises_from 0 places.now ≡ true }
+    requires below { All (λ p. p < (W.machine (rules_of hall.now)).places) places.now }
+    ensures hall { IsPassOf W.meaning hall.now pass.new }
+    ensures kept { KeepsCommits pass.old pass.new }
+    ensures held { result ≡ true → places_of (in_hand pass.new) ≡ places.now }
+    ensures none { result ≡ false → in_hand pass.new ≡ [] }
+    ensures askable { result ≡ true → MayAsk W.machine W.meaning hall.now pass.new }
+{
+    let many = hall.rules().activities();
+    if who + 1 == many {
+        return hall.try_take(pass, places).is_ok();
+    }
+    hall.take(rt, pass, places);
+    true
+}
+
+/// Asks, and takes what it needs beside, until the activity did something or could not. It waits
+/// for the parts, but for those of the closing activity. Where there is nothing to do, the watcher
+/// is rung once one of the parts is changed: it is the activity whose worker this is.
+pub(crate) fn take_turn<R: Wait, G: Gate, W: Turns + Drop>(
+    tools: &Tools<'_, R, G>,
+    hall: &Hall<W>,
+    watcher: u32,
+    who: u32,
+    pass: &mut Pass<W>,
+    wants: &mut Wants,
+) -> Result<Did, NoMemory>
+    requires pass { IsFree W.meaning hall.now pass.old }
+    requires there { who < W.activities (rules_of hall.now) }
+    requires room { HasRoom wants.old (W.machine (rules_of hall.now)).places }
+    ensures pass { IsFree W.meaning hall.now pass.new }
+    ensures room { HasRoom wants.new (W.machine (rules_of hall.now)).places }
+    ensures ok { IfOk result (Leaves W.machine W.legal W.stops hall.now who pass.old pass.new) }
+    ensures err { OnErr result (KeepsCommits pass.old pass.new) }
+{
+    let rules = hall.rules();
+    wants.own(rules, who);
+    for _round in 0..rules.places() {
+        if !grab(tools.rt, hall, who, pass, wants.places()) {
+            return Ok(Did::Nothing);
+        }
+        let asked = ask(tools.gate, hall, who, pass);
+        tell(tools.bells, watcher, wants.places(), &asked);
+        hall.give(pass);
+        match asked? {
+            Asked::Came(did) => return Ok(did),
+            Asked::Needs(place) => wants.add(rules, who, place),
+        }
+    }
+    Ok(Did::Nothing)
+}

@@ -1,0 +1,169 @@
+//! A worker: what one thread does.
+ghost use Rattle.std.specs.Prelude.{◌≡◌, ◌<◌, IfOk, OnErr};
+ghost use Rattle.be_hall.specs.Words.{rules_of, view_of};
+ghost use Rattle.be_workers.specs.Turned.{IsFree, HasStop, KeepsCommits, OnClosed};
+ghost use Rattle.be_workers.specs.Workers.{IsWorker, StaysWorker, TurnOf};
+
+use crate::tools::Tools;
+use crate::turn::{Did, take_turn};
+use crate::wants::Wants;
+use be_bells::Bells;
+use be_geom::NoMemory;
+use be_hall::{Hall, Pass};
+use be_outside::{Gate, Spot};
+use be_turns::Turns;
+use std::sync::Wait;
+use std::thread;
+
+/// How a worker ended.
+#[derive(Clone, Copy, Debug, PartialEq, Eq)]
+pub enum End {
+    /// Its activity was over, or it was told to stop.
+    Over,
+    /// It made the closing entry.
+    Closed,
+    /// It met want of memory.
+    NoMemory,
+}
+
+/// A worker: its activity, the pass with which it works, what its turn wants, and how it ended.
+#[derive(Drop)]
+pub struct Worker<W: Turns> {
+    pub who: u32,
+    pub pass: Pass<W>,
+    pub wants: Wants,
+    pub end: End,
+}
+
+// How often a worker that has nothing to do lets others run before it sleeps.
+const TRIES: u32 = 2;
+
+impl<W: Turns + Drop> Worker<W> {
+    /// Makes turns until it is told to stop, its activity is over, the closing entry was made or it
+    /// met want of memory. The last two tell all workers to stop.
+    pub(crate) fn labour<R: Wait, G: Gate>(
+        &mut self,
+        tools: &Tools<'_, R, G>,
+        hall: &Hall<W>,
+    ) -> End
+        requires { IsWorker W.machine W.meaning W.activities hall.now self.old }
+        ensures worker { StaysWorker W.machine W.meaning W.activities hall.now self.old self.new }
+        ensures closed { result ≡ End.Closed → HasStop W.stops (view_of self.new.pass).own }
+    {
+        let who = self.who;
+        let closing = hall.rules().activities() - 1;
+        let mut idle = 0u32;
+        for _ in tools.rt.forever() {
+            if hall.stopped(&mut self.pass) {
+                return End::Over;
+            }
+            let shown = tools.bells.shown(who);
+            if who == closing && !tools.bells.is_quiet() {
+                tools.bells.sleep(tools.rt, who, shown);
+                continue;
+            }
+            match self.step(tools, hall) {
+                Ok(Did::Made) => idle = 0,
+                Ok(Did::Nothing) => idle = pause(tools, who, closing, idle, shown),
+                Ok(Did::Over) => return End::Over,
+                Ok(Did::Closed) => {
+                    end_all(hall, tools.bells, &mut self.pass);
+                    return End::Closed;
+                }
+                Err(NoMemory) => {
+                    end_all(hall, tools.bells, &mut self.pass);
+                    return End::NoMemory;
+                }
+            }
+        }
+        unreachable!()
+    }
+
+    // A turn of its own activity, and where that has nothing to do of those whose workers haven't
+    // begun: their threads may never start.
+    fn step<R: Wait, G: Gate>(
+        &mut self,
+        tools: &Tools<'_, R, G>,
+        hall: &Hall<W>,
+    ) -> Result<Did, NoMemory>
+        requires { IsWorker W.machine W.meaning W.activities hall.now self.old }
+        ensures worker { StaysWorker W.machine W.meaning W.activities hall.now self.old self.new }
+        ensures closed { IfOk result (OnClosed (HasStop W.stops (view_of self.new.pass).own)) }
+    {
+        let who = self.who;
+        match self.turn(tools, hall, who)? {
+            Did::Nothing if !tools.bells.all_begun() => self.stand_in(tools, hall),
+            did => Ok(did),
+        }
+    }
+
+    // Turns of the activities whose workers haven't begun, until one of them makes an entry.
+    fn stand_in<R: Wait, G: Gate>(
+        &mut self,
+        tools: &Tools<'_, R, G>,
+        hall: &Hall<W>,
+    ) -> Result<Did, NoMemory>
+        requires { IsWorker W.machine W.meaning W.activities hall.now self.old }
+        ensures worker { StaysWorker W.machine W.meaning W.activities hall.now self.old self.new }
+        ensures closed { IfOk result (OnClosed (HasStop W.stops (view_of self.new.pass).own)) }
+    {
+        for who in 0..hall.rules().activities() {
+            if tools.bells.has_begun(who) {
+                continue;
+            }
+            match self.turn(tools, hall, who)? {
+                Did::Made => return Ok(Did::Made),
+                Did::Closed => return Ok(Did::Closed),
+                Did::Nothing | Did::Over => {}
+            }
+        }
+        Ok(Did::Nothing)
+    }
+
+    // One turn of an activity, which needn't be its own.
+    fn turn<R: Wait, G: Gate>(
+        &mut self,
+        tools: &Tools<'_, R, G>,
+        hall: &Hall<W>,
+        who: u32,
+    ) -> Result<Did, NoMemory>
+        requires worker { IsWorker W.machine W.meaning W.activities hall.now self.old }
+        requires there { who < W.activities (rules_of hall.now) }
+        ensures worker { StaysWorker W.machine W.meaning W.activities hall.now self.old self.new }
+        ensures ok { IfOk result (TurnOf W.machine W.legal W.stops hall.now who self.old self.new) }
+        ensures err { OnErr result (KeepsCommits self.old.pass self.new.pass) }
+    {
+        tools.gate.at(Spot::Before, who);
+        let did = take_turn(tools, hall, self.who, who, &mut self.pass, &mut self.wants);
+        tools.gate.at(Spot::After, who);
+        did
+    }
+}
+
+// Lets others run, and sleeps after some such pauses in a row. It answers how many there were. Who
+// changes a part rings those that look at it, and the last to fall asleep rings the closing worker:
+// while that hasn't begun nobody sleeps.
+fn pause<R: Wait, G>(
+    tools: &Tools<'_, R, G>,
+    who: u32,
+    closing: u32,
+    idle: u32,
+    shown: u64,
+) -> u32 {
+    if idle < TRIES || !tools.bells.has_begun(closing) {
+        thread::yield_now();
+        return idle.saturating_add(1);
+    }
+    tools.bells.sleep(tools.rt, who, shown);
+    idle
+}
+
+// Tells all workers to stop, and wakes them.
+fn end_all<W: Turns + Drop>(hall: &Hall<W>, bells: &Bells, pass: &mut Pass<W>)
+    requires { IsFree W.meaning hall.now pass.old }
+    ensures pass { IsFree W.meaning hall.now pass.new }
+    ensures kept { KeepsCommits pass.old pass.new }
+{
+    hall.raise_stop(pass);
+    bells.ring_all();
+}
