@@ -51,6 +51,10 @@ module _ {P T E R M : Type 0} {g : _} where
   abbrev pub MayAsk : (P → Machine M E) → (T → M) → Hall P T E R M g → Pass P T E R M g → Type 0
   MayAsk machine meaning hall pass = IsAskable (machine (rules_of hall)) (meant meaning (in_hand pass))
 
+  -- the pass knows of no commit
+  abbrev pub HasNone : Pass P T E R M g → Type 0
+  HasNone pass = ((view_of pass).own ≡ []) × ((view_of pass).ended ≡ [])
+
   abbrev pub KeepsCommits : Pass P T E R M g → Pass P T E R M g → Type 0
   KeepsCommits old new = SameCommits (view_of old) (view_of new)
 

@@ -1,8 +1,8 @@
 //! All workers, one for each activity.
 ghost use Rattle.std.specs.Prelude.{◌≡◌, All, IfOk};
 ghost use Rattle.be_hall.specs.Hands.{up_from};
-ghost use Rattle.be_hall.specs.Views.{parted};
-ghost use Rattle.be_hall.specs.Words.{IsPassOf, IsSame, rules_of, view_of};
+ghost use Rattle.be_hall.specs.Words.{IsPassOf, hands_of, rules_of};
+ghost use Rattle.be_workers.specs.Turned.{HasNone, KeepsCommits};
 ghost use Rattle.be_workers.specs.Workers.{AreWorkers, IsDone, IsWorker, whose};
 
 use crate::tools::Tools;
@@ -25,10 +25,11 @@ pub fn hire<W: Turns + Drop>(
 ) -> Result<Vec<Worker<W>>, NoMemory>
     requires { IsPassOf W.meaning hall.now pass.old }
     ensures hall { IsPassOf W.meaning hall.now pass.new }
-    ensures same { IsSame pass.old pass.new }
+    ensures kept { KeepsCommits pass.old pass.new }
+    ensures held { hands_of pass.new ≡ hands_of pass.old }
     ensures all { IfOk result (λ v. whose v.items ≡ up_from 0 (W.activities (rules_of hall.now))) }
     ensures fit { IfOk result (λ v. AreWorkers W.machine W.meaning W.activities hall.now v.items) }
-    ensures new { IfOk result (λ v. All (λ w. view_of w.pass ≡ parted (view_of pass.old)) v.items) }
+    ensures new { IfOk result (λ v. All (λ w. HasNone w.pass) v.items) }
 {
     let places = hall.rules().places();
     let many = hall.rules().activities();
