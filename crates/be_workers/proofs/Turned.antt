@@ -14,7 +14,7 @@ use Rattle.be_turns.specs.declared.turns.Turn.TheVariants as turn
 use Rattle.be_turns.specs.Turning.{Tells, Turning}
 use Rattle.be_workers.specs.declared.turn.Did.{Did}
 use Rattle.be_workers.specs.declared.turn.Did.TheVariants as did
-use Rattle.be_workers.specs.Turned.{CommitsBy, HasStop, IsLegalOf, OnClosed, OneMore, SameCommits, made_by}
+use Rattle.be_workers.specs.Turned.{CommitsBy, HasStop, IsLegalOf, OneMore, SameCommits, made_by}
 
 -- the entry that was prepared is the one that was asked for
 pub prepared : {M E R : Type 0} (x : Machine M E) (held : List (ℕ × M)) (spare : List (ℕ × ℕ)) (entry_of : R → E) (seen_by : R → List (ℕ × M)) (fact : R → Type 0) (e : E) (v : Verdict R) (r : R) → Answers x held spare entry_of seen_by fact e v → v ≡ verdict.Ready r → entry_of r ≡ e
@@ -51,9 +51,3 @@ module _ {M E : Type 0} (x : Machine M E) (legal : List M → ℕ → Option E) 
     carried u v w z did.Closed a b c = (carried_one u v w z a b.0 c, subst (HasStop stops) (sym c.0) b.1)
     carried u v w z did.Nothing a b c = (c.0 ∙ (b.0 ∙ a.0), c.1 ∙ (b.1 ∙ a.1))
     carried u v w z did.Over a b c = (c.0 ∙ (b.0 ∙ a.0), c.1 ∙ (b.1 ∙ a.1))
-
-    pub closed_by : (v w : View P M E) (d : Did) → CommitsBy x legal stops who v w d → OnClosed (HasStop stops w.own) d
-    closed_by v w did.Made c = tt
-    closed_by v w did.Closed c = c.1
-    closed_by v w did.Nothing c = tt
-    closed_by v w did.Over c = tt

@@ -18,6 +18,13 @@ or_other : (a b : Bool) → b ≡ true → (a || b) ≡ true
 or_other true b h = refl
 or_other false b h = h
 
+or_more : (a b c : Bool) → (b ≡ true → c ≡ true) → (a || b) ≡ true → (a || c) ≡ true
+or_more true b c f h = refl
+or_more false b c f h = f h
+
+no_false : false ≡ true → ⊥
+no_false h = cc
+
 -- a rising list without some of its numbers
 rises_lower : (low high : ℕ) (ps : List ℕ) → low ≤ high → rises_from high ps ≡ true → rises_from low ps ≡ true
 rises_lower low high [] h r = refl
@@ -35,6 +42,10 @@ rises_filter test low [] r = refl
 rises_filter test low (p ∷ ps) r =
     rises_kept low p (test p) (filter test ps) (both_true (nat_lt low (p + 1)) _ r) (rises_filter test (p + 1) ps (other_true (nat_lt low (p + 1)) _ r))
 
+kept_short : (b : Bool) (x : ℕ) (xs : List ℕ) (n : ℕ) → length xs ≤ n → length (cond b (x ∷ xs) xs) ≤ suc n
+kept_short true x xs n h = let l : length (x ∷ xs) ≡ suc (length xs) = refl in omega arith
+kept_short false x xs n h = omega arith
+
 -- one number more
 kept_last : (b : Bool) (xs : List ℕ) (n : ℕ) → xs ++ cond b (n ∷ []) [] ≡ pushed b xs n
 kept_last true xs n = refl
@@ -42,9 +53,7 @@ kept_last false xs n = append-nil xs
 
 pushed_here : (b : Bool) (xs : List ℕ) (n p : ℕ) → n ≡ p → b ≡ true → Contains (pushed b xs n) p
 pushed_here true xs n p e h = subst (λ (q : ℕ). Contains (xs ++ n ∷ []) q) e (Contains-push xs n)
-pushed_here false xs n p e h = absurd (no_false h) where
-  no_false : false ≡ true → ⊥
-  no_false k = cc
+pushed_here false xs n p e h = absurd (no_false h)
 
 pushed_before : (b : Bool) (xs : List ℕ) (n p : ℕ) → Contains xs p → Contains (pushed b xs n) p
 pushed_before true xs n p h = Contains-append_left xs (n ∷ []) p h
@@ -58,6 +67,41 @@ pub last_any : (xs : List ℕ) (p : ℕ) → list_any (λ q. q == p) (xs ++ p �
 last_any [] p = ap (λ (b : Bool). b || false) (eq-eqb p p refl)
 last_any (x ∷ xs) p = or_other (x == p) _ (last_any xs p)
 
+any_more : (xs : List ℕ) (p n : ℕ) → list_any (λ q. q == n) xs ≡ true → list_any (λ q. q == n) (xs ++ p ∷ []) ≡ true
+any_more [] p n h = absurd (no_false h)
+any_more (x ∷ xs) p n h = or_more (x == n) (list_any (λ q. q == n) xs) _ (any_more xs p n) h
+
+-- lists that grow by one number
+pushed_more : (a b : Bool) (xs ys : List ℕ) (n : ℕ) → (a ≡ true → b ≡ true) → length xs ≤ length ys → length (pushed a xs n) ≤ length (pushed b ys n)
+pushed_more true true xs ys n f h = let l = longer xs n in let k = longer ys n in omega arith
+pushed_more true false xs ys n f h = absurd (no_false (f refl))
+pushed_more false true xs ys n f h = let k = longer ys n in omega arith
+pushed_more false false xs ys n f h = h
+
+pushed_more_than : (a b : Bool) (xs ys : List ℕ) (n : ℕ) → (a ≡ true → b ≡ true) → length xs < length ys → length (pushed a xs n) < length (pushed b ys n)
+pushed_more_than true true xs ys n f h = let l = longer xs n in let k = longer ys n in omega arith
+pushed_more_than true false xs ys n f h = absurd (no_false (f refl))
+pushed_more_than false true xs ys n f h = let k = longer ys n in omega arith
+pushed_more_than false false xs ys n f h = h
+
+pushed_new : (a b : Bool) (xs ys : List ℕ) (n : ℕ) → (a ≡ true → ⊥) → b ≡ true → length xs ≤ length ys → length (pushed a xs n) < length (pushed b ys n)
+pushed_new true b xs ys n f is h = absurd (f refl)
+pushed_new false true xs ys n f is h = let k = longer ys n in omega arith
+pushed_new false false xs ys n f is h = absurd (no_false is)
+
+pub filter_short : (test : ℕ → Bool) (xs : List ℕ) → length (filter test xs) ≤ length xs
+filter_short test [] = omega arith
+filter_short test (x ∷ xs) = kept_short (test x) x (filter test xs) (length xs) (filter_short test xs)
+
+up_long : (k n : ℕ) → length (up_from k n) ≡ n
+up_long k zero = refl
+up_long k (suc n) = ap suc (up_long (suc k) n)
+
+next_of : (owns : ℕ → Bool) (more : List ℕ) (n : ℕ) → wanted_below owns more (n + 1) ≡ pushed (is_wanted owns more n) (wanted_below owns more n) n
+next_of owns more n =
+    ap (filter (is_wanted owns more)) (up_snoc n)
+    ∙ (filter-append (is_wanted owns more) (up_from 0 n) (n ∷ []) ∙ kept_last (is_wanted owns more n) (wanted_below owns more n) n)
+
 module _ (owns : ℕ → Bool) (more : List ℕ) where
   pub wanted_rises : (n : ℕ) → rises_from 0 (wanted_below owns more n) ≡ true
   wanted_rises n = rises_filter (is_wanted owns more) 0 (up_from 0 n) (up_rises 0 n)
@@ -65,10 +109,11 @@ module _ (owns : ℕ → Bool) (more : List ℕ) where
   pub wanted_there : (n : ℕ) → All (λ p. p < n) (wanted_below owns more n)
   wanted_there n = All-filter (is_wanted owns more) (λ p. p < n) (up_from 0 n) (up_below n n 0 (omega arith))
 
-  pub wanted_next : (n : ℕ) → wanted_below owns more (n + 1) ≡ pushed (is_wanted owns more n) (wanted_below owns more n) n
-  wanted_next n =
-      ap (filter (is_wanted owns more)) (up_snoc n)
-      ∙ (filter-append (is_wanted owns more) (up_from 0 n) (n ∷ []) ∙ kept_last (is_wanted owns more n) (wanted_below owns more n) n)
+  wanted_next : (n : ℕ) → wanted_below owns more (n + 1) ≡ pushed (is_wanted owns more n) (wanted_below owns more n) n
+  wanted_next n = next_of owns more n
+
+  pub wanted_short : (n : ℕ) → length (wanted_below owns more n) ≤ n
+  wanted_short n = let l = filter_short (is_wanted owns more) (up_from 0 n) in let k = up_long 0 n in omega arith
 
   wanted_has : (n p : ℕ) → p < n → is_wanted owns more p ≡ true → Contains (wanted_below owns more n) p
   wanted_has zero p below h = absurd (omega arith)
@@ -84,6 +129,39 @@ module _ (owns : ℕ → Bool) (more : List ℕ) where
   pub named : (n p : ℕ) → p < n → list_any (λ q. q == p) more ≡ true → Contains (wanted_below owns more n) p
   named n p below any = wanted_has n p below (or_other (owns p) _ any)
 
+  -- with one place more that wasn't there before
+  module _ (p : ℕ) where
+    more_wanted : (n : ℕ) → is_wanted owns more n ≡ true → is_wanted owns (more ++ p ∷ []) n ≡ true
+    more_wanted n h = or_more (owns n) (list_any (λ q. q == n) more) _ (any_more more p n) h
+
+    no_shorter : (n : ℕ) → length (wanted_below owns more n) ≤ length (wanted_below owns (more ++ p ∷ []) n)
+    no_shorter zero = omega arith
+    no_shorter (suc n) =
+        let e : suc n ≡ n + 1 = omega arith in
+        let step = pushed_more (is_wanted owns more n) (is_wanted owns (more ++ p ∷ []) n) (wanted_below owns more n) (wanted_below owns (more ++ p ∷ []) n) n (more_wanted n) (no_shorter n) in
+        subst (λ (k : ℕ). length (wanted_below owns more k) ≤ length (wanted_below owns (more ++ p ∷ []) k)) (sym e)
+        (subst (λ (l : List ℕ). length l ≤ length (wanted_below owns (more ++ p ∷ []) (n + 1))) (sym (wanted_next n))
+        (subst (λ (l : List ℕ). length (pushed (is_wanted owns more n) (wanted_below owns more n) n) ≤ length l) (sym (next_of owns (more ++ p ∷ []) n)) step))
+
+    pub longer_wanted : (n : ℕ) → p < n → (Contains (wanted_below owns more n) p → ⊥) → length (wanted_below owns more n) < length (wanted_below owns (more ++ p ∷ []) n)
+    longer_wanted zero below not = absurd (omega arith)
+    longer_wanted (suc n) below not =
+        let e : suc n ≡ n + 1 = omega arith in
+        let old = is_wanted owns more n in
+        let new = is_wanted owns (more ++ p ∷ []) n in
+        let xs = wanted_below owns more n in
+        let ys = wanted_below owns (more ++ p ∷ []) n in
+        let absent : Contains (pushed old xs n) p → ⊥ = λ has. not (subst (λ (l : List ℕ). Contains l p) (sym (ap (wanted_below owns more) e ∙ wanted_next n)) has) in
+        let step : length (pushed old xs n) < length (pushed new ys n) = dite (dec_le n p)
+        (λ last.
+        let same : n ≡ p = omega arith in
+        let is : new ≡ true = or_other (owns n) _ (subst (λ (q : ℕ). list_any (λ r. r == q) (more ++ p ∷ []) ≡ true) (sym same) (last_any more p)) in
+        pushed_new old new xs ys n (λ h. absent (pushed_here old xs n p same h)) is (no_shorter n))
+        (λ before. pushed_more_than old new xs ys n (more_wanted n) (longer_wanted n (omega arith) (λ has. absent (pushed_before old xs n p has)))) in
+        subst (λ (k : ℕ). length (wanted_below owns more k) < length (wanted_below owns (more ++ p ∷ []) k)) (sym e)
+        (subst (λ (l : List ℕ). length l < length (wanted_below owns (more ++ p ∷ []) (n + 1))) (sym (wanted_next n))
+        (subst (λ (l : List ℕ). length (pushed old xs n) < length l) (sym (next_of owns (more ++ p ∷ []) n)) step))
+
   -- one step of the choice
   pub chosen : (b : Bool) (n : ℕ) (xs ys : List ℕ) → ys ≡ pushed b xs n → b ≡ is_wanted owns more n → xs ≡ wanted_below owns more n → ys ≡ wanted_below owns more (n + 1)
   chosen b n xs ys is by so =
@@ -97,3 +175,9 @@ module _ {T M : Type 0} (f : T → M) where
   -- a place that was wanted is in hand
   pub is_held : (held : List (ℕ × T)) (ps : List ℕ) (p : ℕ) → places_of held ≡ ps → Contains ps p → IsHeld (meant f held) p
   is_held held ps p same has = All-contains (λ q. IsHeld (meant f held) q) (places_of held) p (all_held held) (subst (λ l. Contains l p) (sym same) has)
+
+  -- a place that isn't in hand, where all that were wanted are, makes what is wanted longer
+  pub grows : (owns : ℕ → Bool) (more : List ℕ) (held : List (ℕ × T)) (ps : List ℕ) (n p : ℕ) → places_of held ≡ ps → ps ≡ wanted_below owns more n → p < n → (IsHeld (meant f held) p → ⊥) → length ps < length (wanted_below owns (more ++ p ∷ []) n)
+  grows owns more held ps n p in_hand is below not =
+      subst (λ (l : List ℕ). length l < length (wanted_below owns (more ++ p ∷ []) n)) (sym is)
+      (longer_wanted owns more p n below (λ has. not (is_held held ps p in_hand (subst (λ (l : List ℕ). Contains l p) (sym is) has))))

@@ -1,5 +1,6 @@
 -- The places that a turn wants.
-use Rattle.std.specs.Prelude.{◌≡◌, ℕ, ◌≤◌, ◌==◌, ◌||◌, Bool, true, false, List, [], ◌∷◌, ◌++◌, filter, vec_capacity}
+use Rattle.std.specs.Prelude.{◌≡◌, ℕ, ◌≤◌, ◌==◌, ◌||◌, Bool, true, false, List, [], ◌∷◌, ◌++◌}
+use Rattle.std.specs.Prelude.{filter, vec_capacity}
 use Rattle.std.specs.List.{list_any}
 use Rattle.be_hall.specs.Hands.{up_from}
 use Rattle.be_hall.specs.Machine.{Machine}
@@ -26,8 +27,10 @@ abbrev pub wanted_below : (ℕ → Bool) → List ℕ → ℕ → List ℕ
 wanted_below owns more places = filter (is_wanted owns more) (up_from 0 places)
 
 -- these are all places that the activity owns and all that were added, as far as they exist
-abbrev pub IsChosen : {P M E : Type 0} → (P → Machine M E) → (P → ℕ → ℕ → Bool) → P → ℕ → Wants → Type 0
-IsChosen machine owns rules who wants = wanted wants ≡ wanted_below (owns rules who) (added wants) (machine rules).places
+abbrev pub IsChosen :
+    {P M E : Type 0} → (P → Machine M E) → (P → ℕ → ℕ → Bool) → P → ℕ → Wants → Type 0
+IsChosen machine owns rules who wants =
+    wanted wants ≡ wanted_below (owns rules who) (added wants) (machine rules).places
 
 -- the list, and behind it the place where it is wanted
 abbrev pub pushed : Bool → List ℕ → ℕ → List ℕ

@@ -15,25 +15,36 @@ use Rattle.be_workers.specs.Wanted.{HasRoom}
 module _ {P T E R M : Type 0} {g : _} where
   -- The worker is one of the hall: its pass is free, its activity is there, and its turns have room
   -- for all places.
-  abbrev pub IsWorker : (P → Machine M E) → (T → M) → (P → ℕ) → Hall P T E R M g → Worker P T E R M g → Type 0
+  abbrev pub IsWorker :
+      (P → Machine M E) → (T → M) → (P → ℕ) → Hall P T E R M g → Worker P T E R M g → Type 0
   IsWorker machine meaning activities hall w =
-      IsFree meaning hall w.pass × (w.who < activities (rules_of hall)) × HasRoom w.wants (machine (rules_of hall)).places
+      IsFree meaning hall w.pass × (w.who < activities (rules_of hall))
+      × HasRoom w.wants (machine (rules_of hall)).places
 
   -- each of them is
-  abbrev pub AreWorkers : (P → Machine M E) → (T → M) → (P → ℕ) → Hall P T E R M g → List (Worker P T E R M g) → Type 0
+  abbrev pub AreWorkers :
+      (P → Machine M E) → (T → M) → (P → ℕ) → Hall P T E R M g
+      → List (Worker P T E R M g) → Type 0
   AreWorkers machine meaning activities hall ws = All (IsWorker machine meaning activities hall) ws
 
   -- the worker stays one, of the same activity
-  abbrev pub StaysWorker : (P → Machine M E) → (T → M) → (P → ℕ) → Hall P T E R M g → Worker P T E R M g → Worker P T E R M g → Type 0
-  StaysWorker machine meaning activities hall v w = IsWorker machine meaning activities hall w × (w.who ≡ v.who)
+  abbrev pub StaysWorker :
+      (P → Machine M E) → (T → M) → (P → ℕ) → Hall P T E R M g
+      → Worker P T E R M g → Worker P T E R M g → Type 0
+  StaysWorker machine meaning activities hall v w =
+      IsWorker machine meaning activities hall w × (w.who ≡ v.who)
 
   -- what a turn of the activity leaves of its pass's commits
-  abbrev pub TurnOf : (P → Machine M E) → (P → List M → ℕ → Option E) → (E → Bool) → Hall P T E R M g → ℕ → Worker P T E R M g → Worker P T E R M g → Did → Type 0
+  abbrev pub TurnOf :
+      (P → Machine M E) → (P → List M → ℕ → Option E) → (E → Bool) → Hall P T E R M g → ℕ
+      → Worker P T E R M g → Worker P T E R M g → Did → Type 0
   TurnOf machine legal stops hall who v w d = Leaves machine legal stops hall who v.pass w.pass d
 
   -- its pass is free, and where it made the closing entry one of its commits stops
   abbrev pub IsDone : (T → M) → (E → Bool) → Hall P T E R M g → Worker P T E R M g → Type 0
-  IsDone meaning stops hall w = IsFree meaning hall w.pass × (w.end ≡ ends.Closed → HasStop stops (view_of w.pass).own)
+  IsDone meaning stops hall w =
+      IsFree meaning hall w.pass
+      × (w.end ≡ ends.Closed → HasStop stops (view_of w.pass).own)
 
   -- their activities, in order
   abbrev pub whose : List (Worker P T E R M g) → List ℕ
@@ -49,5 +60,8 @@ module _ {P T E R M : Type 0} {g : _} where
 
   -- What the closed hall gives is a finished history, from the parts with which the hall was opened
   -- to those that come back.
-  abbrev pub Finishes : (P → Machine M E) → (T → M) → (E → Bool) → Hall P T E R M g → Closed P T E R M → Type 0
-  Finishes machine meaning stops hall c = IsFinished (machine (rules_of hall)) stops (opened meaning hall).opening c.history.items (map meaning c.parts.items)
+  abbrev pub Finishes :
+      (P → Machine M E) → (T → M) → (E → Bool) → Hall P T E R M g → Closed P T E R M → Type 0
+  Finishes machine meaning stops hall c =
+      IsFinished (machine (rules_of hall)) stops (opened meaning hall).opening
+      c.history.items (map meaning c.parts.items)

@@ -2,7 +2,7 @@
 ghost use Rattle.std.specs.Prelude.{◌≡◌, All, IfOk};
 ghost use Rattle.be_hall.specs.Hands.{up_from};
 ghost use Rattle.be_hall.specs.Words.{IsPassOf, hands_of, rules_of};
-ghost use Rattle.be_workers.specs.Turned.{HasNone, KeepsCommits};
+ghost use Rattle.be_workers.specs.Turned.{IsFresh, KeepsCommits};
 ghost use Rattle.be_workers.specs.Workers.{AreWorkers, IsDone, IsWorker, whose};
 
 use crate::tools::Tools;
@@ -29,7 +29,7 @@ pub fn hire<W: Turns + Drop>(
     ensures held { hands_of pass.new ≡ hands_of pass.old }
     ensures all { IfOk result (λ v. whose v.items ≡ up_from 0 (W.activities (rules_of hall.now))) }
     ensures fit { IfOk result (λ v. AreWorkers W.machine W.meaning W.activities hall.now v.items) }
-    ensures new { IfOk result (λ v. All (λ w. HasNone w.pass) v.items) }
+    ensures new { IfOk result (λ v. All (λ w. IsFresh w.pass) v.items) }
 {
     let places = hall.rules().places();
     let many = hall.rules().activities();

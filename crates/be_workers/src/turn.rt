@@ -3,7 +3,7 @@ ghost use Rattle.std.specs.Prelude.{◌≡◌, ◌+◌, ◌<◌, ◌==◌, [], t
 ghost use Rattle.be_hall.specs.Hands.{places_of, rises_from};
 ghost use Rattle.be_hall.specs.Words.{IsPassOf, in_hand, rules_of};
 ghost use Rattle.be_workers.specs.Turned.{AskedOf, HoldsOwn, IsFree, KeepsCommits, Leaves, MayAsk};
-ghost use Rattle.be_workers.specs.Turned.{made_by};
+ghost use Rattle.be_workers.specs.Turned.{HasNone, OnNone, Told, made_by};
 ghost use Rattle.be_workers.specs.Wanted.{HasRoom};
 
 use crate::tools::Tools;
@@ -61,6 +61,7 @@ fn ask<G: Gate, W: Turns + Drop>(
     requires askable { MayAsk W.machine W.meaning hall.now pass.old }
     ensures hall { IsPassOf W.meaning hall.now pass.new }
     ensures ok { IfOk result (AskedOf W.machine W.legal W.stops hall.now who pass.old pass.new) }
+    ensures told { IfOk result (Told W.machine W.meaning W.legal hall.now who pass.old) }
     ensures err { OnErr result (KeepsCommits pass.old pass.new) }
 {
     let rules = hall.rules();
@@ -75,7 +76,7 @@ fn ask<G: Gate, W: Turns + Drop>(
                 Ok(Asked::Came(made(rules, who)))
             }
             Verdict::Needs(place) => Ok(Asked::Needs(place)),
-            Verdict::NotLegal => Ok(Asked::Came(Did::Nothing)),
+            Verdict::NotLegal => unreachable!(),
         },
     }
 }
@@ -111,6 +112,7 @@ fn grab<R: Wait, W: Turns + Drop>(
     requires below { All (λ p. p < (W.machine (rules_of hall.now)).places) places.now }
     ensures hall { IsPassOf W.meaning hall.now pass.new }
     ensures kept { KeepsCommits pass.old pass.new }
+    ensures waits { result ≡ false → who + 1 ≡ W.activities (rules_of hall.now) }
     ensures held { result ≡ true → places_of (in_hand pass.new) ≡ places.now }
     ensures none { result ≡ false → in_hand pass.new ≡ [] }
     ensures askable { result ≡ true → MayAsk W.machine W.meaning hall.now pass.new }
@@ -123,9 +125,10 @@ fn grab<R: Wait, W: Turns + Drop>(
     true
 }
 
-/// Asks, and takes what it needs beside, until the activity did something or could not. It waits
-/// for the parts, but for those of the closing activity. Where there is nothing to do, the watcher
-/// is rung once one of the parts is changed: it is the activity whose worker this is.
+/// Asks, and takes what it needs beside, until the activity did something or could not. Each time
+/// it takes one place more. It waits for the parts, but for those of the closing activity. Where
+/// there is nothing to do, the watcher is rung once one of the parts is changed: it is the activity
+/// whose worker this is.
 pub(crate) fn take_turn<R: Wait, G: Gate, W: Turns + Drop>(
     tools: &Tools<'_, R, G>,
     hall: &Hall<W>,
@@ -140,11 +143,12 @@ pub(crate) fn take_turn<R: Wait, G: Gate, W: Turns + Drop>(
     ensures pass { IsFree W.meaning hall.now pass.new }
     ensures room { HasRoom wants.new (W.machine (rules_of hall.now)).places }
     ensures ok { IfOk result (Leaves W.machine W.legal W.stops hall.now who pass.old pass.new) }
+    ensures none { IfOk result (OnNone (HasNone W.machine W.legal W.activities hall.now who)) }
     ensures err { OnErr result (KeepsCommits pass.old pass.new) }
 {
     let rules = hall.rules();
     wants.own(rules, who);
-    for _round in 0..rules.places() {
+    loop {
         if !grab(tools.rt, hall, who, pass, wants.places()) {
             return Ok(Did::Nothing);
         }
@@ -156,5 +160,4 @@ pub(crate) fn take_turn<R: Wait, G: Gate, W: Turns + Drop>(
             Asked::Needs(place) => wants.add(rules, who, place),
         }
     }
-    Ok(Did::Nothing)
 }

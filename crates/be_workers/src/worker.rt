@@ -1,7 +1,7 @@
 //! A worker: what one thread does.
 ghost use Rattle.std.specs.Prelude.{◌≡◌, ◌<◌, IfOk, OnErr};
 ghost use Rattle.be_hall.specs.Words.{rules_of, view_of};
-ghost use Rattle.be_workers.specs.Turned.{IsFree, HasStop, KeepsCommits, OnClosed};
+ghost use Rattle.be_workers.specs.Turned.{HasNone, HasStop, IsFree, KeepsCommits, OnClosed, OnNone};
 ghost use Rattle.be_workers.specs.Workers.{IsWorker, StaysWorker, TurnOf};
 
 use crate::tools::Tools;
@@ -131,6 +131,7 @@ impl<W: Turns + Drop> Worker<W> {
         requires there { who < W.activities (rules_of hall.now) }
         ensures worker { StaysWorker W.machine W.meaning W.activities hall.now self.old self.new }
         ensures ok { IfOk result (TurnOf W.machine W.legal W.stops hall.now who self.old self.new) }
+        ensures none { IfOk result (OnNone (HasNone W.machine W.legal W.activities hall.now who)) }
         ensures err { OnErr result (KeepsCommits self.old.pass self.new.pass) }
     {
         tools.gate.at(Spot::Before, who);

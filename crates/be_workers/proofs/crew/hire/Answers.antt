@@ -4,7 +4,7 @@ use Rattle.std.proofs.lemmas.List.Elements.{All-push}
 use Rattle.be_hall.proofs.UpFrom.{up_snoc}
 use Rattle.be_hall.specs.Words.{rules_of}
 use Rattle.be_workers.specs.declared.worker.Worker.{Worker}
-use Rattle.be_workers.specs.Turned.{HasNone}
+use Rattle.be_workers.specs.Turned.{IsFresh}
 use Rattle.be_workers.specs.Wanted.{HasRoom}
 use Rattle.be_workers.specs.Workers.{IsWorker, whose}
 use Rattle.be_workers.proofs.Wanted.{longer}
@@ -18,7 +18,7 @@ loop-who-preserved g c =
     let old = c.in_ok-part.ensures.old in
     let part = c.in_ok-part.ensures.new.0 in
     let good = IsWorker g.W.Parts.machine g.W.Parts.meaning g.W.Turns.activities hall in
-    let new = λ (w : Worker g.row.W.Denot g.row.W-Part.Denot g.row.W-Entry.Denot g.row.W-Ready.Denot g.row.W-Meaning.Denot g.W.Parts). HasNone w.pass in
+    let new = λ (w : Worker g.row.W.Denot g.row.W-Part.Denot g.row.W-Entry.Denot g.row.W-Ready.Denot g.row.W-Meaning.Denot g.W.Parts). IsFresh w.pass in
     let below : c.loop-who.who < g.W.Turns.activities (rules_of hall) = search rules in
     let room : HasRoom c.in_ok-wants.wants (g.W.Parts.machine (rules_of hall)).places = search rules in
     let more = c.push_reserved.ensures.items in (
