@@ -1,5 +1,7 @@
 -- What holds of some element of a list.
-use Rattle.std.proofs.Common.{◌≡◌, ℕ, zero, suc, ◌<◌, ◌⊎◌, inl, inr, ⊎_elim, Bool, true, false, MatchBool, List, [], ◌∷◌, ◌++◌, Any, HoldsAt, length, get_or, refl, sym, subst, arith}
+use Rattle.std.proofs.Common.{◌≡◌, ℕ, zero, suc, ◌<◌, ◌⊎◌, inl, inr, ⊎_elim, Bool, true, false}
+use Rattle.std.proofs.Common.{MatchBool, List, [], ◌∷◌, ◌++◌, Any, HoldsAt, length, get_or, refl}
+use Rattle.std.proofs.Common.{sym, subst, arith}
 use Rattle.std.specs.List.{AllWithin}
 use Rattle.std.proofs.lemmas.Bool.{false≢true}
 
@@ -7,9 +9,11 @@ module _ {X : Type 0} (P : X → Type 0) where
   pub any_none : Any P [] → ⊥
   any_none h = let k : h.0 < 0 = h.2 in omega arith
 
-  at : (x : X) (xs : List X) (k : ℕ) (y : X) → k < length (x ∷ xs) → get_or (x ∷ xs) k y ≡ y → P y → P x ⊎ Any P xs
+  at : (x : X) (xs : List X) (k : ℕ) (y : X) → k < length (x ∷ xs) → get_or (x ∷ xs) k y ≡ y → P y
+      → P x ⊎ Any P xs
   at x xs zero y long is p = inl (subst P (sym is) p)
-  at x xs (suc k) y long is p = inr (k, y, (let l : suc k < suc (length xs) = long in omega arith), is, p)
+  at x xs (suc k) y long is p =
+      inr (k, y, (let l : suc k < suc (length xs) = long in omega arith), is, p)
 
   pub any_split : (x : X) (xs : List X) → Any P (x ∷ xs) → P x ⊎ Any P xs
   any_split x xs h = at x xs h.0 h.1 h.2 h.3 h.4
@@ -29,14 +33,17 @@ module _ {X : Type 0} (P : X → Type 0) where
       let l : suc k < suc (length xs) = long in any_there x xs (any_at xs k (omega arith) h)
 
   -- where a chain's `any` answered true
-  pub any_from : (Q : X → Type 0) (r : Bool) (xs : List X) → MatchBool r ((k : ℕ) × (k < length xs) × HoldsAt P xs k) (AllWithin Q xs 0 (length xs)) → r ≡ true → Any P xs
+  pub any_from : (Q : X → Type 0) (r : Bool) (xs : List X)
+      → MatchBool r ((k : ℕ) × (k < length xs) × HoldsAt P xs k) (AllWithin Q xs 0 (length xs))
+      → r ≡ true → Any P xs
   any_from Q true xs h is = any_at xs h.0 h.1 h.2
   any_from Q false xs h is = absurd (false≢true is)
 
   pub any_front : (xs ys : List X) → Any P xs → Any P (xs ++ ys)
   any_front [] ys h = absurd (any_none h)
   any_front (x ∷ xs) ys h =
-      ⊎_elim (λ here. any_here x (xs ++ ys) here) (λ there. any_there x (xs ++ ys) (any_front xs ys there)) (any_split x xs h)
+      ⊎_elim (λ here. any_here x (xs ++ ys) here)
+      (λ there. any_there x (xs ++ ys) (any_front xs ys there)) (any_split x xs h)
 
   pub any_back : (xs ys : List X) → Any P ys → Any P (xs ++ ys)
   any_back [] ys h = h

@@ -1,7 +1,10 @@
 -- The places that a turn wants.
-use Rattle.std.proofs.Common.{◌≡◌, ℕ, zero, suc, ◌+◌, ◌<◌, ◌≤◌, inl, inr, Bool, true, false, ◌||◌, ◌==◌, nat_lt, cond, List, [], ◌∷◌, ◌++◌, length, filter, All, Contains, refl, sym, ap, ◌∙◌, subst, append-nil, eq-eqb, arith}
+use Rattle.std.proofs.Common.{◌≡◌, ℕ, zero, suc, ◌+◌, ◌<◌, ◌≤◌, ◌-◌, inl, inr, Bool, true, false, ◌||◌}
+use Rattle.std.proofs.Common.{◌==◌, nat_lt, cond, List, [], ◌∷◌, ◌++◌, length, filter, All}
+use Rattle.std.proofs.Common.{Contains, refl, sym, ap, ◌∙◌, subst, append-nil, eq-eqb, arith}
 use Rattle.std.specs.List.{list_any}
-use Rattle.std.proofs.lemmas.List.Elements.{All-nil, All-cons, All-weaker, All-contains, All-filter, Contains-push, Contains-append_left, filter-append}
+use Rattle.std.proofs.lemmas.List.Elements.{All-nil, All-cons, All-weaker, All-contains, All-filter}
+use Rattle.std.proofs.lemmas.List.Elements.{Contains-push, Contains-append_left, filter-append}
 use mathlib.Core.Logic.{dite}
 use native.Mathlib.Decide.{dec_le}
 use Rattle.be_hall.proofs.Rising.{both_true, other_true, both_hold, less_than, is_less}
@@ -26,23 +29,29 @@ no_false : false ≡ true → ⊥
 no_false h = cc
 
 -- a rising list without some of its numbers
-rises_lower : (low high : ℕ) (ps : List ℕ) → low ≤ high → rises_from high ps ≡ true → rises_from low ps ≡ true
+rises_lower : (low high : ℕ) (ps : List ℕ) → low ≤ high → rises_from high ps ≡ true
+    → rises_from low ps ≡ true
 rises_lower low high [] h r = refl
 rises_lower low high (p ∷ ps) h r =
     let above : high < p + 1 = is_less high (p + 1) (both_true (nat_lt high (p + 1)) _ r) in
-    both_hold (nat_lt low (p + 1)) _ (less_than low (p + 1) (omega arith)) (other_true (nat_lt high (p + 1)) _ r)
+    both_hold (nat_lt low (p + 1)) _ (less_than low (p + 1) (omega arith))
+    (other_true (nat_lt high (p + 1)) _ r)
 
-rises_kept : (low p : ℕ) (b : Bool) (ps : List ℕ) → nat_lt low (p + 1) ≡ true → rises_from (p + 1) ps ≡ true → rises_from low (cond b (p ∷ ps) ps) ≡ true
+rises_kept : (low p : ℕ) (b : Bool) (ps : List ℕ) → nat_lt low (p + 1) ≡ true
+    → rises_from (p + 1) ps ≡ true → rises_from low (cond b (p ∷ ps) ps) ≡ true
 rises_kept low p true ps l r = both_hold (nat_lt low (p + 1)) _ l r
 rises_kept low p false ps l r =
     let above : low < p + 1 = is_less low (p + 1) l in rises_lower low (p + 1) ps (omega arith) r
 
-rises_filter : (test : ℕ → Bool) (low : ℕ) (ps : List ℕ) → rises_from low ps ≡ true → rises_from low (filter test ps) ≡ true
+rises_filter : (test : ℕ → Bool) (low : ℕ) (ps : List ℕ) → rises_from low ps ≡ true
+    → rises_from low (filter test ps) ≡ true
 rises_filter test low [] r = refl
 rises_filter test low (p ∷ ps) r =
-    rises_kept low p (test p) (filter test ps) (both_true (nat_lt low (p + 1)) _ r) (rises_filter test (p + 1) ps (other_true (nat_lt low (p + 1)) _ r))
+    rises_kept low p (test p) (filter test ps) (both_true (nat_lt low (p + 1)) _ r)
+    (rises_filter test (p + 1) ps (other_true (nat_lt low (p + 1)) _ r))
 
-kept_short : (b : Bool) (x : ℕ) (xs : List ℕ) (n : ℕ) → length xs ≤ n → length (cond b (x ∷ xs) xs) ≤ suc n
+kept_short : (b : Bool) (x : ℕ) (xs : List ℕ) (n : ℕ) → length xs ≤ n
+    → length (cond b (x ∷ xs) xs) ≤ suc n
 kept_short true x xs n h = let l : length (x ∷ xs) ≡ suc (length xs) = refl in omega arith
 kept_short false x xs n h = omega arith
 
@@ -59,74 +68,99 @@ pushed_before : (b : Bool) (xs : List ℕ) (n p : ℕ) → Contains xs p → Con
 pushed_before true xs n p h = Contains-append_left xs (n ∷ []) p h
 pushed_before false xs n p h = h
 
-pub pushed_long : (b : Bool) (n : ℕ) (xs ys : List ℕ) → ys ≡ pushed b xs n → length xs ≤ n → length ys ≤ n + 1
-pushed_long true n xs ys is h = let l : length ys ≡ length xs + 1 = ap length is ∙ longer xs n in omega arith
+pub pushed_long : (b : Bool) (n : ℕ) (xs ys : List ℕ) → ys ≡ pushed b xs n → length xs ≤ n
+    → length ys ≤ n + 1
+pushed_long true n xs ys is h =
+    let l : length ys ≡ length xs + 1 = ap length is ∙ longer xs n in omega arith
 pushed_long false n xs ys is h = let l : length ys ≡ length xs = ap length is in omega arith
 
 pub last_any : (xs : List ℕ) (p : ℕ) → list_any (λ q. q == p) (xs ++ p ∷ []) ≡ true
 last_any [] p = ap (λ (b : Bool). b || false) (eq-eqb p p refl)
 last_any (x ∷ xs) p = or_other (x == p) _ (last_any xs p)
 
-any_more : (xs : List ℕ) (p n : ℕ) → list_any (λ q. q == n) xs ≡ true → list_any (λ q. q == n) (xs ++ p ∷ []) ≡ true
+any_more : (xs : List ℕ) (p n : ℕ) → list_any (λ q. q == n) xs ≡ true
+    → list_any (λ q. q == n) (xs ++ p ∷ []) ≡ true
 any_more [] p n h = absurd (no_false h)
 any_more (x ∷ xs) p n h = or_more (x == n) (list_any (λ q. q == n) xs) _ (any_more xs p n) h
 
 -- lists that grow by one number
-pushed_more : (a b : Bool) (xs ys : List ℕ) (n : ℕ) → (a ≡ true → b ≡ true) → length xs ≤ length ys → length (pushed a xs n) ≤ length (pushed b ys n)
+pushed_more : (a b : Bool) (xs ys : List ℕ) (n : ℕ) → (a ≡ true → b ≡ true) → length xs ≤ length ys
+    → length (pushed a xs n) ≤ length (pushed b ys n)
 pushed_more true true xs ys n f h = let l = longer xs n in let k = longer ys n in omega arith
 pushed_more true false xs ys n f h = absurd (no_false (f refl))
 pushed_more false true xs ys n f h = let k = longer ys n in omega arith
 pushed_more false false xs ys n f h = h
 
-pushed_more_than : (a b : Bool) (xs ys : List ℕ) (n : ℕ) → (a ≡ true → b ≡ true) → length xs < length ys → length (pushed a xs n) < length (pushed b ys n)
+pushed_more_than : (a b : Bool) (xs ys : List ℕ) (n : ℕ) → (a ≡ true → b ≡ true)
+    → length xs < length ys → length (pushed a xs n) < length (pushed b ys n)
 pushed_more_than true true xs ys n f h = let l = longer xs n in let k = longer ys n in omega arith
 pushed_more_than true false xs ys n f h = absurd (no_false (f refl))
 pushed_more_than false true xs ys n f h = let k = longer ys n in omega arith
 pushed_more_than false false xs ys n f h = h
 
-pushed_new : (a b : Bool) (xs ys : List ℕ) (n : ℕ) → (a ≡ true → ⊥) → b ≡ true → length xs ≤ length ys → length (pushed a xs n) < length (pushed b ys n)
+pushed_new : (a b : Bool) (xs ys : List ℕ) (n : ℕ) → (a ≡ true → ⊥) → b ≡ true
+    → length xs ≤ length ys → length (pushed a xs n) < length (pushed b ys n)
 pushed_new true b xs ys n f is h = absurd (f refl)
 pushed_new false true xs ys n f is h = let k = longer ys n in omega arith
 pushed_new false false xs ys n f is h = absurd (no_false is)
 
 pub filter_short : (test : ℕ → Bool) (xs : List ℕ) → length (filter test xs) ≤ length xs
 filter_short test [] = omega arith
-filter_short test (x ∷ xs) = kept_short (test x) x (filter test xs) (length xs) (filter_short test xs)
+filter_short test (x ∷ xs) = kept_short (test x) x (filter test xs) (length xs)
+    (filter_short test xs)
 
 up_long : (k n : ℕ) → length (up_from k n) ≡ n
 up_long k zero = refl
 up_long k (suc n) = ap suc (up_long (suc k) n)
 
-next_of : (owns : ℕ → Bool) (more : List ℕ) (n : ℕ) → wanted_below owns more (n + 1) ≡ pushed (is_wanted owns more n) (wanted_below owns more n) n
-next_of owns more n =
+wanted_next : (owns : ℕ → Bool) (more : List ℕ) (n : ℕ)
+    → wanted_below owns more (n + 1) ≡ pushed (is_wanted owns more n) (wanted_below owns more n) n
+wanted_next owns more n =
     ap (filter (is_wanted owns more)) (up_snoc n)
-    ∙ (filter-append (is_wanted owns more) (up_from 0 n) (n ∷ []) ∙ kept_last (is_wanted owns more n) (wanted_below owns more n) n)
+    ∙ (filter-append (is_wanted owns more) (up_from 0 n) (n ∷ [])
+    ∙ kept_last (is_wanted owns more n) (wanted_below owns more n) n)
+
+long_next : (owns : ℕ → Bool) (more : List ℕ) (n : ℕ)
+    → length (wanted_below owns more (suc n))
+    ≡ length (pushed (is_wanted owns more n) (wanted_below owns more n) n)
+long_next owns more n =
+    let e : suc n ≡ n + 1 = omega arith in
+    ap length (ap (wanted_below owns more) e ∙ wanted_next owns more n)
 
 module _ (owns : ℕ → Bool) (more : List ℕ) where
   pub wanted_rises : (n : ℕ) → rises_from 0 (wanted_below owns more n) ≡ true
   wanted_rises n = rises_filter (is_wanted owns more) 0 (up_from 0 n) (up_rises 0 n)
 
   pub wanted_there : (n : ℕ) → All (λ p. p < n) (wanted_below owns more n)
-  wanted_there n = All-filter (is_wanted owns more) (λ p. p < n) (up_from 0 n) (up_below n n 0 (omega arith))
-
-  wanted_next : (n : ℕ) → wanted_below owns more (n + 1) ≡ pushed (is_wanted owns more n) (wanted_below owns more n) n
-  wanted_next n = next_of owns more n
+  wanted_there n = All-filter (is_wanted owns more) (λ p. p < n) (up_from 0 n)
+      (up_below n n 0 (omega arith))
 
   pub wanted_short : (n : ℕ) → length (wanted_below owns more n) ≤ n
-  wanted_short n = let l = filter_short (is_wanted owns more) (up_from 0 n) in let k = up_long 0 n in omega arith
+  wanted_short n =
+      let l = filter_short (is_wanted owns more) (up_from 0 n) in
+      let k = up_long 0 n in omega arith
 
-  wanted_has : (n p : ℕ) → p < n → is_wanted owns more p ≡ true → Contains (wanted_below owns more n) p
+  wanted_has : (n p : ℕ) → p < n → is_wanted owns more p ≡ true
+      → Contains (wanted_below owns more n) p
   wanted_has zero p below h = absurd (omega arith)
   wanted_has (suc n) p below h =
       let e : suc n ≡ n + 1 = omega arith in
-      subst (λ (l : List ℕ). Contains l p) (sym (ap (wanted_below owns more) e ∙ wanted_next n)) (dite (dec_le n p)
-      (λ last. let same : n ≡ p = omega arith in pushed_here (is_wanted owns more n) (wanted_below owns more n) n p same (subst (λ (q : ℕ). is_wanted owns more q ≡ true) (sym same) h))
-      (λ before. pushed_before (is_wanted owns more n) (wanted_below owns more n) n p (wanted_has n p (omega arith) h)))
+      let b = is_wanted owns more n in
+      let xs = wanted_below owns more n in
+      let has : Contains (pushed b xs n) p = dite (dec_le n p)
+      (λ last.
+      let same : n ≡ p = omega arith in
+      pushed_here b xs n p same (subst (λ (q : ℕ). is_wanted owns more q ≡ true) (sym same) h))
+      (λ before. pushed_before b xs n p (wanted_has n p (omega arith) h)) in
+      subst (λ (l : List ℕ). Contains l p)
+      (sym (ap (wanted_below owns more) e ∙ wanted_next owns more n)) has
 
   pub owned : (n p : ℕ) → p < n → owns p ≡ true → Contains (wanted_below owns more n) p
-  owned n p below own = wanted_has n p below (ap (λ (b : Bool). b || list_any (λ q. q == p) more) own)
+  owned n p below own =
+      wanted_has n p below (ap (λ (b : Bool). b || list_any (λ q. q == p) more) own)
 
-  pub named : (n p : ℕ) → p < n → list_any (λ q. q == p) more ≡ true → Contains (wanted_below owns more n) p
+  pub named : (n p : ℕ) → p < n → list_any (λ q. q == p) more ≡ true
+      → Contains (wanted_below owns more n) p
   named n p below any = wanted_has n p below (or_other (owns p) _ any)
 
   -- with one place more that wasn't there before
@@ -134,50 +168,83 @@ module _ (owns : ℕ → Bool) (more : List ℕ) where
     more_wanted : (n : ℕ) → is_wanted owns more n ≡ true → is_wanted owns (more ++ p ∷ []) n ≡ true
     more_wanted n h = or_more (owns n) (list_any (λ q. q == n) more) _ (any_more more p n) h
 
-    no_shorter : (n : ℕ) → length (wanted_below owns more n) ≤ length (wanted_below owns (more ++ p ∷ []) n)
+    no_shorter : (n : ℕ)
+        → length (wanted_below owns more n) ≤ length (wanted_below owns (more ++ p ∷ []) n)
     no_shorter zero = omega arith
     no_shorter (suc n) =
-        let e : suc n ≡ n + 1 = omega arith in
-        let step = pushed_more (is_wanted owns more n) (is_wanted owns (more ++ p ∷ []) n) (wanted_below owns more n) (wanted_below owns (more ++ p ∷ []) n) n (more_wanted n) (no_shorter n) in
-        subst (λ (k : ℕ). length (wanted_below owns more k) ≤ length (wanted_below owns (more ++ p ∷ []) k)) (sym e)
-        (subst (λ (l : List ℕ). length l ≤ length (wanted_below owns (more ++ p ∷ []) (n + 1))) (sym (wanted_next n))
-        (subst (λ (l : List ℕ). length (pushed (is_wanted owns more n) (wanted_below owns more n) n) ≤ length l) (sym (next_of owns (more ++ p ∷ []) n)) step))
+        let old = long_next owns more n in
+        let new = long_next owns (more ++ p ∷ []) n in
+        let xs = wanted_below owns more n in
+        let ys = wanted_below owns (more ++ p ∷ []) n in
+        let step = pushed_more (is_wanted owns more n) (is_wanted owns (more ++ p ∷ []) n)
+        xs ys n (more_wanted n) (no_shorter n) in omega arith
 
-    pub longer_wanted : (n : ℕ) → p < n → (Contains (wanted_below owns more n) p → ⊥) → length (wanted_below owns more n) < length (wanted_below owns (more ++ p ∷ []) n)
+    pub longer_wanted : (n : ℕ) → p < n → (Contains (wanted_below owns more n) p → ⊥)
+        → length (wanted_below owns more n) < length (wanted_below owns (more ++ p ∷ []) n)
     longer_wanted zero below not = absurd (omega arith)
     longer_wanted (suc n) below not =
         let e : suc n ≡ n + 1 = omega arith in
-        let old = is_wanted owns more n in
-        let new = is_wanted owns (more ++ p ∷ []) n in
+        let a = is_wanted owns more n in
+        let b = is_wanted owns (more ++ p ∷ []) n in
         let xs = wanted_below owns more n in
         let ys = wanted_below owns (more ++ p ∷ []) n in
-        let absent : Contains (pushed old xs n) p → ⊥ = λ has. not (subst (λ (l : List ℕ). Contains l p) (sym (ap (wanted_below owns more) e ∙ wanted_next n)) has) in
-        let step : length (pushed old xs n) < length (pushed new ys n) = dite (dec_le n p)
+        let old = long_next owns more n in
+        let new = long_next owns (more ++ p ∷ []) n in
+        let next = ap (wanted_below owns more) e ∙ wanted_next owns more n in
+        let absent : Contains (pushed a xs n) p → ⊥ =
+        λ has. not (subst (λ (l : List ℕ). Contains l p) (sym next) has) in
+        let any = λ (q : ℕ). list_any (λ r. r == q) (more ++ p ∷ []) ≡ true in
+        let step : length (pushed a xs n) < length (pushed b ys n) = dite (dec_le n p)
         (λ last.
         let same : n ≡ p = omega arith in
-        let is : new ≡ true = or_other (owns n) _ (subst (λ (q : ℕ). list_any (λ r. r == q) (more ++ p ∷ []) ≡ true) (sym same) (last_any more p)) in
-        pushed_new old new xs ys n (λ h. absent (pushed_here old xs n p same h)) is (no_shorter n))
-        (λ before. pushed_more_than old new xs ys n (more_wanted n) (longer_wanted n (omega arith) (λ has. absent (pushed_before old xs n p has)))) in
-        subst (λ (k : ℕ). length (wanted_below owns more k) < length (wanted_below owns (more ++ p ∷ []) k)) (sym e)
-        (subst (λ (l : List ℕ). length l < length (wanted_below owns (more ++ p ∷ []) (n + 1))) (sym (wanted_next n))
-        (subst (λ (l : List ℕ). length (pushed old xs n) < length l) (sym (next_of owns (more ++ p ∷ []) n)) step))
+        pushed_new a b xs ys n (λ h. absent (pushed_here a xs n p same h))
+        (or_other (owns n) _ (subst any (sym same) (last_any more p))) (no_shorter n))
+        (λ before. pushed_more_than a b xs ys n (more_wanted n)
+        (longer_wanted n (omega arith) (λ has. absent (pushed_before a xs n p has)))) in
+        omega arith
 
   -- one step of the choice
-  pub chosen : (b : Bool) (n : ℕ) (xs ys : List ℕ) → ys ≡ pushed b xs n → b ≡ is_wanted owns more n → xs ≡ wanted_below owns more n → ys ≡ wanted_below owns more (n + 1)
+  pub chosen : (b : Bool) (n : ℕ) (xs ys : List ℕ) → ys ≡ pushed b xs n → b ≡ is_wanted owns more n
+      → xs ≡ wanted_below owns more n → ys ≡ wanted_below owns more (n + 1)
   chosen b n xs ys is by so =
-      is ∙ (ap (λ (t : Bool). pushed t xs n) by ∙ (ap (λ (l : List ℕ). pushed (is_wanted owns more n) l n) so ∙ sym (wanted_next n)))
+      is ∙ (ap (λ (t : Bool). pushed t xs n) by
+      ∙ (ap (λ (l : List ℕ). pushed (is_wanted owns more n) l n) so
+      ∙ sym (wanted_next owns more n)))
+
+-- Where one place more was named, what is wanted grew. So the places that were named are fewer than
+-- there are, those that aren't wanted grow fewer, and those that are wanted stay at least as many as
+-- those that were named.
+pub record Grown (n : ℕ) (more ps : List ℕ) (p : ℕ) (ws : List ℕ) : Type 0 where
+  pub few : length more < n
+  pub less : n - length ws < n - length ps
+  pub kept : length (more ++ p ∷ []) ≤ length ws
 
 module _ {T M : Type 0} (f : T → M) where
   all_held : (held : List (ℕ × T)) → All (λ q. IsHeld (meant f held) q) (places_of held)
   all_held [] = All-nil _
-  all_held (x ∷ xs) = All-cons (λ q. IsHeld (meant f (x ∷ xs)) q) x.0 (places_of xs) (inl refl) (All-weaker (λ q. IsHeld (meant f xs) q) (λ q. IsHeld (meant f (x ∷ xs)) q) (λ q h. inr h) (places_of xs) (all_held xs))
+  all_held (x ∷ xs) = All-cons (λ q. IsHeld (meant f (x ∷ xs)) q) x.0 (places_of xs) (inl refl)
+      (All-weaker (λ q. IsHeld (meant f xs) q) (λ q. IsHeld (meant f (x ∷ xs)) q) (λ q h. inr h)
+      (places_of xs) (all_held xs))
 
   -- a place that was wanted is in hand
-  pub is_held : (held : List (ℕ × T)) (ps : List ℕ) (p : ℕ) → places_of held ≡ ps → Contains ps p → IsHeld (meant f held) p
-  is_held held ps p same has = All-contains (λ q. IsHeld (meant f held) q) (places_of held) p (all_held held) (subst (λ l. Contains l p) (sym same) has)
+  pub is_held : (held : List (ℕ × T)) (ps : List ℕ) (p : ℕ) → places_of held ≡ ps → Contains ps p
+      → IsHeld (meant f held) p
+  is_held held ps p same has = All-contains (λ q. IsHeld (meant f held) q) (places_of held) p
+      (all_held held) (subst (λ l. Contains l p) (sym same) has)
 
   -- a place that isn't in hand, where all that were wanted are, makes what is wanted longer
-  pub grows : (owns : ℕ → Bool) (more : List ℕ) (held : List (ℕ × T)) (ps : List ℕ) (n p : ℕ) → places_of held ≡ ps → ps ≡ wanted_below owns more n → p < n → (IsHeld (meant f held) p → ⊥) → length ps < length (wanted_below owns (more ++ p ∷ []) n)
-  grows owns more held ps n p in_hand is below not =
-      subst (λ (l : List ℕ). length l < length (wanted_below owns (more ++ p ∷ []) n)) (sym is)
-      (longer_wanted owns more p n below (λ has. not (is_held held ps p in_hand (subst (λ (l : List ℕ). Contains l p) (sym is) has))))
+  pub grown : (owns : ℕ → Bool) (more : List ℕ) (held : List (ℕ × T)) (ps : List ℕ) (n p : ℕ)
+      → places_of held ≡ ps → ps ≡ wanted_below owns more n
+      → (p < n) × (IsHeld (meant f held) p → ⊥) → length more ≤ length ps
+      → Grown n more ps p (wanted_below owns (more ++ p ∷ []) n)
+  grown owns more held ps n p in_hand is told few =
+      let ws = wanted_below owns (more ++ p ∷ []) n in
+      let absent : Contains (wanted_below owns more n) p → ⊥ =
+      λ has. told.1 (is_held held ps p in_hand (subst (λ (l : List ℕ). Contains l p) (sym is) has))
+      in
+      let longer_by : length ps < length ws =
+      subst (λ (l : List ℕ). length l < length ws) (sym is)
+      (longer_wanted owns more p n told.0 absent) in
+      let short : length ws ≤ n = wanted_short owns (more ++ p ∷ []) n in
+      let one : length (more ++ p ∷ []) ≡ length more + 1 = longer more p in
+      record { few = omega arith; less = omega arith; kept = omega arith }

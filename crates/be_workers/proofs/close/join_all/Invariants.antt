@@ -9,4 +9,5 @@ abbrev pub invariant-loop-worker : goal.invariant-loop-worker
 invariant-loop-worker g l =
     IsFree g.W.Parts.meaning l.fn.hall l.pass
     × All (IsDone g.W.Parts.meaning g.W.Turns.stops l.fn.hall) l.worker-iterator.rest.items
-    × (SomeEnds ends.Closed l.fn.workers.items → Any (HasStop g.W.Turns.stops) (view_of l.pass).ended ⊎ SomeEnds ends.Closed l.worker-iterator.rest.items)
+    × (SomeEnds ends.Closed l.fn.workers.items → Any (HasStop g.W.Turns.stops)
+    (view_of l.pass).ended ⊎ SomeEnds ends.Closed l.worker-iterator.rest.items)

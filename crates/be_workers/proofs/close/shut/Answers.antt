@@ -16,8 +16,14 @@ returns-in-Ok-clause-finished g c =
     let rules = (opened meaning hall).rules in
     let pass = c.loop.open.1 in
     let closed = c.in-Ok.closed in
-    let closes = subst (λ h. Closes machine meaning g.W.Parts.log (opened meaning h) (view_of pass) (in_hand pass) closed.parts.items closed.history.items) i.2 c.in-Ok.ensures.closed in
-    let sound = subst (λ r. (machine r).sound (opened meaning hall).opening) (sym hall.same_rules) c.requires.sound in
+    let closes =
+    subst (λ h. Closes machine meaning g.W.Parts.log (opened meaning h) (view_of pass)
+    (in_hand pass) closed.parts.items closed.history.items) i.2 c.in-Ok.ensures.closed in
+    let sound = subst (λ r. (machine r).sound (opened meaning hall).opening)
+    (sym hall.same_rules) c.requires.sound in
     let stop = subst (λ v. Any (HasStop stops) v.ended) (sym i.5) c.requires.stops in
     subst (λ r. Finishes (λ _. machine r) meaning stops hall closed) hall.same_rules
-    (finished machine meaning g.W.Parts.log stops (g.W.Turns.activities rules) (g.W.Turns.legal rules) (opened meaning hall) (view_of pass) (in_hand pass) closed.parts.items closed.history.items closes (g.met.W.Parts.lawful rules) (g.met.W.Turns.turning rules) sound stop)
+    (finished machine meaning g.W.Parts.log stops (g.W.Turns.activities rules)
+    (g.W.Turns.legal rules) (opened meaning hall) (view_of pass) (in_hand pass) closed.parts.items
+    closed.history.items closes (g.met.W.Parts.lawful rules) (g.met.W.Turns.turning rules) sound
+    stop)

@@ -1,4 +1,5 @@
-use Rattle.std.proofs.Common.{rules, ◌≡◌, ◌<◌, ◌≤◌, ◌+◌, ◌++◌, ◌∷◌, [], All, length, sym, ap, subst, ◌∙◌, arith}
+use Rattle.std.proofs.Common.{rules, ◌≡◌, ◌<◌, ◌≤◌, ◌+◌, ◌++◌, ◌∷◌, [], All, length, sym, ap, subst}
+use Rattle.std.proofs.Common.{◌∙◌, arith}
 use Rattle.std.proofs.lemmas.List.{map-append}
 use Rattle.std.proofs.lemmas.List.Elements.{All-push}
 use Rattle.be_hall.proofs.UpFrom.{up_snoc}
@@ -18,16 +19,25 @@ loop-who-preserved g c =
     let old = c.in_ok-part.ensures.old in
     let part = c.in_ok-part.ensures.new.0 in
     let good = IsWorker g.W.Parts.machine g.W.Parts.meaning g.W.Turns.activities hall in
-    let new = λ (w : Worker g.row.W.Denot g.row.W-Part.Denot g.row.W-Entry.Denot g.row.W-Ready.Denot g.row.W-Meaning.Denot g.W.Parts). IsFresh w.pass in
+    let new =
+    λ (w : Worker g.row.W.Denot g.row.W-Part.Denot g.row.W-Entry.Denot g.row.W-Ready.Denot
+    g.row.W-Meaning.Denot g.W.Parts). IsFresh w.pass in
     let below : c.loop-who.who < g.W.Turns.activities (rules_of hall) = search rules in
-    let room : HasRoom c.in_ok-wants.wants (g.W.Parts.machine (rules_of hall)).places = search rules in
+    let room : HasRoom c.in_ok-wants.wants (g.W.Parts.machine (rules_of hall)).places =
+    search rules in
     let more = c.push_reserved.ensures.items in (
       c.in_ok-part.ensures.hall,
       (ap (λ v. v.own) old ∙ i.1.0, ap (λ v. v.ended) old ∙ i.1.1),
       c.in_ok-part.ensures.held ∙ i.2,
-      subst (All good) (sym more) (All-push good items _ i.3 ((c.in_ok-part.ensures.new_hall, c.in_ok-part.ensures.new.1), below, room)),
-      subst (All new) (sym more) (All-push new items _ i.4 (ap (λ v. v.own) part, ap (λ v. v.ended) part)),
-      ap whose more ∙ (map-append _ items _ ∙ (ap (λ l. l ++ c.loop-who.who ∷ []) i.5 ∙ sym (up_snoc c.loop-who.who))),
-      (let l = longer items _ in let h = i.6 in subst (λ n. n ≤ c.loop-who.who + 1) (sym (ap length more ∙ l)) (omega arith)),
+      subst (All good) (sym more)
+          (All-push good items _ i.3
+          ((c.in_ok-part.ensures.new_hall, c.in_ok-part.ensures.new.1), below, room)),
+      subst (All new) (sym more)
+          (All-push new items _ i.4 (ap (λ v. v.own) part, ap (λ v. v.ended) part)),
+      ap whose more
+          ∙ (map-append _ items _
+          ∙ (ap (λ l. l ++ c.loop-who.who ∷ []) i.5 ∙ sym (up_snoc c.loop-who.who))),
+      (let l = longer items _ in let h = i.6 in subst (λ n. n ≤ c.loop-who.who + 1)
+          (sym (ap length more ∙ l)) (omega arith)),
       subst (λ n. c.activities-many.result ≤ n) (sym c.push_reserved.ensures.capacity) i.7,
     )

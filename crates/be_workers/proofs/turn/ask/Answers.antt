@@ -20,14 +20,26 @@ returns-in-Ready-clause-ok g c =
     let ready = c.in-Ready.ready in
     let held = meant meaning (in_hand c.args.pass.now) in
     let now = meant meaning (in_hand c.prepare.new.pass) in
-    let by_hands = subst (λ h. Tells (machine it) (g.W.Turns.legal it) who (meant meaning h.parts) told) c.held.ensures c.in_ok-next.ensures in
-    let tells = subst (λ r. Tells (machine r) (g.W.Turns.legal r) who held told) c.rules-rules.ensures by_hands in
-    let same = prepared x now (meant g.W.Parts.spare (in_hand c.prepare.new.pass)) g.W.Parts.entry_of g.W.Parts.seen_by (g.W.Parts.prepared rules (in_hand c.prepare.new.pass)) c.in-Entry.entry c.in_ok-ready-in-Entry.field-0 ready c.in_ok-ready-in-Entry.ensures.answer c.in-Ready.is in
+    let by_hands =
+    subst (λ h. Tells (machine it) (g.W.Turns.legal it) who (meant meaning h.parts) told)
+    c.held.ensures c.in_ok-next.ensures in
+    let tells = subst (λ r. Tells (machine r) (g.W.Turns.legal r) who held told)
+    c.rules-rules.ensures by_hands in
+    let same = prepared x now (meant g.W.Parts.spare (in_hand c.prepare.new.pass))
+    g.W.Parts.entry_of g.W.Parts.seen_by (g.W.Parts.prepared rules (in_hand c.prepare.new.pass))
+    c.in-Entry.entry c.in_ok-ready-in-Entry.field-0 ready c.in_ok-ready-in-Entry.ensures.answer
+    c.in-Ready.is in
     let made = c.commit.ensures.made in
     let one : OneMore x legal who (view_of c.args.pass.now) (view_of c.commit.new.pass) = (
       commit c.commit.result (g.W.Parts.entry_of ready) now,
-      made.own ∙ ap (λ v. v.own ++ commit c.commit.result (g.W.Parts.entry_of ready) now ∷ []) c.prepare.ensures.same,
+      made.own ∙ ap (λ v. v.own ++ commit c.commit.result (g.W.Parts.entry_of ready) now ∷ [])
+          c.prepare.ensures.same,
       made.ended ∙ ap (λ v. v.ended) c.prepare.ensures.same,
-      legal_commit x legal who c.commit.result held now told c.in-Entry.entry (g.W.Parts.entry_of ready) c.requires.askable.0 tells c.in-Entry.is same c.prepare.ensures.held,
+      legal_commit x legal who c.commit.result held now told c.in-Entry.entry
+          (g.W.Parts.entry_of ready) c.requires.askable.0 tells c.in-Entry.is same
+          c.prepare.ensures.held,
     ) in
-    after_entry x legal who g.W.Turns.stops (g.W.Turns.activities rules) (view_of c.args.pass.now) (view_of c.commit.new.pass) c.made.result (g.met.W.Turns.turning rules) (subst (λ r. c.made.result ≡ made_by (who + 1 == g.W.Turns.activities r)) c.rules-rules.ensures c.made.ensures) one
+    after_entry x legal who g.W.Turns.stops (g.W.Turns.activities rules) (view_of c.args.pass.now)
+    (view_of c.commit.new.pass) c.made.result (g.met.W.Turns.turning rules)
+    (subst (λ r. c.made.result ≡ made_by (who + 1 == g.W.Turns.activities r)) c.rules-rules.ensures
+    c.made.ensures) one

@@ -1,18 +1,20 @@
-use Rattle.std.proofs.Common.{rules, ◌≡◌, ◌<◌, ◌≤◌, ◌+◌, ◌-◌, ◌++◌, ◌∷◌, [], true, All, Ok, length, sym, ap, subst, ◌∙◌, arith}
+use Rattle.std.proofs.Common.{rules, ◌≡◌, ◌<◌, ◌≤◌, ◌-◌, ◌++◌, ◌∷◌, [], true, All}
+use Rattle.std.proofs.Common.{Ok, length, sym, ap, subst, ◌∙◌}
 use Rattle.std.proofs.lemmas.Result.{IfOk-at_ok}
 use Rattle.be_hall.specs.Hands.{rises_from}
 use Rattle.be_hall.specs.Words.{in_hand, rules_of, view_of}
 use Rattle.be_workers.specs.Turned.{AskedOf, Told}
 use Rattle.be_workers.specs.Wanted.{HasRoom, IsChosen, added, wanted, wanted_below}
 use Rattle.be_workers.proofs.Turned.{carried}
-use Rattle.be_workers.proofs.Wanted.{grows, is_held, longer, owned, wanted_rises, wanted_short, wanted_there}
+use Rattle.be_workers.proofs.Wanted.{grown, is_held, owned, wanted_rises, wanted_there}
 use Rattle.be_workers.proofs.turn.take_turn.Goals as goal
 
 pub grab-requires-clause-rising : goal.grab-requires-clause-rising
 grab-requires-clause-rising g c =
     let wants = c.loop-rules.wants in
     subst (λ l. rises_from 0 l ≡ true) (sym (c.places.ensures ∙ c.loop-rules.invariant.2))
-    (wanted_rises (g.W.Turns.owns (rules_of c.args.hall.now) c.args.who) (added wants) (g.W.Parts.machine (rules_of c.args.hall.now)).places)
+    (wanted_rises (g.W.Turns.owns (rules_of c.args.hall.now) c.args.who) (added wants)
+    (g.W.Parts.machine (rules_of c.args.hall.now)).places)
 
 pub grab-requires-clause-below : goal.grab-requires-clause-below
 grab-requires-clause-below g c =
@@ -24,55 +26,73 @@ grab-requires-clause-below g c =
 pub ask-asked-requires-clause-own : goal.ask-asked-requires-clause-own
 ask-asked-requires-clause-own g c = λ p below own.
     let it = rules_of c.args.hall.now in
-    is_held g.W.Parts.meaning (in_hand c.grab.new.pass) _ p (c.grab.ensures.held (search rules) ∙ (c.places.ensures ∙ c.loop-rules.invariant.2))
-    (owned (g.W.Turns.owns it c.args.who) (added c.loop-rules.wants) (g.W.Parts.machine it).places p below own)
+    is_held g.W.Parts.meaning (in_hand c.grab.new.pass) _ p (c.grab.ensures.held (search rules)
+    ∙ (c.places.ensures ∙ c.loop-rules.invariant.2))
+    (owned (g.W.Turns.owns it c.args.who) (added c.loop-rules.wants)
+    (g.W.Parts.machine it).places p below own)
 
 pub add-requires-clause-few : goal.add-requires-clause-few
 add-requires-clause-few g c =
     let it = rules_of c.args.hall.now in
-    let n = (g.W.Parts.machine it).places in
     let owns = g.W.Turns.owns it c.args.who in
-    let wants = c.loop-rules.wants in
-    let p = c.in-Needs.place in
-    let told = IfOk-at_ok (Told g.W.Parts.machine g.W.Parts.meaning g.W.Turns.legal c.args.hall.now c.args.who c.grab.new.pass) (c.in_ok-did.was ∙ ap Ok c.in-Needs.is) c.ask-asked.ensures.told in
-    let more : length (wanted wants) < length (wanted_below owns (added wants ++ p ∷ []) n) = grows g.W.Parts.meaning owns (added wants) (in_hand c.grab.new.pass) (wanted wants) n p (c.grab.ensures.held (search rules) ∙ c.places.ensures) c.loop-rules.invariant.2 told.0 told.1 in
-    let few : length (added wants) ≤ length (wanted wants) = c.loop-rules.invariant.3 in
-    let short : length (wanted_below owns (added wants ++ p ∷ []) n) ≤ n = wanted_short owns (added wants ++ p ∷ []) n in
-    subst (λ r. length (added wants) < (g.W.Parts.machine r).places) (sym c.rules-rules.ensures) (omega arith)
+    let places = (g.W.Parts.machine it).places in
+    let old = c.loop-rules.wants in
+    let told = IfOk-at_ok
+    (Told g.W.Parts.machine g.W.Parts.meaning g.W.Turns.legal c.args.hall.now c.args.who
+    c.grab.new.pass) (c.in_ok-did.was ∙ ap Ok c.in-Needs.is) c.ask-asked.ensures.told in
+    let held = c.grab.ensures.held (search rules) ∙ c.places.ensures in
+    let i = c.loop-rules.invariant in
+    let grows = grown g.W.Parts.meaning owns (added old) (in_hand c.grab.new.pass) (wanted old)
+    places c.in-Needs.place held i.2 told i.3 in
+    subst (λ r. length (added old) < (g.W.Parts.machine r).places) (sym c.rules-rules.ensures)
+    grows.few
 
 pub loop-rules-smaller : goal.loop-rules-smaller
 loop-rules-smaller g c =
     let it = rules_of c.args.hall.now in
-    let n = (g.W.Parts.machine it).places in
     let owns = g.W.Turns.owns it c.args.who in
-    let wants = c.loop-rules.wants in
-    let p = c.in-Needs.place in
-    let told = IfOk-at_ok (Told g.W.Parts.machine g.W.Parts.meaning g.W.Turns.legal c.args.hall.now c.args.who c.grab.new.pass) (c.in_ok-did.was ∙ ap Ok c.in-Needs.is) c.ask-asked.ensures.told in
-    let more : length (wanted wants) < length (wanted_below owns (added wants ++ p ∷ []) n) = grows g.W.Parts.meaning owns (added wants) (in_hand c.grab.new.pass) (wanted wants) n p (c.grab.ensures.held (search rules) ∙ c.places.ensures) c.loop-rules.invariant.2 told.0 told.1 in
-    let few : length (added wants) ≤ length (wanted wants) = c.loop-rules.invariant.3 in
-    let short : length (wanted_below owns (added wants ++ p ∷ []) n) ≤ n = wanted_short owns (added wants ++ p ∷ []) n in
-    let now : length (wanted c.add.new.self) ≡ length (wanted_below owns (added wants ++ p ∷ []) n) = ap length (subst (λ r. IsChosen g.W.Parts.machine g.W.Turns.owns r c.args.who c.add.new.self) c.rules-rules.ensures c.add.ensures.chosen ∙ ap (λ m. wanted_below owns m n) c.add.ensures.added) in
-    let less : n - length (wanted c.add.new.self) < n - length (wanted wants) = omega arith in less
+    let places = (g.W.Parts.machine it).places in
+    let old = c.loop-rules.wants in
+    let told = IfOk-at_ok
+    (Told g.W.Parts.machine g.W.Parts.meaning g.W.Turns.legal c.args.hall.now c.args.who
+    c.grab.new.pass) (c.in_ok-did.was ∙ ap Ok c.in-Needs.is) c.ask-asked.ensures.told in
+    let held = c.grab.ensures.held (search rules) ∙ c.places.ensures in
+    let i = c.loop-rules.invariant in
+    let grows = grown g.W.Parts.meaning owns (added old) (in_hand c.grab.new.pass) (wanted old)
+    places c.in-Needs.place held i.2 told i.3 in
+    let new = c.add.new.self in
+    let same = c.rules-rules.ensures in
+    let chosen = subst (λ r. IsChosen g.W.Parts.machine g.W.Turns.owns r c.args.who new) same
+    c.add.ensures.chosen in
+    let is = chosen ∙ ap (λ more. wanted_below owns more places) c.add.ensures.added in
+    subst (λ ws. places - length ws < places - length (wanted old)) (sym is) grows.less
 
 pub loop-rules-preserved : goal.loop-rules-preserved
 loop-rules-preserved g c =
     let it = rules_of c.args.hall.now in
-    let n = (g.W.Parts.machine it).places in
     let owns = g.W.Turns.owns it c.args.who in
-    let wants = c.loop-rules.wants in
-    let p = c.in-Needs.place in
-    let told = IfOk-at_ok (Told g.W.Parts.machine g.W.Parts.meaning g.W.Turns.legal c.args.hall.now c.args.who c.grab.new.pass) (c.in_ok-did.was ∙ ap Ok c.in-Needs.is) c.ask-asked.ensures.told in
-    let more : length (wanted wants) < length (wanted_below owns (added wants ++ p ∷ []) n) = grows g.W.Parts.meaning owns (added wants) (in_hand c.grab.new.pass) (wanted wants) n p (c.grab.ensures.held (search rules) ∙ c.places.ensures) c.loop-rules.invariant.2 told.0 told.1 in
-    let few : length (added wants) ≤ length (wanted wants) = c.loop-rules.invariant.3 in
-    let now : length (wanted c.add.new.self) ≡ length (wanted_below owns (added wants ++ p ∷ []) n) = ap length (subst (λ r. IsChosen g.W.Parts.machine g.W.Turns.owns r c.args.who c.add.new.self) c.rules-rules.ensures c.add.ensures.chosen ∙ ap (λ m. wanted_below owns m n) c.add.ensures.added) in
-    let added_one : length (added c.add.new.self) ≡ length (added wants) + 1 = ap length c.add.ensures.added ∙ longer (added wants) p in
-    let kept : length (added c.add.new.self) ≤ length (wanted c.add.new.self) = omega arith in (
+    let places = (g.W.Parts.machine it).places in
+    let old = c.loop-rules.wants in
+    let told = IfOk-at_ok
+    (Told g.W.Parts.machine g.W.Parts.meaning g.W.Turns.legal c.args.hall.now c.args.who
+    c.grab.new.pass) (c.in_ok-did.was ∙ ap Ok c.in-Needs.is) c.ask-asked.ensures.told in
+    let held = c.grab.ensures.held (search rules) ∙ c.places.ensures in
+    let i = c.loop-rules.invariant in
+    let grows = grown g.W.Parts.meaning owns (added old) (in_hand c.grab.new.pass) (wanted old)
+    places c.in-Needs.place held i.2 told i.3 in
+    let new = c.add.new.self in
+    let same = c.rules-rules.ensures in
+    let chosen = subst (λ r. IsChosen g.W.Parts.machine g.W.Turns.owns r c.args.who new) same
+    c.add.ensures.chosen in
+    let is = chosen ∙ ap (λ more. wanted_below owns more places) c.add.ensures.added in
+    let long = subst (λ ws. length (added old ++ c.in-Needs.place ∷ []) ≤ length ws) (sym is)
+    grows.kept in (
       (c.give.ensures.hall, c.give.ensures.none),
-      subst (λ r. HasRoom c.add.new.self (g.W.Parts.machine r).places) c.rules-rules.ensures c.add.ensures.room,
-      subst (λ r. IsChosen g.W.Parts.machine g.W.Turns.owns r c.args.who c.add.new.self) c.rules-rules.ensures c.add.ensures.chosen,
-      kept,
+      subst (λ r. HasRoom new (g.W.Parts.machine r).places) same c.add.ensures.room,
+      chosen,
+      subst (λ more. length more ≤ length (wanted new)) (sym c.add.ensures.added) long,
       search rules,
-      c.rules-rules.ensures,
+      same,
     )
 
 pub returns-in-Came-clause-ok : goal.returns-in-Came-clause-ok
@@ -83,6 +103,11 @@ returns-in-Came-clause-ok g c =
     let asked = c.ask-asked.new.pass in
     let before = c.loop-rules.invariant.4 in
     let kept = c.grab.ensures.kept in
-    let came = IfOk-at_ok (AskedOf g.W.Parts.machine g.W.Turns.legal g.W.Turns.stops hall who grabbed asked) (c.in_ok-did.was ∙ ap Ok c.in-Came.is) c.ask-asked.ensures.ok in
-    carried (g.W.Parts.machine (rules_of hall)) (g.W.Turns.legal (rules_of hall)) who g.W.Turns.stops (view_of c.args.pass.now) (view_of grabbed) (view_of asked) (view_of c.give.new.pass) c.in-Came.did
-    (kept.0 ∙ before.0, kept.1 ∙ before.1) came (c.give.ensures.known.own, c.give.ensures.known.ended)
+    let came =
+    IfOk-at_ok (AskedOf g.W.Parts.machine g.W.Turns.legal g.W.Turns.stops hall who grabbed asked)
+    (c.in_ok-did.was ∙ ap Ok c.in-Came.is) c.ask-asked.ensures.ok in
+    carried (g.W.Parts.machine (rules_of hall)) (g.W.Turns.legal (rules_of hall)) who
+    g.W.Turns.stops (view_of c.args.pass.now) (view_of grabbed) (view_of asked)
+    (view_of c.give.new.pass) c.in-Came.did
+    (kept.0 ∙ before.0, kept.1 ∙ before.1) came
+    (c.give.ensures.known.own, c.give.ensures.known.ended)

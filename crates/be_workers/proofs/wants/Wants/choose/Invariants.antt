@@ -6,5 +6,6 @@ abbrev pub invariant-loop-place : goal.invariant-loop-place
 invariant-loop-place g l =
     HasRoom l.self (g.W.Parts.machine l.rules).places
     × (length l.self.places.items ≤ l.place-counter)
-    × (l.self.places.items ≡ wanted_below (g.W.Turns.owns l.rules l.who) l.initial.self.more.items l.place-counter)
+    × (l.self.places.items ≡ wanted_below (g.W.Turns.owns l.rules l.who) l.initial.self.more.items
+    l.place-counter)
     × (l.self.more ≡ l.initial.self.more)
