@@ -1,5 +1,6 @@
 -- The places that a turn wants.
-use Rattle.std.proofs.Common.{◌≡◌, ℕ, zero, suc, ◌+◌, ◌<◌, ◌≤◌, ◌-◌, inl, inr, Bool, true, false, ◌||◌}
+use Rattle.std.proofs.Common.{◌≡◌, ℕ, zero, suc, ◌+◌, ◌<◌, ◌≤◌, ◌-◌, inl, inr, Bool, true, false}
+use Rattle.std.proofs.Common.{◌||◌}
 use Rattle.std.proofs.Common.{◌==◌, nat_lt, cond, List, [], ◌∷◌, ◌++◌, length, filter, All}
 use Rattle.std.proofs.Common.{Contains, refl, sym, ap, ◌∙◌, subst, append-nil, eq-eqb, arith}
 use Rattle.std.specs.List.{list_any}
@@ -212,8 +213,8 @@ module _ (owns : ℕ → Bool) (more : List ℕ) where
       ∙ sym (wanted_next owns more n)))
 
 -- Where one place more was named, what is wanted grew. So the places that were named are fewer than
--- there are, those that aren't wanted grow fewer, and those that are wanted stay at least as many as
--- those that were named.
+-- there are, those that aren't wanted are fewer than before, and those that are wanted are still at
+-- least as many as those that were named.
 pub record Grown (n : ℕ) (more ps : List ℕ) (p : ℕ) (ws : List ℕ) : Type 0 where
   pub few : length more < n
   pub less : n - length ws < n - length ps
