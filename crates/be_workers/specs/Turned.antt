@@ -66,6 +66,13 @@ OnClosed P did.Closed = P
 OnClosed P did.Nothing = Unit {0}
 OnClosed P did.Over = Unit {0}
 
+-- what holds where the activity is over
+abbrev pub OnOver : Type 0 → Did → Type 0
+OnOver P did.Made = Unit {0}
+OnOver P did.Closed = Unit {0}
+OnOver P did.Nothing = Unit {0}
+OnOver P did.Over = P
+
 -- what holds where a turn made no entry
 abbrev pub OnNone : Type 0 → Did → Type 0
 OnNone P did.Made = Unit {0}
@@ -116,20 +123,28 @@ module _ {P T E R M : Type 0} {g : _} where
       Leaves machine legal stops hall who old new d
   AskedOf machine legal stops hall who old new (asked.Needs p) = KeepsCommits old new
 
-  -- Why a turn made no entry: by some parts the activity has none, or it is the closing one, which
-  -- doesn't wait for parts.
+  -- by some parts the activity has no legal entry
   abbrev pub HasNone :
-      (P → Machine M E) → (P → List M → ℕ → Option E) → (P → ℕ) → Hall P T E R M g → ℕ → Type 0
-  HasNone machine legal activities hall who =
-      (who + 1 ≡ activities (rules_of hall))
-      ⊎ IsIdle (machine (rules_of hall)) (legal (rules_of hall)) who
+      (P → Machine M E) → (P → List M → ℕ → Option E) → Hall P T E R M g → ℕ → Type 0
+  HasNone machine legal hall who = IsIdle (machine (rules_of hall)) (legal (rules_of hall)) who
+
+  -- Why a turn made no entry: the activity has none, or it is the closing one, which doesn't wait for
+  -- parts. It is over only where it has none.
+  abbrev pub NoneBy :
+      (P → Machine M E) → (P → List M → ℕ → Option E) → (P → ℕ) → Hall P T E R M g → ℕ
+      → Did → Type 0
+  NoneBy machine legal activities hall who did.Made = Unit {0}
+  NoneBy machine legal activities hall who did.Closed = Unit {0}
+  NoneBy machine legal activities hall who did.Nothing =
+      (who + 1 ≡ activities (rules_of hall)) ⊎ HasNone machine legal hall who
+  NoneBy machine legal activities hall who did.Over = HasNone machine legal hall who
 
   -- what asking tells with the parts in hand: that there is no entry, or a place that is wanting
   abbrev pub Told :
       (P → Machine M E) → (T → M) → (P → List M → ℕ → Option E) → Hall P T E R M g → ℕ
       → Pass P T E R M g → Asked → Type 0
   Told machine meaning legal hall who pass (asked.Came d) =
-      OnNone (IsIdle (machine (rules_of hall)) (legal (rules_of hall)) who) d
+      OnNone (HasNone machine legal hall who) d
   Told machine meaning legal hall who pass (asked.Needs p) =
       (p < (machine (rules_of hall)).places)
       × (IsHeld (meant meaning (in_hand pass)) p → ⊥)

@@ -1,5 +1,5 @@
 -- Workers of a hall, and how they end.
-use Rattle.std.specs.Prelude.{◌≡◌, ℕ, ◌<◌, List, Bool, Option, All, Any, map}
+use Rattle.std.specs.Prelude.{◌≡◌, ℕ, ◌<◌, List, Bool, true, Option, All, Any, map, ◌⊎◌}
 use Rattle.be_hall.specs.declared.hall.Hall.{Hall}
 use Rattle.be_hall.specs.declared.close.Closed.{Closed}
 use Rattle.be_hall.specs.Machine.{Machine}
@@ -9,7 +9,7 @@ use Rattle.be_workers.specs.declared.turn.Did.{Did}
 use Rattle.be_workers.specs.declared.worker.End.{End}
 use Rattle.be_workers.specs.declared.worker.End.TheVariants as ends
 use Rattle.be_workers.specs.declared.worker.Worker.{Worker}
-use Rattle.be_workers.specs.Turned.{HasStop, IsFree, Leaves}
+use Rattle.be_workers.specs.Turned.{HasNone, HasStop, IsFree, Leaves}
 use Rattle.be_workers.specs.Wanted.{HasRoom}
 
 module _ {P T E R M : Type 0} {g : _} where
@@ -45,6 +45,13 @@ module _ {P T E R M : Type 0} {g : _} where
   IsDone meaning stops hall w =
       IsFree meaning hall w.pass
       × (w.end ≡ ends.Closed → HasStop stops (view_of w.pass).own)
+
+  -- it knows that stop was raised, or its activity has no legal entry
+  abbrev pub MayEnd :
+      (P → Machine M E) → (P → List M → ℕ → Option E) → Hall P T E R M g
+      → Worker P T E R M g → Type 0
+  MayEnd machine legal hall w =
+      ((view_of w.pass).knows ≡ true) ⊎ HasNone machine legal hall w.who
 
   -- their activities, in order
   abbrev pub whose : List (Worker P T E R M g) → List ℕ

@@ -1,9 +1,9 @@
 //! All workers, one for each activity.
 ghost use Rattle.std.specs.Prelude.{◌≡◌, All, IfOk};
 ghost use Rattle.be_hall.specs.Hands.{up_from};
-ghost use Rattle.be_hall.specs.Words.{IsPassOf, hands_of, rules_of};
+ghost use Rattle.be_hall.specs.Words.{IsPassOf, hands_of, rules_of, view_of};
 ghost use Rattle.be_workers.specs.Turned.{IsFresh, KeepsCommits};
-ghost use Rattle.be_workers.specs.Workers.{AreWorkers, IsDone, IsWorker, whose};
+ghost use Rattle.be_workers.specs.Workers.{AreWorkers, IsDone, IsWorker, MayEnd, whose};
 
 use crate::tools::Tools;
 use crate::wants::Wants;
@@ -58,6 +58,7 @@ pub fn work<'a, R: Wait, G: Gate, W: Turns + Drop>(
 )
     requires { IsWorker W.machine W.meaning W.activities hall.now worker.old }
     ensures done { IsDone W.meaning W.stops hall.now worker.new }
+    ensures over { worker.new.end ≡ End.Over → MayEnd W.machine W.legal hall.now worker.new }
     ensures who { worker.new.who ≡ worker.old.who }
 {
     bells.begin(worker.who);

@@ -3,7 +3,7 @@ ghost use Rattle.std.specs.Prelude.{◌≡◌, ◌+◌, ◌<◌, ◌==◌, [], t
 ghost use Rattle.be_hall.specs.Hands.{places_of, rises_from};
 ghost use Rattle.be_hall.specs.Words.{IsPassOf, in_hand, rules_of};
 ghost use Rattle.be_workers.specs.Turned.{AskedOf, HoldsOwn, IsFree, KeepsCommits, Leaves, MayAsk};
-ghost use Rattle.be_workers.specs.Turned.{HasNone, OnNone, Told, made_by};
+ghost use Rattle.be_workers.specs.Turned.{NoneBy, Told, made_by};
 ghost use Rattle.be_workers.specs.Wanted.{HasRoom};
 
 use crate::tools::Tools;
@@ -143,7 +143,7 @@ pub(crate) fn take_turn<R: Wait, G: Gate, W: Turns + Drop>(
     ensures pass { IsFree W.meaning hall.now pass.new }
     ensures room { HasRoom wants.new (W.machine (rules_of hall.now)).places }
     ensures ok { IfOk result (Leaves W.machine W.legal W.stops hall.now who pass.old pass.new) }
-    ensures none { IfOk result (OnNone (HasNone W.machine W.legal W.activities hall.now who)) }
+    ensures none { IfOk result (NoneBy W.machine W.legal W.activities hall.now who) }
     ensures err { OnErr result (KeepsCommits pass.old pass.new) }
 {
     let rules = hall.rules();

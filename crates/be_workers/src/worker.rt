@@ -1,8 +1,9 @@
 //! A worker: what one thread does.
 ghost use Rattle.std.specs.Prelude.{◌≡◌, ◌<◌, IfOk, OnErr};
 ghost use Rattle.be_hall.specs.Words.{rules_of, view_of};
-ghost use Rattle.be_workers.specs.Turned.{HasNone, HasStop, IsFree, KeepsCommits, OnClosed, OnNone};
-ghost use Rattle.be_workers.specs.Workers.{IsWorker, StaysWorker, TurnOf};
+ghost use Rattle.be_workers.specs.Turned.{HasNone, HasStop, IsFree, KeepsCommits, NoneBy};
+ghost use Rattle.be_workers.specs.Turned.{OnClosed, OnOver};
+ghost use Rattle.be_workers.specs.Workers.{IsWorker, MayEnd, StaysWorker, TurnOf};
 
 use crate::tools::Tools;
 use crate::turn::{Did, take_turn};
@@ -49,6 +50,7 @@ impl<W: Turns + Drop> Worker<W> {
         requires { IsWorker W.machine W.meaning W.activities hall.now self.old }
         ensures worker { StaysWorker W.machine W.meaning W.activities hall.now self.old self.new }
         ensures closed { result ≡ End.Closed → HasStop W.stops (view_of self.new.pass).own }
+        ensures over { result ≡ End.Over → MayEnd W.machine W.legal hall.now self.new }
     {
         let who = self.who;
         let closing = hall.rules().activities() - 1;
@@ -89,6 +91,7 @@ impl<W: Turns + Drop> Worker<W> {
         requires { IsWorker W.machine W.meaning W.activities hall.now self.old }
         ensures worker { StaysWorker W.machine W.meaning W.activities hall.now self.old self.new }
         ensures closed { IfOk result (OnClosed (HasStop W.stops (view_of self.new.pass).own)) }
+        ensures over { IfOk result (OnOver (HasNone W.machine W.legal hall.now self.old.who)) }
     {
         let who = self.who;
         match self.turn(tools, hall, who)? {
@@ -106,6 +109,7 @@ impl<W: Turns + Drop> Worker<W> {
         requires { IsWorker W.machine W.meaning W.activities hall.now self.old }
         ensures worker { StaysWorker W.machine W.meaning W.activities hall.now self.old self.new }
         ensures closed { IfOk result (OnClosed (HasStop W.stops (view_of self.new.pass).own)) }
+        ensures never_over { IfOk result (OnOver ⊥) }
     {
         for who in 0..hall.rules().activities() {
             if tools.bells.has_begun(who) {
@@ -131,7 +135,7 @@ impl<W: Turns + Drop> Worker<W> {
         requires there { who < W.activities (rules_of hall.now) }
         ensures worker { StaysWorker W.machine W.meaning W.activities hall.now self.old self.new }
         ensures ok { IfOk result (TurnOf W.machine W.legal W.stops hall.now who self.old self.new) }
-        ensures none { IfOk result (OnNone (HasNone W.machine W.legal W.activities hall.now who)) }
+        ensures none { IfOk result (NoneBy W.machine W.legal W.activities hall.now who) }
         ensures err { OnErr result (KeepsCommits self.old.pass self.new.pass) }
     {
         tools.gate.at(Spot::Before, who);
