@@ -1,8 +1,8 @@
 -- A run on one thread goes on.
-use Rattle.std.proofs.Common.{rules, ◌≡◌, ℕ, zero, suc, ◌+◌, ◌<◌, ◌≤◌, ◌⊎◌, inl, inr, ⊎_elim, Bool, true, false, List, [], ◌∷◌, ◌++◌, length, map, drop, All, Option, Some, None, if◌then◌else◌, ◌==◌, refl, sym, ap, ◌∙◌, subst, arith}
+use Rattle.std.proofs.Common.{◌≡◌, ℕ, zero, suc, ◌+◌, ◌<◌, ◌≤◌, inl, inr, Bool, true, false, List, [], ◌∷◌, ◌++◌, length, set, length-set, map, take, drop, append-nil, take_all, drop_of_length-le, All, Option, Some, None, if◌then◌else◌, ◌==◌, refl, sym, ap, ◌∙◌, subst, arith}
 use Rattle.std.proofs.lemmas.List.Elements.{All-nil, All-head, All-tail, All-weaker, All-push}
 use mathlib.Core.Logic.{dite}
-use mathlib.Core.Option.{some, some-injective, some-ne-none}
+use mathlib.Core.Option.{some, some-injective}
 use native.Mathlib.Decide.{ℕ_discrete, dec_le}
 use lib.ListN.{get_elem?}
 use Rattle.std.proofs.Math.ListN.{get_or}
@@ -15,9 +15,11 @@ use Rattle.be_hall.specs.declared.parts.Verdict.{Verdict}
 use Rattle.be_hall.specs.declared.parts.Verdict.TheVariants as verdict
 use Rattle.be_turns.specs.declared.turns.Turn.{Turn}
 use Rattle.be_turns.specs.declared.turns.Turn.TheVariants as turn
-use Rattle.be_turns.specs.Turning.{Tells, Turning, IsFinished, is_some}
+use Rattle.be_turns.specs.Turning.{Tells, is_some}
 use Rattle.be_serial.specs.Scheduled.{pushed_if, next_draw, draws, place_of, ready_below, Picked}
 use Rattle.be_serial.specs.Running.{EachBefore, NeverStuck, Runs}
+use Rattle.be_serial.specs.Known.{AllStale, Knows, Stirs}
+use Rattle.std.proofs.lemmas.List.{get_or-set_same, get_or-set_other}
 
 -- logs
 module _ {E : Type 0} where
@@ -264,3 +266,47 @@ map_map f k (x ∷ xs) = ap (λ l. f (k x) ∷ l) (map_map f k xs)
 pub no_items : {A : Type 0} (xs : List A) → length xs ≡ 0 → xs ≡ []
 no_items [] h = refl
 no_items (x ∷ xs) h = absurd (omega arith)
+
+-- what is known of the activities without asking them
+module _ {M E : Type 0} (legal : List M → ℕ → Option E) (many : ℕ) where
+  true_false : true ≡ false → ⊥
+  true_false h = cc
+
+  pub knows_none : (now : List M) (can stale : List Bool) → AllStale many can stale
+      → Knows legal many now can stale
+  knows_none now can stale all = record {
+    long = all.0;
+    marked = all.1;
+    fresh = λ a l f. absurd (true_false (sym (all.2 a l) ∙ f));
+  }
+
+  pub knows_asked : (now : List M) (can stale : List Bool) (who : ℕ) (b : Bool) → who < many
+      → b ≡ is_some (legal now who) → Knows legal many now can stale
+      → Knows legal many now (set can who b) (set stale who false)
+  knows_asked now can stale who b there is k = record {
+    long = length-set can who b ∙ k.long;
+    marked = length-set stale who false ∙ k.marked;
+    fresh = λ a l f. dite (ℕ_discrete a who)
+        (λ same. ap (λ z. get_or (set can who b) z false) same
+        ∙ (get_or-set_same can who b false (subst (λ n. who < n) (sym k.long) there)
+        ∙ (is ∙ ap (λ z. is_some (legal now z)) (sym same))))
+        (λ other. get_or-set_other can who a b false other
+        ∙ k.fresh a l (sym (get_or-set_other stale who a false false other) ∙ f));
+  }
+
+module _ {M E : Type 0} (x : Machine M E) (legal : List M → ℕ → Option E) (many : ℕ) where
+  pub knows_after : (now : List M) (e : E) (can stale new : List Bool) → x.sound now
+      → x.permits now e → length new ≡ length stale → Stirs x legal many e stale new
+      → Knows legal many now can stale → Knows legal many (x.after now e) can new
+  knows_after now e can stale new sound permits long stirs k = record {
+    long = k.long;
+    marked = long ∙ k.marked;
+    fresh = λ a l f. let s = stirs a l f in k.fresh a l s.0 ∙ sym (s.1 now sound permits);
+  }
+
+-- what a list is after all of it was lent and given back
+pub mended : {A : Type 0} (n : ℕ) (new old : List A) → length new ≡ length old → n ≡ length old
+    → take n (new ++ drop (length new) old) ≡ new
+mended n new old long many =
+    ap (λ l. take n (new ++ l)) (drop_of_length-le old (omega arith))
+    ∙ (ap (take n) (append-nil new) ∙ take_all n new (omega arith))

@@ -5,7 +5,9 @@ ghost use Rattle.be_hall.specs.Machine.{AllFit, leads};
 ghost use Rattle.be_turns.specs.Turning.{IsFinished, is_some};
 ghost use Rattle.be_serial.specs.Scheduled.{pushed_if, ready_below, Picked};
 ghost use Rattle.be_serial.specs.Running.{NeverStuck, Runs};
+ghost use Rattle.be_serial.specs.Known.{IsKnown, Stirs, now_of};
 
+use crate::answers::Answers;
 use crate::schedule::Schedule;
 use be_geom::NoMemory;
 use be_hall::{Held, Parts, Verdict};
@@ -16,6 +18,19 @@ use std::snapshot::Snapshot;
 /// Activities that end: somebody has a legal entry until the closing one was made.
 pub trait Closing: Turns {
     ghost closed: { Self → List Self.Meaning → Bool };
+
+    /// Marks each activity of which the entry may change whether it has a legal entry. A run asks
+    /// those that are marked. Where a world has no better answer, all are.
+    fn stir(&self, entry: &Self::Entry, stale: &mut [bool])
+        requires { length stale.old ≡ Self.activities self.now }
+        ensures { Stirs (Self.machine self.now) (Self.legal self.now) (Self.activities self.now)
+            entry.now stale.old stale.new }
+    {
+        let _entry = entry;
+        for mark in stale.iter_mut() {
+            *mark = true;
+        }
+    }
 
     ghost never_stuck: { (it : Self) → NeverStuck (Self.machine it) (Self.legal it) Self.stops (Self.activities it) (closed it) };
 }
@@ -50,26 +65,53 @@ fn put(list: &mut Vec<u32>, place: u32, wanted: bool)
 }
 
 impl<W: Turns> Run<W> {
+    // Whether the activity has a legal entry now. It is asked where that isn't known.
+    fn ask(&self, answers: &mut Answers, who: u32) -> bool
+        requires runs { Runs (W.machine self.now.rules) W.meaning W.log (map W.meaning self.now.opening.value.items) self.now.limit self.now.held.parts self.now.history.items }
+        requires limit { self.now.limit ≤ 2 ^ 62 }
+        requires there { who < W.activities self.now.rules }
+        requires knows { IsKnown W.machine W.meaning W.legal W.activities self.now answers.old }
+        ensures has { result ≡ is_some
+            (W.legal self.now.rules (now_of W.machine W.meaning self.now) who) }
+        ensures knows { IsKnown W.machine W.meaning W.legal W.activities self.now answers.new }
+    {
+        let place = who as usize;
+        if !answers.stale[place] {
+            return answers.can[place];
+        }
+        let has = self.rules.has_entry(who, &self.held);
+        answers.can[place] = has;
+        answers.stale[place] = false;
+        has
+    }
+
     // The activities that have a legal entry now, in order of number.
-    fn list_ready(&self, ready: &mut Vec<u32>)
+    fn list_ready(&self, answers: &mut Answers, ready: &mut Vec<u32>)
         requires runs { Runs (W.machine self.now.rules) W.meaning W.log (map W.meaning self.now.opening.value.items) self.now.limit self.now.held.parts self.now.history.items }
         requires limit { self.now.limit ≤ 2 ^ 62 }
         requires room { W.activities self.now.rules ≤ vec_capacity ready.old }
+        requires knows { IsKnown W.machine W.meaning W.legal W.activities self.now answers.old }
         ensures room { W.activities self.now.rules ≤ vec_capacity ready.new }
+        ensures knows { IsKnown W.machine W.meaning W.legal W.activities self.now answers.new }
         ensures list { ready.new.items ≡ ready_below (W.legal self.now.rules) (leads (W.machine self.now.rules) (map W.meaning self.now.opening.value.items) self.now.history.items) (W.activities self.now.rules) }
     {
         ready.clear();
         for who in 0..self.rules.activities() {
-            let has = self.rules.has_entry(who, &self.held);
+            let has = self.ask(answers, who);
             put(ready, who, has);
         }
     }
+}
 
-    // Makes the activity's legal entry.
-    fn step(&mut self, who: u32) -> Result<(), NoMemory>
+impl<W: Closing> Run<W> {
+    // Makes the activity's legal entry, and marks whom that may concern.
+    fn step(&mut self, who: u32, answers: &mut Answers) -> Result<(), NoMemory>
         requires runs { Runs (W.machine self.old.rules) W.meaning W.log (map W.meaning self.old.opening.value.items) self.old.limit self.old.held.parts self.old.history.items }
         requires limit { self.old.limit ≤ 2 ^ 62 }
         requires legal { (who < W.activities self.old.rules) × (is_some (W.legal self.old.rules (leads (W.machine self.old.rules) (map W.meaning self.old.opening.value.items) self.old.history.items) who) ≡ true) }
+        requires knows { IsKnown W.machine W.meaning W.legal W.activities self.old answers.old }
+        ensures knows { OnOk result
+            (IsKnown W.machine W.meaning W.legal W.activities self.new answers.new) }
         ensures same { (self.new.rules ≡ self.old.rules) × (self.new.opening ≡ self.old.opening) × (self.new.limit ≡ self.old.limit) }
         ensures made { OnOk result ((e : W.Entry) × (self.new.history.items ≡ self.old.history.items ++ e ∷ []) × (W.legal self.old.rules (leads (W.machine self.old.rules) (map W.meaning self.old.opening.value.items) self.old.history.items) who ≡ Some e)) }
         ensures runs { OnOk result (Runs (W.machine self.new.rules) W.meaning W.log (map W.meaning self.new.opening.value.items) self.new.limit self.new.held.parts self.new.history.items) }
@@ -81,6 +123,7 @@ impl<W: Turns> Run<W> {
             unreachable!()
         };
         let number = self.history.len() as u64 + 1;
+        self.rules.stir(&entry, answers.stale.as_mut_slice());
         self.history.push(entry)?;
         self.rules.perform(&mut self.held, ready, number);
         Ok(())
@@ -88,7 +131,8 @@ impl<W: Turns> Run<W> {
 }
 
 /// Runs all activities on this thread, of which the seed picks one before each entry, until nobody has
-/// a legal entry. Before each entry each activity is asked once.
+/// a legal entry. Before each entry those activities are asked that the one before it may have
+/// stirred.
 pub fn run_serial<W: Closing + Drop>(
     alloc: Global,
     rules: W,
@@ -109,6 +153,7 @@ pub fn run_serial<W: Closing + Drop>(
 {
     let opening = Snapshot::of(&parts);
     let mut ready = Vec::with_capacity(alloc, rules.activities() as usize)?;
+    let mut answers = Answers::new(alloc, rules.activities())?;
     let mut schedule = Schedule::new(seed);
     let mut run = Run {
         rules,
@@ -118,13 +163,13 @@ pub fn run_serial<W: Closing + Drop>(
         limit,
     };
     loop {
-        run.list_ready(&mut ready);
+        run.list_ready(&mut answers, &mut ready);
         let listed = ready.as_slice();
         if listed.len() == 0 {
             break;
         }
         let place = schedule.pick(listed.len());
-        run.step(listed[place])?;
+        run.step(listed[place], &mut answers)?;
     }
     let Run {
         rules,

@@ -1,3 +1,4 @@
 mod Telling
 mod Moving
 mod Starting
+mod Stirring

@@ -27,7 +27,7 @@ pub no_part : {A B : Type 0} (f : A → B) (o : Option A) → option_map f o ≡
 no_part f None e = refl
 no_part f (Some x) e = absurd (cc)
 
-some_if : (b : Bool) (v : Step) → is_some (if b then Some v else None) ≡ b
+pub some_if : (b : Bool) (v : Step) → is_some (if b then Some v else None) ≡ b
 some_if true v = refl
 some_if false v = refl
 

@@ -64,6 +64,12 @@ module _ (w : World) where
   actor_of (Use activity) = activity
   actor_of Close = closing_place
 
+  -- who gets what the step gives; where it gives nothing, the one that makes it
+  abbrev pub taker_of : Step → ℕ
+  taker_of (Give activity) = target_of activity
+  taker_of (Use activity) = activity
+  taker_of Close = closing_place
+
   -- a producer gives, and all others use up
   abbrev pub work_of : ℕ → Count → ℕ
   work_of activity c = if nat_lt activity w.producers then c.left else c.units

@@ -1,5 +1,5 @@
 //! The activities of the counters.
-ghost use Rattle.std.specs.Prelude.{◌+◌};
+ghost use Rattle.std.specs.Prelude.{◌≡◌, ◌+◌, true, slice_set};
 ghost use Rattle.small_world.specs.Counting.{closing_place, is_wanted, legal_step, is_close, is_closed};
 
 use crate::counter::Counter;
@@ -66,5 +66,23 @@ impl Closing for World {
 
     ghost closed = { λ it all. is_closed it all };
 
+    /// The closing activity is stirred by each step, since it looks at all counters.
+    fn stir(&self, entry: &Step, stale: &mut [bool]) {
+        let step = *entry;
+        mark(stale, self.closing());
+        mark(stale, self.actor_of(step));
+        mark(stale, self.taker_of(step));
+    }
+
     ghost never_stuck = { λ it. passing_closes it };
+}
+
+// Marks the activity, if it is there.
+fn mark(stale: &mut [bool], activity: u32)
+    ensures { stale.new ≡ slice_set stale.old activity true }
+{
+    let place = activity as usize;
+    if place < stale.len() {
+        stale[place] = true;
+    }
 }

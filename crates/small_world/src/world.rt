@@ -15,7 +15,7 @@ pub struct World {
 
 impl World {
     ghost use Rattle.std.specs.Prelude.{◌≡◌, ◌+◌, ◌^◌};
-    ghost use Rattle.small_world.specs.Counting.{closing_place, target_of, wish_of, actor_of, work_of};
+    ghost use Rattle.small_world.specs.Counting.{closing_place, target_of, wish_of, actor_of, taker_of, work_of};
 
     /// The number of the closing activity.
     pub fn closing(&self) -> u32
@@ -51,6 +51,17 @@ impl World {
     {
         match step {
             Step::Give(producer) => producer,
+            Step::Use(consumer) => consumer,
+            Step::Close => self.closing(),
+        }
+    }
+
+    /// Who gets what the step gives. Where it gives nothing, the one that makes it.
+    pub fn taker_of(&self, step: Step) -> u32
+        ensures { result ≡ taker_of self.now step }
+    {
+        match step {
+            Step::Give(producer) => self.target_of(producer),
             Step::Use(consumer) => consumer,
             Step::Close => self.closing(),
         }

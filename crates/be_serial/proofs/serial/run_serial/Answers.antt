@@ -2,12 +2,13 @@ use Rattle.std.proofs.Common.{rules, ℕ, suc, ◌≡◌, ◌+◌, ◌<◌, ◌�
 use Rattle.std.proofs.lemmas.List.Elements.{All-get_or}
 use Rattle.std.proofs.Math.ListN.{get_or}
 use Rattle.be_hall.specs.Numbers.{total}
-use Rattle.be_hall.specs.Hands.{up_from, numbered, meant}
-use Rattle.be_hall.specs.Machine.{Fits, leads}
+use Rattle.be_hall.specs.Hands.{up_from, numbered}
+use Rattle.be_hall.specs.Machine.{leads}
 use Rattle.be_turns.specs.Turning.{IsFinished, is_some}
 use Rattle.be_serial.specs.Scheduled.{next_draw, draws, place_of, ready_below, Picked}
 use Rattle.be_serial.specs.Running.{Runs}
-use Rattle.be_serial.proofs.Going.{numbered_fits, numbered_places, numbered_fit, numbered_logs, whole, leads_snoc, more_long, closes, draws_next, picked_snoc, all_ready, none_ready, long_map, map_map, no_items}
+use Rattle.be_serial.specs.Known.{AllStale}
+use Rattle.be_serial.proofs.Going.{knows_none, numbered_fits, numbered_places, numbered_fit, numbered_logs, whole, leads_snoc, more_long, closes, draws_next, picked_snoc, all_ready, none_ready, long_map, map_map, no_items}
 use Rattle.be_serial.proofs.serial.run_serial.Goals as goal
 
 pub loop-listed-init : goal.loop-listed-init
@@ -19,7 +20,7 @@ loop-listed-init g c =
     let o = map meaning xs in
     let is : c.of-opening.result.value.items ≡ xs = search rules in
     let held : c.whole.result.parts ≡ numbered 0 xs = search rules in
-    let none : c.new.result.items ≡ [] = search rules in
+    let none : c.new-2.result.items ≡ [] = search rules in
     let many : length xs ≡ x.places = sym (long_map meaning xs) ∙ (g.met.W.Parts.lawful c.args.rules).as_many o c.requires.sound in
     let budgets = c.requires.budgets in
     let runs : Runs x meaning log o c.args.limit (numbered 0 xs) [] = record {
@@ -34,11 +35,13 @@ loop-listed-init g c =
       refl,
       is,
       refl,
-      subst (λ z. Runs x meaning log (map meaning z) c.args.limit c.whole.result.parts c.new.result.items) (sym is) (subst (Runs x meaning log o c.args.limit c.whole.result.parts) (sym none) (subst (λ h. Runs x meaning log o c.args.limit h []) (sym held) runs)),
+      subst (λ z. Runs x meaning log (map meaning z) c.args.limit c.whole.result.parts c.new-2.result.items) (sym is) (subst (Runs x meaning log o c.args.limit c.whole.result.parts) (sym none) (subst (λ h. Runs x meaning log o c.args.limit h []) (sym held) runs)),
       (search rules),
       (search rules),
       c.new-schedule.ensures.1 ∙ sym (ap (λ h. draws c.args.seed c.args.seed (length h)) none),
       subst (Picked x (g.W.Turns.legal c.args.rules) (g.W.Turns.activities c.args.rules) c.args.seed c.args.seed o) (sym none) tt,
+      knows_none (g.W.Turns.legal c.args.rules) (g.W.Turns.activities c.args.rules) (leads x (map meaning c.of-opening.result.value.items) c.new-2.result.items) c.in_ok-answers.answers.can.items c.in_ok-answers.answers.stale.items
+          (subst (λ n. AllStale n c.in_ok-answers.answers.can.items c.in_ok-answers.answers.stale.items) c.activities-2.ensures c.in_ok-answers.ensures),
     )
 
 pub step-requires-clause-legal : goal.step-requires-clause-legal
@@ -107,6 +110,7 @@ loop-listed-preserved g c =
       c.pick-place.ensures.seed ∙ i.5,
       drawn ∙ (sym (draws_next x legal many seed seed (length h)) ∙ ap (draws seed seed) (sym count)),
       subst (λ z. Picked (g.W.Parts.machine z) (g.W.Turns.legal z) (g.W.Turns.activities z) seed seed (map meaning c.args.parts.items) new.history.items) i.0 (subst (λ z. Picked x legal many seed seed (map meaning z) new.history.items) i.1 (subst (Picked x legal many seed seed o) (sym made.1) more)),
+      c.in_ok-step.ensures.knows,
     )
 
 pub returns-clause-finished : goal.returns-clause-finished

@@ -1,11 +1,11 @@
-use Rattle.std.proofs.Common.{rules, ℕ, ◌≡◌, ◌+◌, ◌<◌, ◌≤◌, [], ◌∷◌, ◌++◌, length, map, sym, ap, subst, ◌∙◌, arith}
+use Rattle.std.proofs.Common.{rules, List, Bool, take, drop, ℕ, ◌≡◌, ◌+◌, ◌<◌, ◌≤◌, [], ◌∷◌, ◌++◌, length, map, sym, ap, subst, ◌∙◌, arith}
 use Rattle.be_hall.specs.Hands.{meant}
 use Rattle.be_hall.specs.Machine.{Fits, IsHeld, HeldFit, leads}
 use Rattle.be_hall.specs.Logs.{IsAbove, appended}
-use Rattle.be_hall.specs.Answers.{Answers}
 use Rattle.be_hall.proofs.Holding.{fit_after}
-use Rattle.be_serial.proofs.Going.{all_in, is_above, is_entry, an_entry, a_ready, entry_is, goes_on, same_firsts}
+use Rattle.be_serial.proofs.Going.{knows_after, leads_snoc, mended, all_in, is_above, is_entry, an_entry, a_ready, entry_is, goes_on, same_firsts}
 use Rattle.be_serial.specs.Running.{Runs}
+use Rattle.be_serial.specs.Known.{Knows, Stirs}
 use Rattle.be_serial.proofs.serial.Run.step.Goals as goal
 
 pub next-requires-clause-own : goal.next-requires-clause-own
@@ -83,3 +83,33 @@ returns-clause-runs g c =
     let logs = c.perform.ensures.logs ∙ (λ i. appended (x.keeper (is i)) (long i + 1, is i) (c.prepare.ensures.logs i)) in
     let history : c.push.new.self.items ≡ h ++ e ∷ [] = search rules in
     subst (Runs x meaning log o self.limit new) (sym history) (goes_on x meaning log o self.limit held new h e lawful r permits gives places fits logs)
+
+pub returns-clause-knows : goal.returns-clause-knows
+returns-clause-knows g c =
+    let self = c.args.self.now in
+    let x = g.W.Parts.machine self.rules in
+    let meaning = g.W.Parts.meaning in
+    let held = self.held.parts in
+    let o = map meaning self.opening.value.items in
+    let h = self.history.items in
+    let now = leads x o h in
+    let r = c.requires.runs in
+    let e = c.in-Entry.entry in
+    let legal = g.W.Turns.legal self.rules in
+    let many = g.W.Turns.activities self.rules in
+    let can = c.args.answers.now.can.items in
+    let old = c.args.answers.now.stale.items in
+    let new = c.stir.new.stale in
+    let all : (p : ℕ) → p < x.places → IsHeld (meant meaning held) p = λ p b. all_in meaning x.places held r.all p b in
+    let entry = is_entry x (meant meaning held) all legal c.args.who c.in_ok-entry.field-0 e now r.sound r.gives c.in_ok-entry.ensures c.in-Entry.is in
+    let permits = (g.met.W.Turns.turning self.rules).permits now c.args.who e r.sound entry in
+    let same : length c.as_mut_slice.result.now ≡ length old = ap length c.as_mut_slice.ensures.value in
+    let long : length new ≡ length old = omega arith in
+    let many_old = c.as_mut_slice.ensures.len in
+    let stirs = subst (λ (l : List Bool). Stirs x legal many e l new) c.as_mut_slice.ensures.value c.stir.ensures in
+    let known = knows_after x legal many now e can old new r.sound permits long stirs c.requires.knows in
+    let kept = mended c.args.answers.now.stale.len new old long (omega arith) in
+    let history : c.push.new.self.items ≡ h ++ e ∷ [] = search rules in
+    subst (λ z. Knows legal many (leads x o z) can (take c.args.answers.now.stale.len (new ++ drop (length new) old))) (sym history)
+    (subst (λ z. Knows legal many z can (take c.args.answers.now.stale.len (new ++ drop (length new) old))) (sym (leads_snoc x meaning g.W.Parts.log o self.limit o h e))
+    (subst (λ l. Knows legal many (x.after now e) can l) (sym kept) known))
