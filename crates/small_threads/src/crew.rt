@@ -1,0 +1,33 @@
+//! All workers at once.
+ghost use Rattle.std.specs.Prelude.{◌+◌, ◌<◌, All};
+ghost use Rattle.be_workers.specs.Workers.{AreWorkers, IsDone};
+ghost use Rattle.small_world.specs.Counting.{closing_place, is_close, passing};
+ghost use Rattle.small_world.specs.Counters.{count_of};
+
+use be_bells::Bells;
+use be_hall::Hall;
+use be_outside::Gate;
+use be_workers::{Worker, work};
+use small_world::World;
+use std::sync::Wait;
+use std::thread;
+use std::thread::Threads;
+
+/// Each worker works, on so many threads at most. It may never return.
+pub(crate) fn work_all<R: Threads + Wait + Sync, G: Gate + Sync>(
+    rt: &R,
+    gate: &G,
+    hall: &Hall<World>,
+    bells: &Bells,
+    workers: &mut [Worker<World>],
+    threads: usize,
+)
+    requires threads { 0 < threads }
+    requires workers { AreWorkers (λ w. passing w) (λ x. count_of x) (λ w. closing_place w + 1)
+        hall.now workers.old }
+    ensures { All (IsDone (λ x. count_of x) (λ step. is_close step) hall.now) workers.new }
+{
+    thread::for_each_mut(rt, workers, threads, &|_, worker: &mut Worker<World>| {
+        work(rt, gate, hall, bells, worker)
+    });
+}

@@ -1,0 +1,13 @@
+//! The tests of runs on threads. Nothing else is here.
+#![tactic(auto)]
+
+#[cfg(test)]
+mod met;
+#[cfg(test)]
+mod one_lock;
+#[cfg(test)]
+mod refused;
+#[cfg(test)]
+mod replay;
+#[cfg(test)]
+mod runs;
