@@ -1,0 +1,17 @@
+pub mod Splits
+pub mod NumberWords
+pub mod NameWords
+pub mod ActorWords
+pub mod Readings
+pub mod PartWords
+pub mod ActWords
+pub mod EntryWords
+pub mod PlainWords
+pub mod TextBack
+pub mod TextAlone
+pub mod Breaks
+pub mod CodeLemmas
+pub mod NotedWords
+pub mod LegalActs
+pub mod LegalHistories
+pub mod FoundActors

@@ -1,0 +1,13 @@
+pub mod Lines
+pub mod Names
+pub mod EntryText
+pub mod MessageText
+pub mod TraceText
+pub mod ScreenText
+pub mod Report
+pub mod Readers
+pub mod Entries
+pub mod Told
+pub mod Possible
+pub mod Outcomes
+pub mod Laws

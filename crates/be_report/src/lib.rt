@@ -1,0 +1,20 @@
+//! The text of a report, and the history that a text tells.
+//!
+//! A history is read in one pass over its bytes, line by line. To find the name of a window or of an
+//! activity takes a look at each of its kind.
+#![tactic(auto)]
+
+mod history;
+mod kind;
+mod laws;
+mod line;
+mod naming;
+mod reading;
+mod spaced;
+mod word;
+
+pub use history::read_history;
+pub use laws::{
+    a_history_is_told_by_its_text, a_report_tells_its_history,
+    a_text_that_tells_none_breaks_at_a_line, an_entry_has_one_line,
+};
