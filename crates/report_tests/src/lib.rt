@@ -1,0 +1,5 @@
+//! The tests of reports. Nothing else is here.
+#![tactic(auto)]
+
+#[cfg(test)]
+mod history;
