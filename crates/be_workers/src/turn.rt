@@ -76,6 +76,7 @@ fn ask<G: Gate, W: Turns + Drop>(
                 Ok(Asked::Came(made(rules, who)))
             }
             Verdict::Needs(place) => Ok(Asked::Needs(place)),
+            // What is legal is permitted.
             Verdict::NotLegal => unreachable!(),
         },
     }

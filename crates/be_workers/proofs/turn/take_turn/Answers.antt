@@ -1,4 +1,4 @@
-use Rattle.std.proofs.Common.{rules, ◌≡◌, ◌<◌, ◌≤◌, ◌-◌, ◌++◌, ◌∷◌, [], true, All}
+use Rattle.std.proofs.Common.{rules, ◌≡◌, ◌<◌, ◌≤◌, ◌++◌, ◌∷◌, [], true, All}
 use Rattle.std.proofs.Common.{Ok, length, sym, ap, subst, ◌∙◌}
 use Rattle.std.proofs.lemmas.Result.{IfOk-at_ok}
 use Rattle.be_hall.specs.Hands.{rises_from}
@@ -6,7 +6,8 @@ use Rattle.be_hall.specs.Words.{in_hand, rules_of, view_of}
 use Rattle.be_workers.specs.Turned.{AskedOf, Told}
 use Rattle.be_workers.specs.Wanted.{HasRoom, IsChosen, added, wanted, wanted_below}
 use Rattle.be_workers.proofs.Turned.{carried}
-use Rattle.be_workers.proofs.Wanted.{grown, is_held, owned, wanted_rises, wanted_there}
+use Rattle.be_workers.proofs.Wanted.{Grown, grown, is_held, owned, wanted_rises, wanted_there}
+use Rattle.be_workers.proofs.turn.take_turn.Given.{Over}
 use Rattle.be_workers.proofs.turn.take_turn.Goals as goal
 
 pub grab-requires-clause-rising : goal.grab-requires-clause-rising
@@ -31,66 +32,60 @@ ask-asked-requires-clause-own g c = λ p below own.
     (owned (g.W.Turns.owns it c.args.who) (added c.loop-rules.wants)
     (g.W.Parts.machine it).places p below own)
 
+-- what is wanted grows by what Needs named
+grown_by : (g : Over) (c : goal.After-add-arg-1 g)
+    → Grown (g.W.Parts.machine (rules_of c.args.hall.now)).places (added c.loop-rules.wants)
+    (wanted c.loop-rules.wants) c.in-Needs.place
+    (wanted_below (g.W.Turns.owns (rules_of c.args.hall.now) c.args.who)
+    (added c.loop-rules.wants ++ c.in-Needs.place ∷ [])
+    (g.W.Parts.machine (rules_of c.args.hall.now)).places)
+grown_by g c =
+    let it = rules_of c.args.hall.now in
+    let wants = c.loop-rules.wants in
+    let i = c.loop-rules.invariant in
+    let told = IfOk-at_ok
+    (Told g.W.Parts.machine g.W.Parts.meaning g.W.Turns.legal c.args.hall.now c.args.who
+    c.grab.new.pass) (c.in_ok-did.was ∙ ap Ok c.in-Needs.is) c.ask-asked.ensures.told in
+    let held = c.grab.ensures.held (search rules) ∙ c.places.ensures in
+    grown g.W.Parts.meaning (g.W.Turns.owns it c.args.who) (added wants)
+    (in_hand c.grab.new.pass) (wanted wants) (g.W.Parts.machine it).places c.in-Needs.place held
+    i.2 told i.3
+
 pub add-requires-clause-few : goal.add-requires-clause-few
 add-requires-clause-few g c =
+    subst (λ r. length (added c.loop-rules.wants) < (g.W.Parts.machine r).places)
+    (sym c.rules-rules.ensures) (grown_by g c).few
+
+-- what is wanted after it was added
+chosen_now : (g : Over) (c : goal.After-add g)
+    → IsChosen g.W.Parts.machine g.W.Turns.owns (rules_of c.args.hall.now) c.args.who c.add.new.self
+chosen_now g c =
+    subst (λ r. IsChosen g.W.Parts.machine g.W.Turns.owns r c.args.who c.add.new.self)
+    c.rules-rules.ensures c.add.ensures.chosen
+
+grown_now : (g : Over) (c : goal.After-add g)
+    → Grown (g.W.Parts.machine (rules_of c.args.hall.now)).places (added c.loop-rules.wants)
+    (wanted c.loop-rules.wants) c.in-Needs.place (wanted c.add.new.self)
+grown_now g c =
     let it = rules_of c.args.hall.now in
-    let owns = g.W.Turns.owns it c.args.who in
     let places = (g.W.Parts.machine it).places in
-    let old = c.loop-rules.wants in
-    let told = IfOk-at_ok
-    (Told g.W.Parts.machine g.W.Parts.meaning g.W.Turns.legal c.args.hall.now c.args.who
-    c.grab.new.pass) (c.in_ok-did.was ∙ ap Ok c.in-Needs.is) c.ask-asked.ensures.told in
-    let held = c.grab.ensures.held (search rules) ∙ c.places.ensures in
-    let i = c.loop-rules.invariant in
-    let grows = grown g.W.Parts.meaning owns (added old) (in_hand c.grab.new.pass) (wanted old)
-    places c.in-Needs.place held i.2 told i.3 in
-    subst (λ r. length (added old) < (g.W.Parts.machine r).places) (sym c.rules-rules.ensures)
-    grows.few
+    let is = chosen_now g c
+    ∙ ap (λ more. wanted_below (g.W.Turns.owns it c.args.who) more places) c.add.ensures.added in
+    subst (Grown places (added c.loop-rules.wants) (wanted c.loop-rules.wants) c.in-Needs.place)
+    (sym is) (grown_by g c.before)
 
 pub loop-rules-smaller : goal.loop-rules-smaller
-loop-rules-smaller g c =
-    let it = rules_of c.args.hall.now in
-    let owns = g.W.Turns.owns it c.args.who in
-    let places = (g.W.Parts.machine it).places in
-    let old = c.loop-rules.wants in
-    let told = IfOk-at_ok
-    (Told g.W.Parts.machine g.W.Parts.meaning g.W.Turns.legal c.args.hall.now c.args.who
-    c.grab.new.pass) (c.in_ok-did.was ∙ ap Ok c.in-Needs.is) c.ask-asked.ensures.told in
-    let held = c.grab.ensures.held (search rules) ∙ c.places.ensures in
-    let i = c.loop-rules.invariant in
-    let grows = grown g.W.Parts.meaning owns (added old) (in_hand c.grab.new.pass) (wanted old)
-    places c.in-Needs.place held i.2 told i.3 in
-    let new = c.add.new.self in
-    let same = c.rules-rules.ensures in
-    let chosen = subst (λ r. IsChosen g.W.Parts.machine g.W.Turns.owns r c.args.who new) same
-    c.add.ensures.chosen in
-    let is = chosen ∙ ap (λ more. wanted_below owns more places) c.add.ensures.added in
-    subst (λ ws. places - length ws < places - length (wanted old)) (sym is) grows.less
+loop-rules-smaller g c = (grown_now g c).less
 
 pub loop-rules-preserved : goal.loop-rules-preserved
 loop-rules-preserved g c =
-    let it = rules_of c.args.hall.now in
-    let owns = g.W.Turns.owns it c.args.who in
-    let places = (g.W.Parts.machine it).places in
-    let old = c.loop-rules.wants in
-    let told = IfOk-at_ok
-    (Told g.W.Parts.machine g.W.Parts.meaning g.W.Turns.legal c.args.hall.now c.args.who
-    c.grab.new.pass) (c.in_ok-did.was ∙ ap Ok c.in-Needs.is) c.ask-asked.ensures.told in
-    let held = c.grab.ensures.held (search rules) ∙ c.places.ensures in
-    let i = c.loop-rules.invariant in
-    let grows = grown g.W.Parts.meaning owns (added old) (in_hand c.grab.new.pass) (wanted old)
-    places c.in-Needs.place held i.2 told i.3 in
     let new = c.add.new.self in
-    let same = c.rules-rules.ensures in
-    let chosen = subst (λ r. IsChosen g.W.Parts.machine g.W.Turns.owns r c.args.who new) same
-    c.add.ensures.chosen in
-    let is = chosen ∙ ap (λ more. wanted_below owns more places) c.add.ensures.added in
-    let long = subst (λ ws. length (added old ++ c.in-Needs.place ∷ []) ≤ length ws) (sym is)
-    grows.kept in (
+    let same = c.rules-rules.ensures in (
       (c.give.ensures.hall, c.give.ensures.none),
       subst (λ r. HasRoom new (g.W.Parts.machine r).places) same c.add.ensures.room,
-      chosen,
-      subst (λ more. length more ≤ length (wanted new)) (sym c.add.ensures.added) long,
+      chosen_now g c,
+      subst (λ more. length more ≤ length (wanted new)) (sym c.add.ensures.added)
+          (grown_now g c).kept,
       search rules,
       same,
     )
