@@ -7,6 +7,11 @@ use Rattle.be_lex.specs.Words.{is_space}
 unfoldable pub line_of : List (List ℕ) → List ℕ
 line_of words = join_with_byte 32 words ++ 10 ∷ []
 
+-- words that stand behind others
+abbrev pub behind : List (List ℕ) → List ℕ
+behind [] = []
+behind (word ∷ words) = (32 ∷ word) ++ behind words
+
 -- each byte is 33 to 126, so that none parts words or ends a line
 abbrev pub is_plain : List ℕ → Bool
 is_plain word = list_all (λ b. nat_le 33 b && nat_le b 126) word

@@ -1,4 +1,4 @@
-//! The text of a report, and the history that a text tells.
+//! The text of a report: its history, written and read.
 //!
 //! A history is read in one pass over its bytes, line by line. To find the name of a window or of an
 //! activity takes a look at each of its kind.
@@ -9,12 +9,16 @@ mod kind;
 mod laws;
 mod line;
 mod naming;
+mod page;
 mod reading;
 mod spaced;
 mod word;
+mod writing;
 
 pub use history::read_history;
 pub use laws::{
     a_history_is_told_by_its_text, a_report_tells_its_history,
     a_text_that_tells_none_breaks_at_a_line, an_entry_has_one_line,
 };
+pub use page::Page;
+pub use writing::write_history;
