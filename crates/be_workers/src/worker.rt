@@ -56,10 +56,11 @@ impl<W: Turns + Drop> Worker<W> {
         let closing = hall.rules().activities() - 1;
         let mut idle = 0u32;
         for _ in tools.rt.forever() {
+            // Stop is raised before all bells are rung: whoever reads his bell first sees one of them.
+            let shown = tools.bells.shown(who);
             if hall.stopped(&mut self.pass) {
                 return End::Over;
             }
-            let shown = tools.bells.shown(who);
             if who == closing && !tools.bells.is_quiet() {
                 tools.bells.sleep(tools.rt, who, shown);
                 continue;
