@@ -302,13 +302,15 @@ mouse_window windows trees message p under post e =
     let same : at.from.0 ≡ post.window = ap (λ (x : Post). x.window) placed.is in
     omega arith
 
+no_some : {A X : Type 0} (a : A) → Some a ≡ None → X
+no_some a e = (cc)
+
 two_posts : (s : State) (old new : Option Post) → ((post : Post) → old ≡ Some post → post.window < length s.ports)
     → option_and_then (outcome_in s.ports) (slice_get (option_to_list old ++ option_to_list new) 0) ≡ None → slice_get (option_to_list old ++ option_to_list new) 1 ≡ None
 two_posts s (Some post) new within none =
     let port = there s.ports post.window (within post refl) in
     let some = ap (option_map (λ (p : Port Message). (post.window, judged p 0))) port.read in
-    let no : Some (post.window, judged port.element 0) ≡ None = sym some ∙ none in
-    absurd (cc)
+    no_some (post.window, judged port.element 0) (sym some ∙ none)
 two_posts s None new within none = option_alone new
 
 move_sole : (s : State) (same : Bool) (inside old new : Option Post) → ((post : Post) → old ≡ Some post → post.window < length s.ports)

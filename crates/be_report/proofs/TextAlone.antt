@@ -121,6 +121,9 @@ record IsToldWhole (d : Declared) (text : List ℕ) (h : List Entry) : Type 0 wh
   is : text ≡ history_text d h ++ traces_line ++ rest
   each : All (IsPossible d) h
 
+regrouped : (a b c rest : List ℕ) → a ++ ((b ++ c) ++ rest) ≡ ((a ++ b) ++ c) ++ rest
+regrouped a b c rest = sym (append_assoc a (b ++ c) rest) ∙ ap (λ (front : List ℕ). front ++ rest) (sym (append_assoc a b c))
+
 promise_read : (d : Declared) (text : List ℕ) (line : Line) (lines : List Line) (h : List Entry) (n : ℕ) → length h < 2 ^ 64 → lines_of text ≡ line ∷ lines → promised line ≡ Some n → entries_in d n 1 lines ≡ Ok h → IsToldWhole d text h
 unfolding history_text
 promise_read d text line lines h n small at promise said =
@@ -136,8 +139,7 @@ promise_read d text line lines h n small at promise said =
     let heads = line_of (codes "history" ∷ decimal (length h) ∷ []) in
     record {
       rest = behind.rest;
-      is = front.is ∙ ap (λ (b : List ℕ). heads ++ b) behind.is ∙ sym (append_assoc heads (entries_from d 1 h ++ traces_line) behind.rest)
-          ∙ ap (λ (b : List ℕ). b ++ behind.rest) (sym (append_assoc heads (entries_from d 1 h) traces_line));
+      is = front.is ∙ ap (λ (b : List ℕ). heads ++ b) behind.is ∙ regrouped heads (entries_from d 1 h) traces_line behind.rest;
       each = behind.each;
     }
 
