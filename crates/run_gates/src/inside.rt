@@ -1,6 +1,6 @@
 ghost use Rattle.std.specs.Prelude.{◌≡◌, IfOk};
 ghost use Rattle.run_gates.specs.Counted.{activities_of};
-ghost use Rattle.run_gates.specs.Visited.{inside_visits};
+ghost use Rattle.run_gates.specs.Visited.{held_pair, inside_visits};
 
 use crate::meeting::Meeting;
 use crate::visits::Visits;
@@ -22,7 +22,8 @@ pub struct HoldsInside {
 
 impl HoldsInside {
     pub fn new(alloc: Global, activities: u32, pair: (u32, u32)) -> Result<HoldsInside, NoMemory>
-        ensures { IfOk result (λ gate. activities_of (inside_visits gate) ≡ activities) }
+        ensures counts { IfOk result (λ gate. activities_of (inside_visits gate) ≡ activities) }
+        ensures holds { IfOk result (λ gate. held_pair gate ≡ pair) }
     {
         Ok(HoldsInside {
             visits: Visits::new(alloc, activities)?,
