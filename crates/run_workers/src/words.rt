@@ -18,7 +18,10 @@ pub fn read_words(words: &[String<Global>]) -> Option<Orders> {
     };
     Some(Orders {
         driver,
-        world: world_of(producers.parse::<u16>().ok()?, consumers.parse::<u16>().ok()?)?,
+        world: world_of(
+            producers.parse::<u16>().ok()?,
+            consumers.parse::<u16>().ok()?,
+        )?,
         each: each.parse::<u32>().ok()?,
         work: work.parse::<u32>().ok()?,
         runs: runs.parse::<u32>().ok()?,

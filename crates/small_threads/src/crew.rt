@@ -27,7 +27,10 @@ pub(crate) fn work_all<R: Threads + Wait + Sync, G: Gate + Sync>(
         hall.now workers.old }
     ensures { All (IsDone (λ x. count_of x) (λ step. is_close step) hall.now) workers.new }
 {
-    thread::for_each_mut(rt, workers, threads, &|_, worker: &mut Worker<World>| {
-        work(rt, gate, hall, bells, worker)
-    });
+    thread::for_each_mut(
+        rt,
+        workers,
+        threads,
+        &|_, worker: &mut Worker<World>| { work(rt, gate, hall, bells, worker) },
+    );
 }

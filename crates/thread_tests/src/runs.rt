@@ -94,7 +94,10 @@ pub(crate) fn check_history(
 ) -> Result<(), AllocError> {
     let mut tally = Tally::new(alloc, made.world, size.each)?;
     for (number, step) in made.history.iter().enumerate() {
-        assert!(rt; tally.make(*step).is_some(), "{step:?} at {number} of {size:?}");
+        assert!(rt;
+            tally.make(*step).is_some(),
+            "{step:?} at {number} of {size:?}"
+        );
     }
     assert!(rt; tally.is_over(), "{size:?}");
     let steps = 2 * u64::from(size.producers) * u64::from(size.each) + 1;
@@ -105,7 +108,11 @@ pub(crate) fn check_history(
 }
 
 fn check_parts(rt: &impl Abort, size: Size, parts: &Vec<Counter>) {
-    assert_eq!(rt; parts.len() as u64, u64::from(size.activities()), "{size:?}");
+    assert_eq!(rt;
+        parts.len() as u64,
+        u64::from(size.activities()),
+        "{size:?}"
+    );
     for part in parts {
         let count = part.count();
         assert_eq!(rt; (count.left, count.units), (0, 0), "{size:?}");

@@ -10,7 +10,7 @@ returns-clause-finished g c =
     let hall = c.in_ok-hall.hall in
     let begun = ap (λ about. about.opening) c.in_ok-hall.ensures.opened in
     let ran = subst (λ w. IfOk c.finish.result (λ r. IsFinished (passing w) (λ step. is_close step)
-        (opened count_of hall).opening r.history.items (map count_of r.parts.items)))
-        c.in_ok-hall.ensures.rules c.finish.ensures.finished in
+    (opened count_of hall).opening r.history.items (map count_of r.parts.items)))
+    c.in_ok-hall.ensures.rules c.finish.ensures.finished in
     subst (λ counts. IfOk c.finish.result (λ r. IsFinished (passing c.args.world)
-        (λ step. is_close step) counts r.history.items (map count_of r.parts.items))) begun ran
+    (λ step. is_close step) counts r.history.items (map count_of r.parts.items))) begun ran
