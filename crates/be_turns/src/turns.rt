@@ -49,7 +49,7 @@ pub trait Turns: Parts {
         ensures { IfOk result (Tells (Self.machine self.now) (legal self.now) activity (meant Self.meaning held.now.parts)) };
 
     /// Whether the activity has a legal entry, where all parts are in hand. It takes no memory, and is
-    /// what a run on one thread asks of each activity before each entry.
+    /// what a run on one thread asks before an entry.
     fn has_entry(&self, activity: u32, held: &Held<Self::Part>) -> bool
         requires there { activity < activities self.now }
         requires all { places_of held.now.parts ≡ up_from 0 (Self.machine self.now).places }

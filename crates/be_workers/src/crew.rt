@@ -1,7 +1,7 @@
 //! All workers, one for each activity.
 ghost use Rattle.std.specs.Prelude.{◌≡◌, All, IfOk};
 ghost use Rattle.be_hall.specs.Hands.{up_from};
-ghost use Rattle.be_hall.specs.Words.{IsPassOf, hands_of, rules_of, view_of};
+ghost use Rattle.be_hall.specs.Words.{IsPassOf, hands_of, rules_of};
 ghost use Rattle.be_workers.specs.Turned.{IsFresh, KeepsCommits};
 ghost use Rattle.be_workers.specs.Workers.{AreWorkers, IsDone, IsWorker, MayEnd, whose};
 
