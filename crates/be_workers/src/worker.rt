@@ -36,8 +36,10 @@ pub struct Worker<W: Turns> {
     pub end: End,
 }
 
-// How often a worker that has nothing to do lets others run before it sleeps.
-const TRIES: u32 = 2;
+// How often a worker that has nothing to do looks at its bell, and lets others run, before it
+// sleeps. To be woken costs more than a step: two that pass on to each other are mostly rung while
+// they look.
+const LOOKS: u32 = 16;
 
 impl<W: Turns + Drop> Worker<W> {
     /// Makes turns until it is told to stop, its activity is over, the closing entry was made or it
@@ -54,9 +56,8 @@ impl<W: Turns + Drop> Worker<W> {
     {
         let who = self.who;
         let closing = hall.rules().activities() - 1;
-        let mut idle = 0u32;
         for _ in tools.rt.forever() {
-            // Stop is raised before all bells are rung: whoever reads his bell first sees one of them.
+            // The bell is read first: once stop is raised all bells are rung.
             let shown = tools.bells.shown(who);
             if hall.stopped(&mut self.pass) {
                 return End::Over;
@@ -66,8 +67,8 @@ impl<W: Turns + Drop> Worker<W> {
                 continue;
             }
             match self.step(tools, hall) {
-                Ok(Did::Made) => idle = 0,
-                Ok(Did::Nothing) => idle = pause(tools, who, closing, idle, shown),
+                Ok(Did::Made) => {}
+                Ok(Did::Nothing) => pause(tools, who, closing, shown),
                 Ok(Did::Over) => return End::Over,
                 Ok(Did::Closed) => {
                     end_all(hall, tools.bells, &mut self.pass);
@@ -146,22 +147,19 @@ impl<W: Turns + Drop> Worker<W> {
     }
 }
 
-// Lets others run, and sleeps after some such pauses in a row. It answers how many there were. Who
-// changes a part rings those that look at it, and the last to fall asleep rings the closing worker:
-// while that hasn't begun nobody sleeps.
-fn pause<R: Wait, G>(
-    tools: &Tools<'_, R, G>,
-    who: u32,
-    closing: u32,
-    idle: u32,
-    shown: u64,
-) -> u32 {
-    if idle < TRIES || !tools.bells.has_begun(closing) {
+// Lets others run until the bell is rung, and sleeps after some such looks. Who changes a part
+// rings those that look at it, and the last to fall asleep rings the closing worker: while that
+// hasn't begun nobody sleeps.
+fn pause<R: Wait, G>(tools: &Tools<'_, R, G>, who: u32, closing: u32, shown: u64) {
+    for _look in 0..LOOKS {
+        if tools.bells.shown(who) != shown {
+            return;
+        }
         thread::yield_now();
-        return idle.saturating_add(1);
     }
-    tools.bells.sleep(tools.rt, who, shown);
-    idle
+    if tools.bells.has_begun(closing) {
+        tools.bells.sleep(tools.rt, who, shown);
+    }
 }
 
 // Tells all workers to stop, and wakes them.
