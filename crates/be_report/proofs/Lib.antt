@@ -16,3 +16,4 @@ pub mod LegalActs
 pub mod LegalHistories
 pub mod FoundActors
 pub mod WriteLemmas
+pub mod MessageLemmas

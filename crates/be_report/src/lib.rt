@@ -8,6 +8,7 @@ mod history;
 mod kind;
 mod laws;
 mod line;
+mod message;
 mod naming;
 mod page;
 mod reading;
@@ -20,5 +21,6 @@ pub use laws::{
     a_history_is_told_by_its_text, a_report_tells_its_history,
     a_text_that_tells_none_breaks_at_a_line, an_entry_has_one_line,
 };
+pub use message::write_message;
 pub use page::Page;
 pub use writing::write_history;

@@ -1,8 +1,9 @@
 ghost use Rattle.std.specs.Prelude.{◌≡◌, ℕ, List, [], ◌∷◌, ◌++◌, OnOk};
-ghost use Rattle.std.specs.Fmt.{decimal};
+ghost use Rattle.std.specs.Fmt.{decimal, signed_decimal};
+ghost use Rattle.be_lex.specs.Codes.{code_text};
 
 use be_geom::NoMemory;
-use be_lex::write_natural;
+use be_lex::{write_code, write_natural, write_number};
 use std::alloc::Global;
 use std::marker::Model;
 
@@ -45,6 +46,20 @@ impl Page {
         ensures { OnOk result (self.new ≡ self.old ++ decimal number) }
     {
         write_natural(&mut self.bytes, number)
+    }
+
+    /// A number, `-` before a negative one.
+    pub(crate) fn signed(&mut self, number: i64) -> Result<(), NoMemory>
+        ensures { OnOk result (self.new ≡ self.old ++ signed_decimal number) }
+    {
+        write_number(&mut self.bytes, number)
+    }
+
+    /// The four letters of a code.
+    pub(crate) fn code(&mut self, code: u32) -> Result<(), NoMemory>
+        ensures { OnOk result (self.new ≡ self.old ++ code_text code) }
+    {
+        write_code(&mut self.bytes, code)
     }
 
     /// A word behind others.

@@ -3,3 +3,5 @@
 
 #[cfg(test)]
 mod history;
+#[cfg(test)]
+mod message;
