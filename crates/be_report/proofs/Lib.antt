@@ -17,3 +17,4 @@ pub mod LegalHistories
 pub mod FoundActors
 pub mod WriteLemmas
 pub mod MessageLemmas
+pub mod ScreenRows

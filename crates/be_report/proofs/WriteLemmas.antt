@@ -23,7 +23,7 @@ mapped (Err e) P Q is f = tt
 pub same_text : {E : Type 0} (r : Result (Unit {0}) E) (old new a b : List ℕ) → OnOk r (new ≡ old ++ a) → a ≡ b → OnOk r (new ≡ old ++ b)
 same_text r old new a b is same = subst (λ (text : List ℕ). OnOk r (new ≡ old ++ text)) same is
 
-appended : (old mid new a b : List ℕ) → mid ≡ old ++ a → new ≡ mid ++ b → new ≡ old ++ (a ++ b)
+pub appended : (old mid new a b : List ℕ) → mid ≡ old ++ a → new ≡ mid ++ b → new ≡ old ++ (a ++ b)
 appended old mid new a b e k = k ∙ ap (λ (text : List ℕ). text ++ b) e ∙ append_assoc old a b
 
 -- ---- lines
@@ -32,7 +32,7 @@ join_behind : (w : List ℕ) (ws : List (List ℕ)) → join_with_byte 32 (w ∷
 join_behind w [] = sym (append-nil w)
 join_behind w (v ∷ vs) = ap (λ (b : List ℕ). w ++ (32 ∷ b)) (join_behind v vs)
 
-line_behind : (w : List ℕ) (ws : List (List ℕ)) → line_of (w ∷ ws) ≡ (w ++ behind ws) ++ 10 ∷ []
+pub line_behind : (w : List ℕ) (ws : List (List ℕ)) → line_of (w ∷ ws) ≡ (w ++ behind ws) ++ 10 ∷ []
 unfolding line_of
 line_behind w ws = ap (λ (b : List ℕ). b ++ 10 ∷ []) (join_behind w ws)
 
@@ -110,7 +110,7 @@ none_at d n k e le = behind_windows d n k e ∙ past_last k le
 
 -- ---- entries
 
-line_written : (old one two new word : List ℕ) (words : List (List ℕ)) → one ≡ old ++ word → two ≡ one ++ behind words → new ≡ two ++ 10 ∷ [] → new ≡ old ++ line_of (word ∷ words)
+pub line_written : (old one two new word : List ℕ) (words : List (List ℕ)) → one ≡ old ++ word → two ≡ one ++ behind words → new ≡ two ++ 10 ∷ [] → new ≡ old ++ line_of (word ∷ words)
 line_written old one two new word words first second third =
     appended old two new (word ++ behind words) (10 ∷ []) (appended old one two word (behind words) first second) third ∙ ap (λ (text : List ℕ). old ++ text) (sym (line_behind word words))
 

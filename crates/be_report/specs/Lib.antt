@@ -4,6 +4,7 @@ pub mod EntryText
 pub mod MessageText
 pub mod TraceText
 pub mod ScreenText
+pub mod Screens
 pub mod Report
 pub mod Readers
 pub mod Entries

@@ -12,6 +12,7 @@ mod message;
 mod naming;
 mod page;
 mod reading;
+mod screen;
 mod spaced;
 mod word;
 mod writing;
@@ -23,4 +24,5 @@ pub use laws::{
 };
 pub use message::write_message;
 pub use page::Page;
+pub use screen::{Run, Screen, write_screen};
 pub use writing::write_history;

@@ -1,9 +1,11 @@
 ghost use Rattle.std.specs.Prelude.{◌≡◌, ℕ, List, [], ◌∷◌, ◌++◌, OnOk};
 ghost use Rattle.std.specs.Fmt.{decimal, signed_decimal};
 ghost use Rattle.be_lex.specs.Codes.{code_text};
+ghost use Rattle.be_lex.specs.Colors.{rgb_text};
 
+use be_color::Rgb;
 use be_geom::NoMemory;
-use be_lex::{write_code, write_natural, write_number};
+use be_lex::{write_code, write_natural, write_number, write_rgb};
 use std::alloc::Global;
 use std::marker::Model;
 
@@ -60,6 +62,13 @@ impl Page {
         ensures { OnOk result (self.new ≡ self.old ++ code_text code) }
     {
         write_code(&mut self.bytes, code)
+    }
+
+    /// A colour, by its six digits.
+    pub(crate) fn rgb(&mut self, rgb: Rgb) -> Result<(), NoMemory>
+        ensures { OnOk result (self.new ≡ self.old ++ rgb_text rgb) }
+    {
+        write_rgb(&mut self.bytes, rgb)
     }
 
     /// A word behind others.
