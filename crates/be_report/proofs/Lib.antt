@@ -18,3 +18,4 @@ pub mod FoundActors
 pub mod WriteLemmas
 pub mod MessageLemmas
 pub mod ScreenRows
+pub mod TakenLemmas

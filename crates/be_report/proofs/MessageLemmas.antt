@@ -1,10 +1,9 @@
 -- A message is written piece by piece.
-use Rattle.std.proofs.Common.{◌≡◌, ℕ, zero, suc, ◌+◌, ◌<◌, ◌≤◌, List, [], ◌∷◌, ◌++◌, length, get_or, drop, Result, OnOk, codes, refl, sym, ap, subst, ◌∙◌, arith, append_assoc, append-nil}
+use Rattle.std.proofs.Common.{◌≡◌, ℕ, zero, suc, ◌+◌, ◌<◌, ◌≤◌, List, [], ◌∷◌, ◌++◌, length, get_or, drop, Result, OnOk, codes, refl, sym, ap, ◌∙◌, arith, append_assoc, append-nil}
 use Rattle.std.proofs.lemmas.List.{drop_all, drop_more}
 use Rattle.be_flat.specs.Codes.{code_of}
 use Rattle.be_lex.specs.Codes as lex
 use Rattle.be_message.specs.declared.field.Field as declared
-use Rattle.be_message.specs.declared.kind.Kind.{Kind}
 use Rattle.be_message.specs.declared.value.Value.{Value}
 use Rattle.be_message.specs.Depths.{datum_depth, values_depth, fields_depth}
 use Rattle.be_message.specs.Messages.{Datum, Field, Message, all_values, all_fields, packed}

@@ -3,6 +3,7 @@ pub mod Names
 pub mod EntryText
 pub mod MessageText
 pub mod TraceText
+pub mod Takings
 pub mod ScreenText
 pub mod Screens
 pub mod Report

@@ -14,6 +14,7 @@ mod page;
 mod reading;
 mod screen;
 mod spaced;
+mod taken;
 mod word;
 mod writing;
 
@@ -25,4 +26,5 @@ pub use laws::{
 pub use message::write_message;
 pub use page::Page;
 pub use screen::{Run, Screen, write_screen};
+pub use taken::{Runner, Taken, write_taken};
 pub use writing::write_history;

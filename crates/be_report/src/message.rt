@@ -20,7 +20,7 @@ pub fn write_message(page: &mut Page, message: &Message) -> Result<(), NoMemory>
 }
 
 #[cycle(message)]
-fn write_fields(page: &mut Page, fields: &[Field]) -> Result<(), NoMemory>
+pub(crate) fn write_fields(page: &mut Page, fields: &[Field]) -> Result<(), NoMemory>
     ensures { OnOk result (page.new
         ≡ page.old ++ fields_text (all_fields (seen_fields fields.now))) }
 {

@@ -9,8 +9,8 @@ use be_lex::{write_code, write_natural, write_number, write_rgb};
 use std::alloc::Global;
 use std::marker::Model;
 
-/// Text that is put together piece by piece, seen as its bytes. Where there is no memory for a piece
-/// it is open what was added.
+/// Text that is put together piece by piece, seen as its bytes. Where there is no memory for a
+/// piece it is open what was added.
 #[derive(Drop)]
 pub struct Page {
     bytes: Vec<u8>,

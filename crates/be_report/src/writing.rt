@@ -65,7 +65,7 @@ fn write_actor(page: &mut Page, script: &Script, actor: u32) -> Result<(), NoMem
     }
 }
 
-fn write_named(page: &mut Page, kind: &[u8], name: &[u8]) -> Result<(), NoMemory>
+pub(crate) fn write_named(page: &mut Page, kind: &[u8], name: &[u8]) -> Result<(), NoMemory>
     ensures { OnOk result (page.new ≡ page.old ++ 32 ∷ (kind.now ++ name.now)) }
 {
     page.word(kind)?;
@@ -212,7 +212,7 @@ fn end_word(answer: EndAnswer) -> &'static [u8]
 }
 
 /// The name of a window, or nothing where there is none.
-fn window_name(script: &Script, window: usize) -> &[u8]
+pub(crate) fn window_name(script: &Script, window: usize) -> &[u8]
     ensures { result.now ≡ window_name (declared_by script.now) window }
 {
     match script.windows.get(window) {
@@ -222,7 +222,7 @@ fn window_name(script: &Script, window: usize) -> &[u8]
 }
 
 /// The name of an application, or nothing where there is none.
-fn app_name(script: &Script, app: usize) -> &[u8]
+pub(crate) fn app_name(script: &Script, app: usize) -> &[u8]
     ensures { result.now ≡ app_name (declared_by script.now) app }
 {
     match script.apps.get(app) {

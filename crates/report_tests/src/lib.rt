@@ -5,3 +5,5 @@
 mod history;
 #[cfg(test)]
 mod message;
+#[cfg(test)]
+mod taken;
