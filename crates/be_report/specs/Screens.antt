@@ -20,4 +20,6 @@ row_at width row cells = take width (drop (row * width) cells)
 
 -- the longest run of one colour that begins at this column of the row
 abbrev pub IsLongest : List Cell → ℕ → Run → Type 0
-IsLongest row column run = runs_of (drop column row) ≡ record { count = run.end - column; rgb = run.rgb } ∷ runs_of (drop run.end row)
+IsLongest row column run =
+    runs_of (drop column row)
+    ≡ record { count = run.end - column; rgb = run.rgb } ∷ runs_of (drop run.end row)

@@ -1,7 +1,7 @@
-//! The text of a report: its history, written and read.
+//! The text of a report: its history, written and read, and its screen, written.
 //!
 //! A history is read in one pass over its bytes, line by line. To find the name of a window or of an
-//! activity takes a look at each of its kind.
+//! activity takes a look at each of its kind. A screen is written in one pass over its runs.
 #![tactic(auto)]
 
 mod history;

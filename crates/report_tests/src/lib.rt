@@ -6,4 +6,8 @@ mod history;
 #[cfg(test)]
 mod message;
 #[cfg(test)]
+mod pixels;
+#[cfg(test)]
+mod screen;
+#[cfg(test)]
 mod taken;
