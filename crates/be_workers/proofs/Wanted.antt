@@ -1,10 +1,13 @@
 -- The places that a turn wants.
 use Rattle.std.proofs.Common.{◌≡◌, ℕ, zero, suc, ◌+◌, ◌<◌, ◌≤◌, ◌-◌, inl, inr, Bool, true, false}
-use Rattle.std.proofs.Common.{◌||◌}
+use Rattle.std.proofs.Common.{◌||◌, ◌&&◌}
 use Rattle.std.proofs.Common.{◌==◌, nat_lt, cond, List, [], ◌∷◌, ◌++◌, length, filter, All}
-use Rattle.std.proofs.Common.{Contains, refl, sym, ap, ◌∙◌, subst, append-nil, eq-eqb, arith}
+use Rattle.std.proofs.Common.{Contains, get_or, refl, sym, ap, ◌∙◌, subst, append-nil, eq-eqb}
+use Rattle.std.proofs.Common.{arith}
+use Rattle.std.specs.Prelude.{insert}
+use Rattle.std.proofs.lemmas.Bool.Decides.{nat_tests}
 use Rattle.std.specs.List.{list_any}
-use Rattle.std.proofs.lemmas.List.Elements.{All-nil, All-cons, All-weaker, All-contains, All-filter}
+use Rattle.std.proofs.lemmas.List.Elements.{All-nil, All-cons, All-head, All-tail, All-weaker, All-contains, All-filter}
 use Rattle.std.proofs.lemmas.List.Elements.{Contains-push, Contains-append_left, filter-append}
 use mathlib.Core.Logic.{dite}
 use native.Mathlib.Decide.{dec_le}
@@ -12,7 +15,8 @@ use Rattle.be_hall.proofs.Rising.{both_true, other_true, both_hold, less_than, i
 use Rattle.be_hall.proofs.UpFrom.{up_rises, up_below, up_snoc}
 use Rattle.be_hall.specs.Hands.{rises_from, up_from, places_of, meant}
 use Rattle.be_hall.specs.Machine.{IsHeld}
-use Rattle.be_workers.specs.Wanted.{is_wanted, wanted_below, pushed}
+use Rattle.be_workers.specs.Wanted.{below, inserted, is_wanted, pushed}
+use Rattle.be_workers.specs.Wanted.{stands_at, wanted_below}
 
 pub longer : {A : Type 0} (xs : List A) (x : A) → length (xs ++ x ∷ []) ≡ length xs + 1
 longer [] x = refl
@@ -219,6 +223,183 @@ pub record Grown (n : ℕ) (more ps : List ℕ) (p : ℕ) (ws : List ℕ) : Type
   pub few : length more < n
   pub less : n - length ws < n - length ps
   pub kept : length (more ++ p ∷ []) ≤ length ws
+
+pub or_none : (b : Bool) → (b || false) ≡ b
+or_none true = refl
+or_none false = refl
+
+differ : (p n : ℕ) → (p ≡ n → ⊥) → (p == n) ≡ false
+differ p n h = grind (arith, nat_tests, h)
+
+other_false : (a b : Bool) → (a && b) ≡ false → a ≡ true → b ≡ false
+other_false true b h e = h
+other_false false b h e = absurd (no_false e)
+
+one_more : (k : ℕ) → 1 + k ≡ suc k
+one_more k = omega arith
+
+module _ (p : ℕ) where
+  there_step : (b c : Bool) (q k : ℕ) (qs ys : List ℕ) → (q == p) ≡ c
+      → (k < length qs → (get_or qs k 0 == p) ≡ true → qs ≡ ys)
+      → cond b (1 + k) 0 < length (q ∷ qs)
+      → (get_or (q ∷ qs) (cond b (1 + k) 0) 0 == p) ≡ true
+      → q ∷ qs ≡ cond b (q ∷ ys) (cond c (q ∷ qs) (p ∷ q ∷ qs))
+  there_step true c q k qs ys e rest l is =
+      let s : 1 + k < suc (length qs) = l in
+      ap (λ r. q ∷ r) (rest (omega arith)
+      (subst (λ n. (get_or (q ∷ qs) n 0 == p) ≡ true) (one_more k) is))
+  there_step false true q k qs ys e rest l is = refl
+  there_step false false q k qs ys e rest l is = absurd (no_false (sym e ∙ is))
+
+  before_there : (qs : List ℕ) → below p qs < length qs
+      → (get_or qs (below p qs) 0 == p) ≡ true → qs ≡ inserted p qs
+  before_there [] l is = let k : 0 < 0 = l in absurd (omega arith)
+  before_there (q ∷ qs) l is = there_step (nat_lt q p) (q == p) q (below p qs) qs (inserted p qs)
+      refl (before_there qs) l is
+
+  pub inserted_there : (qs : List ℕ) → stands_at qs (below p qs) p ≡ true → qs ≡ inserted p qs
+  inserted_there qs h = before_there qs (is_less (below p qs) (length qs)
+      (both_true (nat_lt (below p qs) (length qs)) _ h))
+      (other_true (nat_lt (below p qs) (length qs)) _ h)
+
+  new_step : (b c : Bool) (q k : ℕ) (qs ys : List ℕ) → (q == p) ≡ c
+      → ((k < length qs → (get_or qs k 0 == p) ≡ false) → insert qs k p ≡ ys)
+      → (cond b (1 + k) 0 < length (q ∷ qs)
+      → (get_or (q ∷ qs) (cond b (1 + k) 0) 0 == p) ≡ false)
+      → insert (q ∷ qs) (cond b (1 + k) 0) p ≡ cond b (q ∷ ys) (cond c (q ∷ qs) (p ∷ q ∷ qs))
+  new_step true c q k qs ys e rest is =
+      subst (λ n. insert (q ∷ qs) n p ≡ q ∷ ys) (sym (one_more k)) (ap (λ r. q ∷ r) (rest (λ l.
+      let s : 1 + k < suc (length qs) = omega arith in
+      subst (λ n. (get_or (q ∷ qs) n 0 == p) ≡ false) (one_more k) (is s))))
+  new_step false true q k qs ys e rest is =
+      let s : 0 < suc (length qs) = omega arith in absurd (no_false (sym (is s) ∙ e))
+  new_step false false q k qs ys e rest is = refl
+
+  before_new : (qs : List ℕ)
+      → (below p qs < length qs → (get_or qs (below p qs) 0 == p) ≡ false)
+      → insert qs (below p qs) p ≡ inserted p qs
+  before_new [] is = refl
+  before_new (q ∷ qs) is = new_step (nat_lt q p) (q == p) q (below p qs) qs (inserted p qs)
+      refl (before_new qs) is
+
+  pub inserted_new : (qs : List ℕ) → stands_at qs (below p qs) p ≡ false
+      → insert qs (below p qs) p ≡ inserted p qs
+  inserted_new qs h = before_new qs (λ l.
+      other_false (nat_lt (below p qs) (length qs)) _ h (less_than (below p qs) (length qs) l))
+
+any_other : (p n : ℕ) (xs : List ℕ) → (p == n) ≡ false
+    → list_any (λ q. q == n) (xs ++ p ∷ []) ≡ list_any (λ q. q == n) xs
+any_other p n [] e = ap (λ (b : Bool). b || false) e
+any_other p n (x ∷ xs) e = ap (λ (b : Bool). (x == n) || b) (any_other p n xs e)
+
+back_step : (b c : Bool) (p n q : ℕ) (qs ys zs : List ℕ) → zs ≡ ys ++ n ∷ []
+    → cond b (q ∷ zs) (cond c (q ∷ qs ++ n ∷ []) (p ∷ q ∷ qs ++ n ∷ []))
+    ≡ cond b (q ∷ ys) (cond c (q ∷ qs) (p ∷ q ∷ qs)) ++ n ∷ []
+back_step true c p n q qs ys zs e = ap (λ r. q ∷ r) e
+back_step false true p n q qs ys zs e = refl
+back_step false false p n q qs ys zs e = refl
+
+-- a greater number behind all
+front_end : (b c : Bool) (p n : ℕ) → b ≡ false → c ≡ false
+    → cond b (n ∷ p ∷ []) (cond c (n ∷ []) (p ∷ n ∷ [])) ≡ p ∷ n ∷ []
+front_end true c p n e f = absurd (no_false (sym e))
+front_end false true p n e f = absurd (no_false (sym f))
+front_end false false p n e f = refl
+
+less_not : (p n : ℕ) → p < n → nat_lt n p ≡ false
+less_not p n h = grind (arith, nat_tests)
+
+inserted_back : (p n : ℕ) (xs : List ℕ) → p < n → inserted p (xs ++ n ∷ []) ≡ inserted p xs ++ n ∷ []
+inserted_back p n [] h = front_end (nat_lt n p) (n == p) p n (less_not p n h)
+    (differ n p (λ e. omega (arith, e)))
+inserted_back p n (x ∷ xs) h = back_step (nat_lt x p) (x == p) p n x xs (inserted p xs) _
+    (inserted_back p n xs h)
+
+-- a number that is greater than all
+last_step : (b c : Bool) (n x : ℕ) (xs ys : List ℕ) → b ≡ true → ys ≡ xs ++ n ∷ []
+    → cond b (x ∷ ys) (cond c (x ∷ xs) (n ∷ x ∷ xs)) ≡ x ∷ xs ++ n ∷ []
+last_step true c n x xs ys e f = ap (λ r. x ∷ r) f
+last_step false c n x xs ys e f = absurd (no_false e)
+
+inserted_last : (n : ℕ) (xs : List ℕ) → All (λ p. p < n) xs → inserted n xs ≡ xs ++ n ∷ []
+inserted_last n [] h = refl
+inserted_last n (x ∷ xs) h = last_step (nat_lt x n) (x == n) n x xs (inserted n xs)
+    (less_than x n (All-head (λ p. p < n) x xs h))
+    (inserted_last n xs (All-tail (λ p. p < n) x xs h))
+
+-- the greatest one, which is there
+kept_step : (b c : Bool) (n x : ℕ) (xs ys : List ℕ) → b ≡ true → ys ≡ xs
+    → cond b (x ∷ ys) (cond c (x ∷ xs) (n ∷ x ∷ xs)) ≡ x ∷ xs
+kept_step true c n x xs ys e f = ap (λ r. x ∷ r) f
+kept_step false c n x xs ys e f = absurd (no_false e)
+
+same_end : (b c : Bool) (n : ℕ) → b ≡ false → c ≡ true
+    → cond b (n ∷ n ∷ []) (cond c (n ∷ []) (n ∷ n ∷ [])) ≡ n ∷ []
+same_end true c n e f = absurd (no_false (sym e))
+same_end false true n e f = refl
+same_end false false n e f = absurd (no_false f)
+
+inserted_kept : (n : ℕ) (xs : List ℕ) → All (λ p. p < n) xs
+    → inserted n (xs ++ n ∷ []) ≡ xs ++ n ∷ []
+inserted_kept n [] h = same_end (nat_lt n n) (n == n) n (grind (arith, nat_tests)) (eq-eqb n n refl)
+inserted_kept n (x ∷ xs) h = kept_step (nat_lt x n) (x == n) n x (xs ++ n ∷ []) _
+    (less_than x n (All-head (λ p. p < n) x xs h))
+    (inserted_kept n xs (All-tail (λ p. p < n) x xs h))
+
+inserted_pushed : (b : Bool) (n : ℕ) (xs : List ℕ) → All (λ p. p < n) xs
+    → pushed true xs n ≡ inserted n (pushed b xs n)
+inserted_pushed true n xs h = sym (inserted_kept n xs h)
+inserted_pushed false n xs h = sym (inserted_last n xs h)
+
+pushed_inserted : (b : Bool) (p n : ℕ) (xs : List ℕ) → p < n
+    → pushed b (inserted p xs) n ≡ inserted p (pushed b xs n)
+pushed_inserted true p n xs h = sym (inserted_back p n xs h)
+pushed_inserted false p n xs h = refl
+
+module _ (owns : ℕ → Bool) (more : List ℕ) (p : ℕ) where
+  is_other : (n : ℕ) → (p ≡ n → ⊥) → is_wanted owns (more ++ p ∷ []) n ≡ is_wanted owns more n
+  is_other n h = ap (λ (b : Bool). owns n || b) (any_other p n more (differ p n h))
+
+  next : (ms : List ℕ) (n : ℕ) → wanted_below owns ms (suc n)
+      ≡ pushed (is_wanted owns ms n) (wanted_below owns ms n) n
+  next ms n =
+      let e : suc n ≡ n + 1 = omega arith in ap (wanted_below owns ms) e ∙ wanted_next owns ms n
+
+  -- a number that isn't below adds nothing
+  pub with_none : (n : ℕ) → n ≤ p → wanted_below owns (more ++ p ∷ []) n ≡ wanted_below owns more n
+  with_none zero h = refl
+  with_none (suc n) h =
+      next (more ++ p ∷ []) n
+      ∙ (ap (λ (b : Bool). pushed b (wanted_below owns (more ++ p ∷ []) n) n)
+      (is_other n (λ e. omega (arith, e, h)))
+      ∙ (ap (λ (l : List ℕ). pushed (is_wanted owns more n) l n) (with_none n (omega arith))
+      ∙ sym (next more n)))
+
+  -- and one that is below is added in its place
+  pub with_one : (n : ℕ) → p < n
+      → wanted_below owns (more ++ p ∷ []) n ≡ inserted p (wanted_below owns more n)
+  with_one zero h = absurd (omega arith)
+  with_one (suc n) h = dite (dec_le n p)
+      (λ last.
+      let same : n ≡ p = omega arith in
+      let is : is_wanted owns (more ++ p ∷ []) n ≡ true =
+      or_other (owns n) _ (subst (λ (q : ℕ). list_any (λ r. r == q) (more ++ p ∷ []) ≡ true)
+      (sym same) (last_any more p)) in
+      next (more ++ p ∷ []) n
+      ∙ (ap (λ (b : Bool). pushed b (wanted_below owns (more ++ p ∷ []) n) n) is
+      ∙ (ap (λ (l : List ℕ). pushed true l n) (with_none n last)
+      ∙ (inserted_pushed (is_wanted owns more n) n (wanted_below owns more n)
+      (wanted_there owns more n)
+      ∙ (ap (λ (q : ℕ). inserted q (pushed (is_wanted owns more n) (wanted_below owns more n) n)) same
+      ∙ ap (inserted p) (sym (next more n)))))))
+      (λ before.
+      let less : p < n = omega arith in
+      next (more ++ p ∷ []) n
+      ∙ (ap (λ (b : Bool). pushed b (wanted_below owns (more ++ p ∷ []) n) n)
+      (is_other n (λ e. omega (arith, e, less)))
+      ∙ (ap (λ (l : List ℕ). pushed (is_wanted owns more n) l n) (with_one n less)
+      ∙ (pushed_inserted (is_wanted owns more n) p n (wanted_below owns more n) less
+      ∙ ap (inserted p) (sym (next more n))))))
 
 module _ {T M : Type 0} (f : T → M) where
   all_held : (held : List (ℕ × T)) → All (λ q. IsHeld (meant f held) q) (places_of held)

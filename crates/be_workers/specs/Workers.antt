@@ -10,29 +10,31 @@ use Rattle.be_workers.specs.declared.worker.End.{End}
 use Rattle.be_workers.specs.declared.worker.End.TheVariants as ends
 use Rattle.be_workers.specs.declared.worker.Worker.{Worker}
 use Rattle.be_workers.specs.Turned.{HasNone, HasStop, IsFree, Leaves}
-use Rattle.be_workers.specs.Wanted.{HasRoom}
+use Rattle.be_workers.specs.Wanted.{Suits}
 
 module _ {P T E R M : Type 0} {g : _} where
   -- The worker is one of the hall: its pass is free, its activity is there, and its turns have room
-  -- for all places.
+  -- for all places, and the right list of its own ones.
   abbrev pub IsWorker :
-      (P → Machine M E) → (T → M) → (P → ℕ) → Hall P T E R M g → Worker P T E R M g → Type 0
-  IsWorker machine meaning activities hall w =
+      (P → Machine M E) → (T → M) → (P → ℕ → ℕ → Bool) → (P → ℕ) → Hall P T E R M g
+      → Worker P T E R M g → Type 0
+  IsWorker machine meaning owns activities hall w =
       IsFree meaning hall w.pass × (w.who < activities (rules_of hall))
-      × HasRoom w.wants (machine (rules_of hall)).places
+      × Suits machine owns (rules_of hall) w.wants
 
   -- each of them is
   abbrev pub AreWorkers :
-      (P → Machine M E) → (T → M) → (P → ℕ) → Hall P T E R M g
+      (P → Machine M E) → (T → M) → (P → ℕ → ℕ → Bool) → (P → ℕ) → Hall P T E R M g
       → List (Worker P T E R M g) → Type 0
-  AreWorkers machine meaning activities hall ws = All (IsWorker machine meaning activities hall) ws
+  AreWorkers machine meaning owns activities hall ws =
+      All (IsWorker machine meaning owns activities hall) ws
 
   -- the worker stays one, of the same activity
   abbrev pub StaysWorker :
-      (P → Machine M E) → (T → M) → (P → ℕ) → Hall P T E R M g
+      (P → Machine M E) → (T → M) → (P → ℕ → ℕ → Bool) → (P → ℕ) → Hall P T E R M g
       → Worker P T E R M g → Worker P T E R M g → Type 0
-  StaysWorker machine meaning activities hall v w =
-      IsWorker machine meaning activities hall w × (w.who ≡ v.who)
+  StaysWorker machine meaning owns activities hall v w =
+      IsWorker machine meaning owns activities hall w × (w.who ≡ v.who)
 
   -- what a turn of the activity leaves of its pass's commits
   abbrev pub TurnOf :

@@ -28,7 +28,8 @@ pub fn hire<W: Turns + Drop>(
     ensures kept { KeepsCommits pass.old pass.new }
     ensures held { hands_of pass.new ≡ hands_of pass.old }
     ensures all { IfOk result (λ v. whose v.items ≡ up_from 0 (W.activities (rules_of hall.now))) }
-    ensures fit { IfOk result (λ v. AreWorkers W.machine W.meaning W.activities hall.now v.items) }
+    ensures fit { IfOk result
+        (λ v. AreWorkers W.machine W.meaning W.owns W.activities hall.now v.items) }
     ensures new { IfOk result (λ v. All (λ w. IsFresh w.pass) v.items) }
 {
     let places = hall.rules().places();
@@ -56,7 +57,7 @@ pub fn work<'a, R: Wait, G: Gate, W: Turns + Drop>(
     bells: &'a Bells,
     worker: &mut Worker<W>,
 )
-    requires { IsWorker W.machine W.meaning W.activities hall.now worker.old }
+    requires { IsWorker W.machine W.meaning W.owns W.activities hall.now worker.old }
     ensures done { IsDone W.meaning W.stops hall.now worker.new }
     ensures over { worker.new.end ≡ End.Over → MayEnd W.machine W.legal hall.now worker.new }
     ensures who { worker.new.who ≡ worker.old.who }

@@ -4,7 +4,7 @@ ghost use Rattle.be_hall.specs.Hands.{places_of, rises_from};
 ghost use Rattle.be_hall.specs.Words.{IsPassOf, in_hand, rules_of};
 ghost use Rattle.be_workers.specs.Turned.{AskedOf, HoldsOwn, IsFree, KeepsCommits, Leaves, MayAsk};
 ghost use Rattle.be_workers.specs.Turned.{NoneBy, Told, made_by};
-ghost use Rattle.be_workers.specs.Wanted.{HasRoom};
+ghost use Rattle.be_workers.specs.Wanted.{Suits};
 
 use crate::tools::Tools;
 use crate::wants::Wants;
@@ -140,9 +140,9 @@ pub(crate) fn take_turn<R: Wait, G: Gate, W: Turns + Drop>(
 ) -> Result<Did, NoMemory>
     requires pass { IsFree W.meaning hall.now pass.old }
     requires there { who < W.activities (rules_of hall.now) }
-    requires room { HasRoom wants.old (W.machine (rules_of hall.now)).places }
+    requires suits { Suits W.machine W.owns (rules_of hall.now) wants.old }
     ensures pass { IsFree W.meaning hall.now pass.new }
-    ensures room { HasRoom wants.new (W.machine (rules_of hall.now)).places }
+    ensures suits { Suits W.machine W.owns (rules_of hall.now) wants.new }
     ensures ok { IfOk result (Leaves W.machine W.legal W.stops hall.now who pass.old pass.new) }
     ensures none { IfOk result (NoneBy W.machine W.legal W.activities hall.now who) }
     ensures err { OnErr result (KeepsCommits pass.old pass.new) }

@@ -49,8 +49,9 @@ impl<W: Turns + Drop> Worker<W> {
         tools: &Tools<'_, R, G>,
         hall: &Hall<W>,
     ) -> End
-        requires { IsWorker W.machine W.meaning W.activities hall.now self.old }
-        ensures worker { StaysWorker W.machine W.meaning W.activities hall.now self.old self.new }
+        requires { IsWorker W.machine W.meaning W.owns W.activities hall.now self.old }
+        ensures worker { StaysWorker W.machine W.meaning W.owns W.activities
+            hall.now self.old self.new }
         ensures closed { result ≡ End.Closed → HasStop W.stops (view_of self.new.pass).own }
         ensures over { result ≡ End.Over → MayEnd W.machine W.legal hall.now self.new }
     {
@@ -90,8 +91,9 @@ impl<W: Turns + Drop> Worker<W> {
         tools: &Tools<'_, R, G>,
         hall: &Hall<W>,
     ) -> Result<Did, NoMemory>
-        requires { IsWorker W.machine W.meaning W.activities hall.now self.old }
-        ensures worker { StaysWorker W.machine W.meaning W.activities hall.now self.old self.new }
+        requires { IsWorker W.machine W.meaning W.owns W.activities hall.now self.old }
+        ensures worker { StaysWorker W.machine W.meaning W.owns W.activities
+            hall.now self.old self.new }
         ensures closed { IfOk result (OnClosed (HasStop W.stops (view_of self.new.pass).own)) }
         ensures over { IfOk result (OnOver (HasNone W.machine W.legal hall.now self.old.who)) }
     {
@@ -108,8 +110,9 @@ impl<W: Turns + Drop> Worker<W> {
         tools: &Tools<'_, R, G>,
         hall: &Hall<W>,
     ) -> Result<Did, NoMemory>
-        requires { IsWorker W.machine W.meaning W.activities hall.now self.old }
-        ensures worker { StaysWorker W.machine W.meaning W.activities hall.now self.old self.new }
+        requires { IsWorker W.machine W.meaning W.owns W.activities hall.now self.old }
+        ensures worker { StaysWorker W.machine W.meaning W.owns W.activities
+            hall.now self.old self.new }
         ensures closed { IfOk result (OnClosed (HasStop W.stops (view_of self.new.pass).own)) }
         ensures never_over { IfOk result (OnOver ⊥) }
     {
@@ -133,9 +136,10 @@ impl<W: Turns + Drop> Worker<W> {
         hall: &Hall<W>,
         who: u32,
     ) -> Result<Did, NoMemory>
-        requires worker { IsWorker W.machine W.meaning W.activities hall.now self.old }
+        requires worker { IsWorker W.machine W.meaning W.owns W.activities hall.now self.old }
         requires there { who < W.activities (rules_of hall.now) }
-        ensures worker { StaysWorker W.machine W.meaning W.activities hall.now self.old self.new }
+        ensures worker { StaysWorker W.machine W.meaning W.owns W.activities
+            hall.now self.old self.new }
         ensures ok { IfOk result (TurnOf W.machine W.legal W.stops hall.now who self.old self.new) }
         ensures none { IfOk result (NoneBy W.machine W.legal W.activities hall.now who) }
         ensures err { OnErr result (KeepsCommits self.old.pass self.new.pass) }

@@ -1,7 +1,7 @@
 //! All workers at once.
 ghost use Rattle.std.specs.Prelude.{◌+◌, ◌<◌, All};
 ghost use Rattle.be_workers.specs.Workers.{AreWorkers, IsDone};
-ghost use Rattle.small_world.specs.Counting.{closing_place, is_close, passing};
+ghost use Rattle.small_world.specs.Counting.{closing_place, is_close, is_wanted, passing};
 ghost use Rattle.small_world.specs.Counters.{count_of};
 
 use be_bells::Bells;
@@ -23,7 +23,8 @@ pub(crate) fn work_all<R: Threads + Wait + Sync, G: Gate + Sync>(
     threads: usize,
 )
     requires threads { 0 < threads }
-    requires workers { AreWorkers (λ w. passing w) (λ x. count_of x) (λ w. closing_place w + 1)
+    requires workers { AreWorkers (λ w. passing w) (λ x. count_of x)
+        (λ w activity place. is_wanted w activity place) (λ w. closing_place w + 1)
         hall.now workers.old }
     ensures { All (IsDone (λ x. count_of x) (λ step. is_close step) hall.now) workers.new }
 {

@@ -8,7 +8,7 @@ use Rattle.be_workers.proofs.crew.hire.Given as goal
 abbrev pub invariant-loop-who : goal.invariant-loop-who
 invariant-loop-who g l =
     IsPassOf g.W.Parts.meaning l.fn.hall l.pass × KeepsCommits l.initial.pass l.pass × (hands_of l.pass ≡ hands_of l.initial.pass)
-    × AreWorkers g.W.Parts.machine g.W.Parts.meaning g.W.Turns.activities l.fn.hall l.workers.items
+    × AreWorkers g.W.Parts.machine g.W.Parts.meaning g.W.Turns.owns g.W.Turns.activities l.fn.hall l.workers.items
     × All (λ w. IsFresh w.pass) l.workers.items
     × (whose l.workers.items ≡ up_from 0 l.who)
     × (length l.workers.items ≤ l.who) × (l.many ≤ vec_capacity l.workers)

@@ -4,7 +4,7 @@ use Rattle.std.proofs.lemmas.Result.{IfOk-at_ok}
 use Rattle.be_hall.specs.Hands.{rises_from}
 use Rattle.be_hall.specs.Words.{in_hand, rules_of, view_of}
 use Rattle.be_workers.specs.Turned.{AskedOf, Told}
-use Rattle.be_workers.specs.Wanted.{HasRoom, IsChosen, added, wanted, wanted_below}
+use Rattle.be_workers.specs.Wanted.{IsChosen, Suits, added, wanted, wanted_below}
 use Rattle.be_workers.proofs.Turned.{carried}
 use Rattle.be_workers.proofs.Wanted.{Grown, grown, is_held, owned, wanted_rises, wanted_there}
 use Rattle.be_workers.proofs.turn.take_turn.Given.{Over}
@@ -82,7 +82,7 @@ loop-rules-preserved g c =
     let new = c.add.new.self in
     let same = c.rules-rules.ensures in (
       (c.give.ensures.hall, c.give.ensures.none),
-      subst (λ r. HasRoom new (g.W.Parts.machine r).places) same c.add.ensures.room,
+      subst (λ r. Suits g.W.Parts.machine g.W.Turns.owns r new) same c.add.ensures.suits,
       chosen_now g c,
       subst (λ more. length more ≤ length (wanted new)) (sym c.add.ensures.added)
           (grown_now g c).kept,

@@ -1,13 +1,13 @@
 use Rattle.std.proofs.Common.{◌≡◌, ◌≤◌, ◌-◌, length}
 use Rattle.be_hall.specs.Words.{rules_of}
 use Rattle.be_workers.specs.Turned.{IsFree, KeepsCommits}
-use Rattle.be_workers.specs.Wanted.{HasRoom, IsChosen, added, wanted}
+use Rattle.be_workers.specs.Wanted.{IsChosen, Suits, added, wanted}
 use Rattle.be_workers.proofs.turn.take_turn.Given as goal
 
 abbrev pub invariant-loop-rules : goal.invariant-loop-rules
 invariant-loop-rules g l =
     IsFree g.W.Parts.meaning l.fn.hall l.pass
-    × HasRoom l.wants (g.W.Parts.machine (rules_of l.fn.hall)).places
+    × Suits g.W.Parts.machine g.W.Turns.owns (rules_of l.fn.hall) l.wants
     × IsChosen g.W.Parts.machine g.W.Turns.owns (rules_of l.fn.hall) l.fn.who l.wants
     × (length (added l.wants) ≤ length (wanted l.wants))
     × KeepsCommits l.initial.pass l.pass
