@@ -1,5 +1,5 @@
-//! Bells: a worker that has nothing to do sleeps on its own, and who changes a part that it looked at
-//! rings it.
+//! Bells: a worker that has nothing to do sleeps on its own, and who changes a part that it looked
+//! at rings it.
 //!
 //! No clause of a run rests on who sleeps and who is woken, so nothing is said of either.
 #![tactic(auto)]
@@ -11,8 +11,8 @@ use std::sync::atomic::{AtomicU64, Ordering};
 
 /// A bell for each activity, watchers for each place, and who is awake and who has begun.
 ///
-/// A bell's lowest bit is 1 while its worker sleeps or is about to. The other bits count how often it
-/// was rung. A worker that hasn't begun counts as awake.
+/// A bell's lowest bit is 1 while its worker sleeps or is about to. The other bits count how often
+/// it was rung. A worker that hasn't begun counts as awake.
 #[derive(Drop)]
 pub struct Bells {
     bells: Vec<AtomicU64>,
@@ -75,7 +75,8 @@ impl Bells {
         }
     }
 
-    /// Rings the bells of those that look at this place, which the caller has changed and has in hand.
+    /// Rings the bells of those that look at this place, which the caller has changed and has in
+    /// hand.
     pub fn changed(&self, place: u32) {
         for half in 0..2u32 {
             let Some(word) = self.watchers.get(place as usize * 2 + half as usize) else {
@@ -133,8 +134,8 @@ impl Bells {
         self.awake.fetch_add(1, Ordering::SeqCst);
     }
 
-    /// This worker is awake no more. Where one other at most is awake, it rings for the closing one, which
-    /// does not ring for itself.
+    /// This worker is awake no more. Where one other at most is awake, it rings for the closing
+    /// one, which does not ring for itself.
     pub fn leave(&self, who: u32) {
         let awake = self.awake.fetch_sub(1, Ordering::SeqCst);
         let unbegun = self.unbegun.load(Ordering::SeqCst);

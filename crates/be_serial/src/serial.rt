@@ -1,11 +1,14 @@
 //! All activities on one thread.
-ghost use Rattle.std.specs.Prelude.{◌≡◌, ℕ, ◌+◌, ◌^◌, ◌<◌, ◌≤◌, ◌++◌, ◌∷◌, [], List, Bool, true, false, All, Some, IfOk, OnOk, map, length, vec_len, vec_capacity, slice_index_or};
+ghost use Rattle.std.specs.Prelude.{◌≡◌, ℕ, ◌^◌, ◌<◌, ◌≤◌, [], List, Bool, false, All, IfOk};
+ghost use Rattle.std.specs.Prelude.{OnOk, map, length, vec_len, vec_capacity};
 ghost use Rattle.be_hall.specs.Numbers.{total};
-ghost use Rattle.be_hall.specs.Machine.{AllFit, leads};
-ghost use Rattle.be_turns.specs.Turning.{IsFinished, is_some};
-ghost use Rattle.be_serial.specs.Scheduled.{pushed_if, ready_below, Picked};
-ghost use Rattle.be_serial.specs.Running.{NeverStuck, Runs};
+ghost use Rattle.be_hall.specs.Machine.{AllFit};
+ghost use Rattle.be_turns.specs.Turning.{is_some};
+ghost use Rattle.be_serial.specs.Scheduled.{pushed_if};
+ghost use Rattle.be_serial.specs.Running.{NeverStuck};
 ghost use Rattle.be_serial.specs.Known.{IsKnown, Stirs, now_of};
+ghost use Rattle.be_serial.specs.Steps.{CanStep, Finishes, IsOfSame, IsPicked, IsRunning};
+ghost use Rattle.be_serial.specs.Steps.{Steps, ready_of};
 
 use crate::answers::Answers;
 use crate::schedule::Schedule;
@@ -32,7 +35,8 @@ pub trait Closing: Turns {
         }
     }
 
-    ghost never_stuck: { (it : Self) → NeverStuck (Self.machine it) (Self.legal it) Self.stops (Self.activities it) (closed it) };
+    ghost never_stuck: { (it : Self) →
+        NeverStuck (Self.machine it) (Self.legal it) Self.stops (Self.activities it) (closed it) };
 }
 
 /// What a run gives.
@@ -67,7 +71,7 @@ fn put(list: &mut Vec<u32>, place: u32, wanted: bool)
 impl<W: Turns> Run<W> {
     // Whether the activity has a legal entry now. It is asked where that isn't known.
     fn ask(&self, answers: &mut Answers, who: u32) -> bool
-        requires runs { Runs (W.machine self.now.rules) W.meaning W.log (map W.meaning self.now.opening.value.items) self.now.limit self.now.held.parts self.now.history.items }
+        requires runs { IsRunning W.machine W.meaning W.log self.now }
         requires limit { self.now.limit ≤ 2 ^ 62 }
         requires there { who < W.activities self.now.rules }
         requires knows { IsKnown W.machine W.meaning W.legal W.activities self.now answers.old }
@@ -87,13 +91,14 @@ impl<W: Turns> Run<W> {
 
     // The activities that have a legal entry now, in order of number.
     fn list_ready(&self, answers: &mut Answers, ready: &mut Vec<u32>)
-        requires runs { Runs (W.machine self.now.rules) W.meaning W.log (map W.meaning self.now.opening.value.items) self.now.limit self.now.held.parts self.now.history.items }
+        requires runs { IsRunning W.machine W.meaning W.log self.now }
         requires limit { self.now.limit ≤ 2 ^ 62 }
         requires room { W.activities self.now.rules ≤ vec_capacity ready.old }
         requires knows { IsKnown W.machine W.meaning W.legal W.activities self.now answers.old }
         ensures room { W.activities self.now.rules ≤ vec_capacity ready.new }
         ensures knows { IsKnown W.machine W.meaning W.legal W.activities self.now answers.new }
-        ensures list { ready.new.items ≡ ready_below (W.legal self.now.rules) (leads (W.machine self.now.rules) (map W.meaning self.now.opening.value.items) self.now.history.items) (W.activities self.now.rules) }
+        ensures list { ready.new.items
+            ≡ ready_of W.machine W.meaning W.legal W.activities self.now }
     {
         ready.clear();
         for who in 0..self.rules.activities() {
@@ -106,15 +111,15 @@ impl<W: Turns> Run<W> {
 impl<W: Closing> Run<W> {
     // Makes the activity's legal entry, and marks whom that may concern.
     fn step(&mut self, who: u32, answers: &mut Answers) -> Result<(), NoMemory>
-        requires runs { Runs (W.machine self.old.rules) W.meaning W.log (map W.meaning self.old.opening.value.items) self.old.limit self.old.held.parts self.old.history.items }
+        requires runs { IsRunning W.machine W.meaning W.log self.old }
         requires limit { self.old.limit ≤ 2 ^ 62 }
-        requires legal { (who < W.activities self.old.rules) × (is_some (W.legal self.old.rules (leads (W.machine self.old.rules) (map W.meaning self.old.opening.value.items) self.old.history.items) who) ≡ true) }
+        requires legal { CanStep W.machine W.meaning W.legal W.activities self.old who }
         requires knows { IsKnown W.machine W.meaning W.legal W.activities self.old answers.old }
         ensures knows { OnOk result
             (IsKnown W.machine W.meaning W.legal W.activities self.new answers.new) }
-        ensures same { (self.new.rules ≡ self.old.rules) × (self.new.opening ≡ self.old.opening) × (self.new.limit ≡ self.old.limit) }
-        ensures made { OnOk result ((e : W.Entry) × (self.new.history.items ≡ self.old.history.items ++ e ∷ []) × (W.legal self.old.rules (leads (W.machine self.old.rules) (map W.meaning self.old.opening.value.items) self.old.history.items) who ≡ Some e)) }
-        ensures runs { OnOk result (Runs (W.machine self.new.rules) W.meaning W.log (map W.meaning self.new.opening.value.items) self.new.limit self.new.held.parts self.new.history.items) }
+        ensures same { IsOfSame self.old self.new }
+        ensures made { OnOk result (Steps W.machine W.meaning W.legal who self.old self.new) }
+        ensures runs { OnOk result (IsRunning W.machine W.meaning W.log self.new) }
     {
         let Turn::Entry(entry) = self.rules.next(who, &self.held)? else {
             unreachable!()
@@ -130,8 +135,8 @@ impl<W: Closing> Run<W> {
     }
 }
 
-/// Runs all activities on this thread, of which the seed picks one before each entry, until nobody has
-/// a legal entry. Before each entry those activities are asked that the one before it may have
+/// Runs all activities on this thread, of which the seed picks one before each entry, until nobody
+/// has a legal entry. Before each entry those activities are asked that the one before it may have
 /// stirred.
 pub fn run_serial<W: Closing + Drop>(
     alloc: Global,
@@ -148,8 +153,9 @@ pub fn run_serial<W: Closing + Drop>(
     requires fits { AllFit (W.machine rules).fits 0 (map W.meaning parts.items) }
     requires logs { All (λ x. W.log x ≡ []) parts.items }
     ensures rules { IfOk result (λ r. r.rules ≡ rules) }
-    ensures finished { IfOk result (λ r. IsFinished (W.machine rules) W.stops (map W.meaning parts.items) r.history.items (map W.meaning r.parts.items)) }
-    ensures scheduled { IfOk result (λ r. Picked (W.machine rules) (W.legal rules) (W.activities rules) seed seed (map W.meaning parts.items) r.history.items) }
+    ensures finished { IfOk result (Finishes W.machine W.meaning W.stops rules parts.items) }
+    ensures scheduled { IfOk result
+        (IsPicked W.machine W.meaning W.legal W.activities seed rules parts.items) }
 {
     let opening = Snapshot::of(&parts);
     let mut ready = Vec::with_capacity(alloc, rules.activities() as usize)?;
