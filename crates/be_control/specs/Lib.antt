@@ -1,0 +1,3 @@
+pub mod Buttons
+pub mod Letters
+pub mod Laws
