@@ -1,0 +1,6 @@
+pub mod Archives
+pub mod Columns
+pub mod Values
+pub mod Reading
+pub mod Rows
+pub mod Faults
