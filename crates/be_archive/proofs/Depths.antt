@@ -15,14 +15,14 @@ above_same : (f g : ℕ → ℕ) (o : Option ℕ) → ((p : ℕ) → o ≡ Some 
 above_same f g None h = refl
 above_same f g (Some p) h = ap (λ n. n + 1) (h p refl)
 
-depth_same : (f g : ℕ → ℕ) (o : Option View)
+pub depth_same : (f g : ℕ → ℕ) (o : Option View)
     → ((p : ℕ) → option_and_then (λ view. view.parent) o ≡ Some p → f p ≡ g p)
     → depth_in f o ≡ depth_in g o
 depth_same f g None h = refl
 depth_same f g (Some view) h = above_same f g view.parent h
 
 -- as many steps as can be left are enough
-depth_more : (tree : Tree) (n m v : ℕ) → AreParentsFirst tree → v < n → v < m
+pub depth_more : (tree : Tree) (n m v : ℕ) → AreParentsFirst tree → v < n → v < m
     → depth_from n tree v ≡ depth_from m tree v
 depth_more tree zero m v first h k = absurd (omega arith)
 depth_more tree (suc n) zero v first h k = absurd (omega arith)

@@ -4,3 +4,4 @@ pub mod Values
 pub mod Reading
 pub mod Rows
 pub mod Faults
+pub mod Laws

@@ -1,7 +1,9 @@
-ghost use Rattle.std.specs.Prelude.{◌≡◌, ◌+◌, ◌<◌, ◌≤◌, ◌≤ℤ◌, pos, true, ◌++◌, ◌∷◌, [], Ok, IfOk, IfErr};
+ghost use Rattle.std.specs.Prelude.{◌≡◌, ◌+◌, ◌<◌, ◌≤◌, ◌≤ℤ◌, pos, true, ◌++◌, ◌∷◌, [], Ok, IfOk};
+ghost use Rattle.std.specs.Prelude.{IfErr};
 ghost use Rattle.std.specs.Prelude.{OnOk, length, option_map};
 ghost use Rattle.be_archive.specs.Faults.{IsFault, IsRefusal};
-ghost use Rattle.be_archive.specs.Reading.{can_follow, has_columns, has_size, have_form, is_archive};
+ghost use Rattle.be_archive.specs.Reading.{can_follow, has_columns, has_size, have_form};
+ghost use Rattle.be_archive.specs.Reading.{is_archive};
 ghost use Rattle.be_archive.specs.Reading.{is_negative, size_in, tree_in, view_count, views_in};
 ghost use Rattle.be_archive.specs.Rows.{DepthsAre, depth_behind, seen_row};
 ghost use Rattle.be_message.specs.Views.{seen_fields};
@@ -21,8 +23,8 @@ const MAX_FURTHER: usize = 31;
 /// How deep a view may be, where the root is at depth 1.
 const MAX_DEPTH: u8 = 8;
 
-/// The tree of which the message is the archive: `BView`'s constructor from an archive. It reads each
-/// value twice.
+/// The tree of which the message is the archive: `BView`'s constructor from an archive. It reads
+/// each value twice, the first time without memory.
 pub fn unarchive(alloc: Global, message: &Message) -> Result<ViewTree, ArchiveFault>
     ensures tree { IfOk result (λ tree. tree_in message.now ≡ Ok tree) }
     ensures fault { IfErr result (λ fault. IsFault fault (tree_in message.now)) }
@@ -66,7 +68,8 @@ fn is_negative(size: Point) -> bool
     size.x < 0 || size.y < 0
 }
 
-// Whether its `what` and the names, types and numbers of values of its fields are those of an archive.
+// Whether its `what` and the names, types and numbers of values of its fields are those of an
+// archive.
 fn is_archive(message: &Message) -> bool
     ensures { result ≡ is_archive message.now }
 {

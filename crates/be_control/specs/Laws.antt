@@ -4,8 +4,8 @@ use Rattle.std.specs.List.{list_any}
 use Rattle.be_geom.specs.declared.rect.Rect.{Rect}
 use Rattle.be_control.specs.Buttons.{Heard, is_press, is_release, breaks, invokes}
 
--- a letter behind these invokes the button: it is a release, some earlier one is a press, and nothing
--- between them breaks it
+-- a letter behind these invokes the button: it is a release, some earlier one is a press, and
+-- nothing between them breaks it
 pub record Invokes (bounds : Rect) (before : List Heard) (h : Heard) : Type 0 where
   pub earlier : List Heard
   pub press : Heard

@@ -29,8 +29,8 @@ pub enum Pressed {
     Invoked,
 }
 
-/// A button, which hears the letters that its window takes, one after the other: `BControl`, as far as
-/// the mouse goes.
+/// A button, which hears the letters that its window takes, one after the other: `BControl`, as far
+/// as the mouse goes.
 #[derive(Clone, Copy, Debug)]
 pub struct Button {
     /// In the view's own coordinates.

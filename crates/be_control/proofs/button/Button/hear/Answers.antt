@@ -21,7 +21,8 @@ returns-in-Release-clause-heard c = λ before was.
 pub returns-in-Release-clause-pressed : goal.returns-in-Release-clause-pressed
 returns-in-Release-clause-pressed c = λ before was.
     let h : Heard = record { own = c.args.own; message = c.args.message.now } in
-    let told = subst (λ b. IsLetter b h letter.Release) (ap (λ (b : Button). b.bounds) c.self.view_is)
+    let told = subst (λ b. IsLetter b h letter.Release)
+    (ap (λ (b : Button). b.bounds) c.self.view_is)
     (subst (IsLetter c.self.inside.bounds h) c.in-Release.is c.letter_of.ensures) in
     c.released.ensures
     ∙ (ap (λ (b : Button). cond b.armed pressed.Invoked pressed.Idle) c.self.view_is
