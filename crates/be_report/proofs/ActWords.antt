@@ -9,8 +9,8 @@ use Rattle.be_machine.specs.declared.Act.TheVariants as act
 use Rattle.be_report.specs.declared.kind.Kind.{Kind}
 use Rattle.be_report.specs.declared.kind.Kind.TheVariants as kind
 use Rattle.be_report.specs.Entries.{window, count, share, posted, delivery, replies, answers, outcomes, begins, ends, kinds, kind_of, act_of, act_read}
-use Rattle.be_report.specs.EntryText.{posted_words, replied_word, answered_word, outcome_word, begin_word, end_word, delivery_words, act_words}
-use Rattle.be_report.specs.Names.{window_name}
+use Rattle.be_written.specs.EntryText.{posted_words, replied_word, answered_word, outcome_word, begin_word, end_word, delivery_words, act_words}
+use Rattle.be_written.specs.Names.{window_name}
 use Rattle.be_report.specs.Possible.{AreDeliveries, IsActOf}
 use Rattle.be_report.specs.Readers.{Reader, ◌>>=◌, gives, next_word, one_of, optional, note_of}
 use Rattle.be_report.proofs.PartWords.{window_back, window_alone, count_back, count_alone, share_back, share_alone, posted_whole, posted_alone, delivery_back, delivery_alone, replied_back, replied_alone, answered_back, answered_alone, outcome_back, outcome_alone, opened_back, opened_alone, end_back, end_alone, note_back, note_alone}

@@ -10,17 +10,11 @@ use Rattle.be_script.specs.Script.{Declared}
 use Rattle.be_script.specs.declared.AppLine.{AppLine}
 use Rattle.be_script.specs.declared.WindowLine.{WindowLine}
 use Rattle.be_machine.specs.Activities.{activities}
-use Rattle.be_report.specs.Names.{window_names, app_names, app_actor, looper_actor, twin_actor, window_actors, last_actors, actor_names}
+use Rattle.be_written.specs.Names.{window_names, app_names, app_actor, looper_actor, twin_actor, window_actors, last_actors, actor_names}
+use Rattle.be_written.proofs.ActorNames.{names_of, length_windows}
 use Rattle.be_report.proofs.NameWords.{differs, apart, apart-append, different-append}
 
-abbrev pub names_of : List WindowLine → List (List ℕ)
-names_of lines = map (λ line. line.name) lines
-
 -- ---- how many
-
-pub length_windows : (lines : List WindowLine) → length (flat_map window_actors lines) ≡ 2 * length lines
-length_windows [] = omega arith
-length_windows (line ∷ lines) = let rest = length_windows lines in omega arith
 
 pub length-actor_names : (d : Declared) → length (actor_names d) ≡ activities d
 unfolding actor_names

@@ -10,8 +10,8 @@ use Rattle.be_machine.specs.Activities.{activities}
 use Rattle.be_machine.specs.declared.Act.{Act}
 use Rattle.be_machine.specs.declared.Entry.{Entry}
 use Rattle.be_report.specs.Entries.{maker, act_read, numbered, entry_of}
-use Rattle.be_report.specs.EntryText.{act_words, entry_words}
-use Rattle.be_report.specs.Names.{actor_names, actor_name}
+use Rattle.be_written.specs.EntryText.{act_words, entry_words}
+use Rattle.be_written.specs.Names.{actor_names, actor_name}
 use Rattle.be_report.specs.Possible.{IsPossible}
 use Rattle.be_report.specs.Readers.{Reader, ◌>>=◌, gives, exactly, place_in, unless_more}
 use Rattle.be_report.proofs.ActorWords.{length-actor_names, different-actor_names}

@@ -6,8 +6,8 @@ use Rattle.be_command.specs.Names.{number_in}
 use Rattle.be_script.specs.Script.{Declared}
 use Rattle.be_script.specs.declared.AppLine.{AppLine}
 use Rattle.be_script.specs.declared.WindowLine.{WindowLine}
-use Rattle.be_report.specs.Names.{app_actor, looper_actor, twin_actor, window_actors, last_actors, actor_names}
-use Rattle.be_report.proofs.ActorWords.{length_windows}
+use Rattle.be_written.specs.Names.{app_actor, looper_actor, twin_actor, window_actors, last_actors, actor_names}
+use Rattle.be_written.proofs.ActorNames.{length_windows}
 use Rattle.be_report.proofs.CodeLemmas.{place_from, or_behind, place_from-append, place_from-shift, window_passed}
 
 apps_mapped : (lines : List AppLine) → map app_actor (map (λ line. line.name) lines) ≡ map (λ line. app_actor line.name) lines

@@ -22,13 +22,13 @@ use Rattle.be_machine.proofs.NumbersSteps.{grows_step}
 use Rattle.be_machine.proofs.Opening.{parts_opening, tallied_opening}
 use Rattle.be_machine.proofs.OrderlyEntries.{legal_goes}
 use Rattle.be_machine.proofs.WorkHistory.{history_bound}
-use Rattle.be_report.specs.EntryText.{history_text}
-use Rattle.be_report.specs.Lines.{line_of}
+use Rattle.be_written.specs.EntryText.{history_text}
+use Rattle.be_written.specs.Lines.{line_of}
 use Rattle.be_report.specs.Possible.{IsPossible, ArePossible}
 use Rattle.be_report.specs.Report.{report_of}
-use Rattle.be_report.specs.ScreenText.{screen_text}
+use Rattle.be_written.specs.ScreenText.{screen_text}
 use Rattle.be_report.specs.Told.{told_by}
-use Rattle.be_report.specs.TraceText.{apps_text, loopers_text, traces_text}
+use Rattle.be_written.specs.TraceText.{apps_text, loopers_text, traces_text}
 use Rattle.be_report.proofs.LegalActs.{IsSmall, IsRunner, IsAsked, want_fits}
 use Rattle.be_report.proofs.NotedWords.{asked_note}
 use Rattle.be_report.proofs.TextBack.{text_tells_history}

@@ -15,7 +15,3 @@ pub mod NotedWords
 pub mod LegalActs
 pub mod LegalHistories
 pub mod FoundActors
-pub mod WriteLemmas
-pub mod MessageLemmas
-pub mod ScreenRows
-pub mod TakenLemmas

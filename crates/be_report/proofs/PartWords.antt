@@ -19,8 +19,8 @@ use Rattle.be_machine.specs.declared.EndAnswer.TheVariants as end
 use Rattle.be_machine.specs.declared.Replied.{Replied}
 use Rattle.be_machine.specs.declared.Replied.TheVariants as reply
 use Rattle.be_report.specs.Entries.{window, count, share, posted, delivery, replies, answers, outcomes, begins, ends}
-use Rattle.be_report.specs.EntryText.{posted_words, replied_word, answered_word, outcome_word, begin_word, end_word, delivery_words}
-use Rattle.be_report.specs.Names.{window_names, window_name}
+use Rattle.be_written.specs.EntryText.{posted_words, replied_word, answered_word, outcome_word, begin_word, end_word, delivery_words}
+use Rattle.be_written.specs.Names.{window_names, window_name}
 use Rattle.be_report.specs.Possible.{IsAnswer, IsPost}
 use Rattle.be_report.specs.Readers.{Reader, ◌>>=◌, gives, next_word, one_of, number_within, note_of}
 use Rattle.be_report.proofs.ActorWords.{different-window_names, length-window_names}

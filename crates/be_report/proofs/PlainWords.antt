@@ -27,11 +27,12 @@ use Rattle.be_machine.specs.declared.Replied.{Replied}
 use Rattle.be_machine.specs.declared.Replied.TheVariants as reply
 use Rattle.be_report.specs.declared.kind.Kind.{Kind}
 use Rattle.be_report.specs.declared.kind.Kind.TheVariants as kind
-use Rattle.be_report.specs.EntryText.{posted_words, replied_word, answered_word, outcome_word, begin_word, end_word, delivery_words, act_words}
+use Rattle.be_written.specs.EntryText.{posted_words, replied_word, answered_word, outcome_word, begin_word, end_word, delivery_words, act_words}
 use Rattle.be_report.specs.Lines.{is_plain}
-use Rattle.be_report.specs.Names.{window_names, window_name, app_names, app_actor, window_actors, last_actors, actor_names, actor_name}
+use Rattle.be_written.specs.Names.{window_names, window_name, app_names, app_actor, window_actors, last_actors, actor_names, actor_name}
 use Rattle.be_report.specs.Possible.{IsAnswer, IsPost, AreDeliveries, IsActOf, IsPossible}
-use Rattle.be_report.proofs.ActorWords.{names_of, length-actor_names, length-window_names}
+use Rattle.be_written.proofs.ActorNames.{names_of}
+use Rattle.be_report.proofs.ActorWords.{length-actor_names, length-window_names}
 use Rattle.be_report.proofs.ActWords.{kind_for, kind_word, tail, words_are}
 use Rattle.be_report.proofs.NameWords.{passes_at, passes_weaker}
 use Rattle.be_report.proofs.NumberWords.{plain-decimal}

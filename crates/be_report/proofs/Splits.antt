@@ -11,7 +11,8 @@ use Rattle.be_lex.specs.Words.{is_space}
 use Rattle.be_lex.proofs.Cuts.{split_cut}
 use Rattle.be_lex.proofs.LineLemmas.{lines_of-last, lines_of-first, lines_of-none, lines_of-ended}
 use Rattle.be_lex.proofs.Spelling.{list_all_weaker}
-use Rattle.be_report.specs.Lines.{line_of, is_plain, words_between}
+use Rattle.be_report.specs.Lines.{is_plain, words_between}
+use Rattle.be_written.specs.Lines.{line_of}
 
 abbrev pub plain_byte : ℕ → Bool
 plain_byte b = nat_le 33 b && nat_le b 126

@@ -11,8 +11,9 @@ use Rattle.be_lex.specs.Lines.{Line, lines_of}
 use Rattle.be_script.specs.Script.{Declared}
 use Rattle.be_machine.specs.declared.Entry.{Entry}
 use Rattle.be_report.specs.Entries.{entry_of}
-use Rattle.be_report.specs.EntryText.{entry_words, entries_from, history_text}
-use Rattle.be_report.specs.Lines.{line_of, words_between}
+use Rattle.be_written.specs.EntryText.{entry_words, entries_from, history_text}
+use Rattle.be_report.specs.Lines.{words_between}
+use Rattle.be_written.specs.Lines.{line_of}
 use Rattle.be_report.specs.Possible.{IsCount, IsPossible, ArePossible}
 use Rattle.be_report.specs.Readers.{all_of, exactly, next_word, natural_of}
 use Rattle.be_report.specs.Told.{heading, count_in, promised, begins_traces, entry_in, entry_then, before_entries, entries_in, promised_in, history_in, entries_of, told_by}

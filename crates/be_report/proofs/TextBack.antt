@@ -11,9 +11,10 @@ use Rattle.be_script.specs.Limits.{IsWithinLimits}
 use Rattle.be_script.specs.Script.{Declared}
 use Rattle.be_machine.specs.declared.Entry.{Entry}
 use Rattle.be_report.specs.Entries.{entry_of}
-use Rattle.be_report.specs.EntryText.{act_words, entry_words, entries_from, history_text}
-use Rattle.be_report.specs.Lines.{line_of, is_plain, words_between}
-use Rattle.be_report.specs.Names.{actor_name}
+use Rattle.be_written.specs.EntryText.{act_words, entry_words, entries_from, history_text}
+use Rattle.be_report.specs.Lines.{is_plain, words_between}
+use Rattle.be_written.specs.Lines.{line_of}
+use Rattle.be_written.specs.Names.{actor_name}
 use Rattle.be_report.specs.Possible.{IsPossible, ArePossible}
 use Rattle.be_report.specs.Readers.{all_of, exactly, next_word, natural_of, unless_more}
 use Rattle.be_report.specs.Told.{heading, count_in, entry_then, before_entries, entries_in, promised_in, history_in, entries_of, told_by}

@@ -6,8 +6,8 @@ use Rattle.be_script.specs.Script.{Declared}
 use Rattle.be_machine.specs.declared.Entry.{Entry}
 use Rattle.be_machine.specs.History.{IsLegalHistory}
 use Rattle.be_report.specs.Entries.{entry_of}
-use Rattle.be_report.specs.EntryText.{entry_words, history_text}
-use Rattle.be_report.specs.Lines.{line_of}
+use Rattle.be_written.specs.EntryText.{entry_words, history_text}
+use Rattle.be_written.specs.Lines.{line_of}
 use Rattle.be_report.specs.Possible.{IsCount, IsPossible, ArePossible}
 use Rattle.be_report.specs.Report.{report_of}
 use Rattle.be_report.specs.Told.{told_by, entries_of}

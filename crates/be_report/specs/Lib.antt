@@ -1,11 +1,4 @@
 pub mod Lines
-pub mod Names
-pub mod EntryText
-pub mod MessageText
-pub mod TraceText
-pub mod Takings
-pub mod ScreenText
-pub mod Screens
 pub mod Report
 pub mod Readers
 pub mod Entries

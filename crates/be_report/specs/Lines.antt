@@ -1,16 +1,7 @@
--- The lines that a report is made of (this project's own).
-use Rattle.std.specs.Prelude.{ℕ, Bool, ◌&&◌, nat_le, List, [], ◌∷◌, ◌++◌, Option, Some, None}
-use Rattle.std.specs.List.{join_with_byte, list_all, slice_split}
+-- How a line of a report is cut into its words (this project's own).
+use Rattle.std.specs.Prelude.{ℕ, Bool, ◌&&◌, nat_le, List, [], Option, Some, None}
+use Rattle.std.specs.List.{list_all, slice_split}
 use Rattle.be_lex.specs.Words.{is_space}
-
--- words with one space between them, and a line feed behind them
-unfoldable pub line_of : List (List ℕ) → List ℕ
-line_of words = join_with_byte 32 words ++ 10 ∷ []
-
--- words that stand behind others
-abbrev pub behind : List (List ℕ) → List ℕ
-behind [] = []
-behind (word ∷ words) = (32 ∷ word) ++ behind words
 
 -- each byte is 33 to 126, so that none parts words or ends a line
 abbrev pub is_plain : List ℕ → Bool

@@ -63,8 +63,3 @@ pub record IsPossible (d : Declared) (e : Entry) : Type 0 where
 pub record ArePossible (d : Declared) (h : List Entry) : Type 0 where
   pub each : All (IsPossible d) h
   pub counted : IsCount (length h)
-
--- as many windows and applications as a script may have, so that their activities can be numbered
-pub record AreFew (d : Declared) : Type 0 where
-  pub windows : length d.windows ≤ 32
-  pub apps : length d.apps ≤ 16

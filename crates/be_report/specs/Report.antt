@@ -3,10 +3,10 @@ use Rattle.std.specs.Prelude.{ℕ, List, [], ◌∷◌, ◌++◌, codes}
 use Rattle.be_script.specs.Script.{Declared}
 use Rattle.be_machine.specs.declared.Entry.{Entry}
 use Rattle.be_machine.specs.History.{state_after}
-use Rattle.be_report.specs.EntryText.{history_text}
-use Rattle.be_report.specs.Lines.{line_of}
-use Rattle.be_report.specs.ScreenText.{screen_text}
-use Rattle.be_report.specs.TraceText.{traces_text}
+use Rattle.be_written.specs.EntryText.{history_text}
+use Rattle.be_written.specs.Lines.{line_of}
+use Rattle.be_written.specs.ScreenText.{screen_text}
+use Rattle.be_written.specs.TraceText.{traces_text}
 
 -- its entries, what applications and loopers note of them, and the screen that they leave
 abbrev pub report_of : Declared → List Entry → List ℕ

@@ -2,7 +2,7 @@ ghost use Rattle.std.specs.Prelude.{◌≡◌, ◌+◌, Err};
 ghost use Rattle.be_lex.specs.Lines.{lines_of};
 ghost use Rattle.be_reader.specs.Outcomes.{fault_at};
 ghost use Rattle.be_report.specs.Outcomes.{IsHistory};
-ghost use Rattle.be_report.specs.Possible.{AreFew};
+ghost use Rattle.be_written.specs.Runners.{AreFew};
 ghost use Rattle.be_report.specs.Told.{entries_in, entries_of};
 ghost use Rattle.be_script.specs.Limits.{IsWithinLimits};
 ghost use Rattle.be_script.specs.Script.{declared_by};

@@ -4,7 +4,7 @@ ghost use Rattle.std.specs.Str.{bytes_eq};
 ghost use Rattle.be_report.specs.Entries.{entry_of};
 ghost use Rattle.be_report.specs.Lines.{words_between};
 ghost use Rattle.be_report.specs.Outcomes.{IsSaid};
-ghost use Rattle.be_report.specs.Possible.{AreFew};
+ghost use Rattle.be_written.specs.Runners.{AreFew};
 ghost use Rattle.be_report.specs.Told.{count_in};
 ghost use Rattle.be_script.specs.Script.{declared_by};
 

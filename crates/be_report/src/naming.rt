@@ -1,8 +1,8 @@
 ghost use Rattle.std.specs.Prelude.{◌≡◌, ◌≤◌, ◌++◌, length, map, flat_map};
 ghost use Rattle.std.specs.Str.{bytes_eq};
 ghost use Rattle.be_command.specs.Names.{number_in};
-ghost use Rattle.be_report.specs.Names.{app_actor, window_actors, actor_names};
-ghost use Rattle.be_report.specs.Possible.{AreFew};
+ghost use Rattle.be_written.specs.Names.{app_actor, window_actors, actor_names};
+ghost use Rattle.be_written.specs.Runners.{AreFew};
 ghost use Rattle.be_script.specs.Script.{declared_by};
 
 // The numbers of names.
@@ -23,7 +23,7 @@ pub(crate) fn window_named(lines: &[WindowLine], word: &[u8]) -> Option<u16>
 }
 
 /// The activity with this name.
-#[tactic(auto, unfolding(crate::specs::Names::actor_names))]
+#[tactic(auto, unfolding(be_written::specs::Names::actor_names))]
 pub(crate) fn actor_named(script: &Script, word: &[u8]) -> Option<u32>
     requires { AreFew (declared_by script.now) }
     ensures { result ≡ number_in (actor_names (declared_by script.now)) word.now }

@@ -4,7 +4,7 @@ ghost use Rattle.std.specs.Str.{bytes_eq};
 ghost use Rattle.std.specs.Fmt.{decimal};
 ghost use Rattle.be_report.specs.Entries.{window, count, share, posted, delivery, kind_of, act_of, act_read, maker, numbered};
 ghost use Rattle.be_report.specs.Outcomes.{ReadsOr};
-ghost use Rattle.be_report.specs.Possible.{AreFew};
+ghost use Rattle.be_written.specs.Runners.{AreFew};
 ghost use Rattle.be_report.specs.Readers.{Reads, next_word, optional};
 ghost use Rattle.be_script.specs.Script.{Declared, declared_by};
 

@@ -1,7 +1,8 @@
 use be_command::Reason;
 use be_machine::Entry;
 use be_reader::{ScriptFault, read};
-use be_report::{Page, read_history, write_history};
+use be_report::read_history;
+use be_written::{Page, write_history};
 use std::alloc::{AllocError, Global};
 use std::test::Fail;
 

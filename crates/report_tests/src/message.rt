@@ -1,6 +1,6 @@
 use be_geom::{Point, Rect};
 use be_message::{Message, Text, Value};
-use be_report::{Page, write_message};
+use be_written::{Page, write_message};
 use std::alloc::Global;
 use std::test::Fail;
 

@@ -1,8 +1,8 @@
 ghost use Rattle.std.specs.Prelude.{◌≡◌, ◌*◌, length};
 
 use be_color::Rgb;
-use be_report::{Run, Screen};
 use be_span::Cell;
+use be_written::{Run, Screen};
 use std::alloc::{AllocError, Global};
 
 /// A screen whose cells are in memory. No run that it tells has more pixels than `longest`, but each

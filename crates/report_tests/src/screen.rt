@@ -1,5 +1,5 @@
 use crate::pixels::Pixels;
-use be_report::{Page, write_screen};
+use be_written::{Page, write_screen};
 use std::test::Fail;
 
 #[test]

@@ -2,7 +2,7 @@ use be_handler::Route;
 use be_message::{Message, Target, Value};
 use be_port::Sender;
 use be_reader::read;
-use be_report::{Page, Runner, Taken, write_taken};
+use be_written::{Page, Runner, Taken, write_taken};
 use std::test::Fail;
 
 const PING: u32 = 0x5049_4e47;

@@ -4,8 +4,8 @@ use Rattle.be_command.specs.Names.{number_in}
 use Rattle.be_script.specs.Script.{declared_by}
 use Rattle.be_script.specs.declared.AppLine.{AppLine}
 use Rattle.be_script.specs.declared.WindowLine.{WindowLine}
-use Rattle.be_report.specs.Names.{app_actor, window_actors}
-use Rattle.be_report.proofs.ActorWords.{length_windows}
+use Rattle.be_written.specs.Names.{app_actor, window_actors}
+use Rattle.be_written.proofs.ActorNames.{length_windows}
 use Rattle.be_report.proofs.FoundActors.{last_place, app_found, window_found, last_found}
 use Rattle.be_report.proofs.NameWords.{number_alone}
 use Rattle.be_report.proofs.naming.actor_named.Goals as goal

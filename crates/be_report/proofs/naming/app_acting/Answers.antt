@@ -1,6 +1,6 @@
 use Rattle.std.proofs.Common.{sym}
 use Rattle.be_said.proofs.NameLemmas.{number_in_by}
-use Rattle.be_report.specs.Names.{app_actor}
+use Rattle.be_written.specs.Names.{app_actor}
 use Rattle.be_report.proofs.naming.app_acting.Goals as goal
 
 pub loop-place-init : goal.loop-place-init

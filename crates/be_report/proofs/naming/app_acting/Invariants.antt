@@ -2,7 +2,7 @@ use Rattle.std.proofs.Common.{◌≡◌, drop, map}
 use Rattle.std.specs.List.{position_from}
 use Rattle.std.specs.Str.{bytes_eq}
 use Rattle.be_command.specs.Names.{number_in}
-use Rattle.be_report.specs.Names.{app_actor}
+use Rattle.be_written.specs.Names.{app_actor}
 use Rattle.be_report.proofs.naming.app_acting.Given as goal
 
 abbrev pub invariant-loop-place : goal.invariant-loop-place

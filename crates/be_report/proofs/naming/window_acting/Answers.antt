@@ -1,6 +1,6 @@
 use Rattle.std.proofs.Common.{List, ℕ, ap, sym, ◌∙◌}
 use Rattle.std.specs.Str.{bytes_eq}
-use Rattle.be_report.specs.Names.{looper_actor, twin_actor}
+use Rattle.be_written.specs.Names.{looper_actor, twin_actor}
 use Rattle.be_report.proofs.FoundActors.{window_over}
 use Rattle.be_report.proofs.naming.window_acting.Goals as goal
 

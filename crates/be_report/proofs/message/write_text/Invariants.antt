@@ -1,7 +1,0 @@
-use Rattle.std.proofs.Common.{◌≡◌, ◌++◌, drop, flat_map}
-use Rattle.be_report.specs.MessageText.{escaped}
-use Rattle.be_report.proofs.message.write_text.Given as goal
-
--- what is written and what is left to write are the whole text
-abbrev pub invariant-loop-byte : goal.invariant-loop-byte
-invariant-loop-byte l = l.page ++ flat_map escaped (drop l.byte-index l.text) ≡ l.fn.page ++ flat_map escaped l.text

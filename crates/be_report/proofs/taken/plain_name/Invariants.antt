@@ -1,8 +1,0 @@
-use Rattle.std.proofs.Common.{◌≡◌, ◌==◌, [], drop, map, filter, get_or}
-use Rattle.be_report.proofs.taken.plain_name.Given as goal
-
--- what is looked for stands among those that are left
-abbrev pub invariant-loop-line : goal.invariant-loop-line
-invariant-loop-line l =
-    get_or (map (λ line. line.name) (filter (λ line. line.window == l.window) (drop l.line-index l.handlers))) l.left []
-    ≡ get_or (map (λ line. line.name) (filter (λ line. line.window == l.window) l.handlers)) l.place []

@@ -1,0 +1,5 @@
+pub mod ActorNames
+pub mod WriteLemmas
+pub mod MessageLemmas
+pub mod ScreenRows
+pub mod TakenLemmas

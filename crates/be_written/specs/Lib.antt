@@ -1,0 +1,9 @@
+pub mod Lines
+pub mod Names
+pub mod EntryText
+pub mod MessageText
+pub mod TraceText
+pub mod Takings
+pub mod Runners
+pub mod ScreenText
+pub mod Screens

@@ -1,0 +1,25 @@
+-- What a screen tells of the runs in its rows (this project's own).
+use Rattle.std.specs.Prelude.{ℕ, ◌≡◌, ◌-◌, ◌*◌, ◌≤◌, ◌<◌, List, ◌∷◌, take, drop, slice_get, Option, Some}
+use Rattle.std.specs.Option.{option_map}
+use Rattle.be_color.specs.declared.colors.Rgb.{Rgb}
+use Rattle.be_span.specs.declared.Cell.{Cell}
+use Rattle.be_written.specs.ScreenText.{runs_of}
+use Rattle.be_written.specs.declared.screen.Run.{Run}
+
+-- the colour of the cell at a place, where one is there
+abbrev pub rgb_at : List Cell → ℕ → Option Rgb
+rgb_at cells k = option_map (λ c. c.rgb) (slice_get cells k)
+
+-- the cells from one place up to another are there, and have this colour
+abbrev pub AreColored : List Cell → ℕ → ℕ → Rgb → Type 0
+AreColored cells from end rgb = (k : ℕ) → from ≤ k → k < end → rgb_at cells k ≡ Some rgb
+
+-- a row of a screen so many cells wide
+abbrev pub row_at : ℕ → ℕ → List Cell → List Cell
+row_at width row cells = take width (drop (row * width) cells)
+
+-- the longest run of one colour that begins at this column of the row
+abbrev pub IsLongest : List Cell → ℕ → Run → Type 0
+IsLongest row column run =
+    runs_of (drop column row)
+    ≡ record { count = run.end - column; rgb = run.rgb } ∷ runs_of (drop run.end row)

@@ -1,0 +1,22 @@
+//! The text of a report, piece by piece: the lines of a history, what was noted of it, a message, and
+//! a screen.
+//!
+//! Each piece is written behind the others on a page, in a time that is linear in its bytes, but for
+//! the names of handlers, each of which is looked for among all views or all plain handlers. A
+//! history is gone through once for all that is noted of it. A screen is written in one pass over
+//! its runs.
+#![tactic(auto)]
+
+mod message;
+mod page;
+mod runner;
+mod screen;
+mod taken;
+mod writing;
+
+pub use message::write_message;
+pub use page::Page;
+pub use runner::Runner;
+pub use screen::{Run, Screen, write_screen};
+pub use taken::{Taken, write_taken};
+pub use writing::write_history;
