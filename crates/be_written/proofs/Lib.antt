@@ -3,3 +3,7 @@ pub mod WriteLemmas
 pub mod MessageLemmas
 pub mod ScreenRows
 pub mod TakenLemmas
+pub mod NoteLemmas
+pub mod Quiet
+pub mod Gathering
+pub mod RunnerTexts

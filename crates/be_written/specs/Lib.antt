@@ -5,5 +5,6 @@ pub mod MessageText
 pub mod TraceText
 pub mod Takings
 pub mod Runners
+pub mod Notings
 pub mod ScreenText
 pub mod Screens

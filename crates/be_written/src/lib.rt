@@ -8,15 +8,19 @@
 #![tactic(auto)]
 
 mod message;
+mod note;
 mod page;
 mod runner;
 mod screen;
 mod taken;
+mod traces;
 mod writing;
 
 pub use message::write_message;
+pub use note::Note;
 pub use page::Page;
 pub use runner::Runner;
 pub use screen::{Run, Screen, write_screen};
 pub use taken::{Taken, write_taken};
+pub use traces::{Notes, write_traces};
 pub use writing::write_history;
