@@ -15,3 +15,4 @@ pub mod NotedWords
 pub mod LegalActs
 pub mod LegalHistories
 pub mod FoundActors
+pub mod Pieces

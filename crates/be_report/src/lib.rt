@@ -10,8 +10,10 @@ mod kind;
 mod laws;
 mod line;
 mod naming;
+mod puts;
 mod reading;
 mod spaced;
+mod whole;
 mod word;
 
 pub use history::read_history;
@@ -19,3 +21,4 @@ pub use laws::{
     a_history_is_told_by_its_text, a_report_tells_its_history,
     a_text_that_tells_none_breaks_at_a_line, an_entry_has_one_line,
 };
+pub use whole::{ReportFault, report};
