@@ -1,5 +1,5 @@
 -- A screen's rows, run by run.
-use Rattle.std.proofs.Common.{◌≡◌, ℕ, zero, suc, ◌+◌, ◌-◌, ◌*◌, ◌<◌, ◌≤◌, Bool, true, false, List, [], ◌∷◌, ◌++◌, length, take, drop, map, Option, Some, None, Result, OnOk, codes, refl, sym, ap, subst, ◌∙◌, arith, append_assoc, append-nil, eq-eqb, inl, inr}
+use Rattle.std.proofs.Common.{◌≡◌, ℕ, zero, suc, ◌+◌, ◌-◌, ◌*◌, ◌<◌, ◌≤◌, Bool, true, false, List, [], ◌∷◌, ◌++◌, length, get_or, take, drop, map, Option, Some, None, Result, OnOk, codes, refl, sym, ap, subst, ◌∙◌, arith, append_assoc, append-nil, eq-eqb, inl, inr}
 use Rattle.std.specs.Prelude.{if◌then◌else◌, ◌&&◌, ◌==◌, not}
 use Rattle.std.proofs.lemmas.Bool.{cases_lt, eqb-true}
 use Rattle.std.specs.List.{slice_get}
@@ -9,7 +9,7 @@ use Rattle.be_color.specs.declared.colors.Rgb.{Rgb}
 use Rattle.be_span.specs.declared.Cell.{Cell}
 use Rattle.be_written.specs.Lines.{behind, line_of}
 use Rattle.be_written.specs.ScreenText.{Colored, same_rgb, before_runs, runs_of, run_word, row_text, rows_from, screen_text}
-use Rattle.be_written.specs.Screens.{rgb_at, AreColored, row_at, IsLongest}
+use Rattle.be_written.specs.Screens.{rgb_at, AreCellsOf, AreColored, row_at, IsLongest}
 use Rattle.be_written.proofs.WriteLemmas.{appended, line_behind, line_written, mapped}
 
 -- ---- where cells are
@@ -34,6 +34,22 @@ pub in_row : (width row : ℕ) (cells : List Cell) (column end : ℕ) (rgb : Rgb
 in_row width row cells column end rgb within all k from below =
     let at = get_take width (drop (row * width) cells) k (omega arith) ∙ get_drop (row * width) cells k (row * width + k) refl in
     ap (λ (c : Option Cell). elim c [ Some x ↦ Some x.rgb | None ↦ None ]) at ∙ all (row * width + k) (omega arith) (omega arith)
+
+-- the colour of a cell that is there
+pub rgb_there : (xs : List Cell) (k : ℕ) (d : Cell) → k < length xs → rgb_at xs k ≡ Some (get_or xs k d).rgb
+rgb_there [] k d lt = absurd (omega arith)
+rgb_there (x ∷ xs) zero d lt = refl
+rgb_there (x ∷ xs) (suc k) d lt = rgb_there xs k d (omega arith)
+
+-- a run of the cells that are held is one of the screen's
+pub strip_colored : (cells some : List Cell) (first from column place end : ℕ) (rgb : Rgb) → AreCellsOf cells (first + from) some → AreColored some place end rgb → column ≡ from + place → end ≤ length some
+    → AreColored cells (first + column) (first + (from + end)) rgb
+strip_colored cells some first from column place end rgb told colored at within k low high =
+    let j = k - (first + from) in
+    let is : k ≡ first + from + j = omega arith in
+    ap (rgb_at cells) is
+    ∙ ap (λ (c : Option Cell). elim c [ Some x ↦ Some x.rgb | None ↦ None ]) (told j (omega arith))
+    ∙ colored j (omega arith) (omega arith)
 
 -- ---- the longest run
 
@@ -111,7 +127,7 @@ other_behind row end behind rgb next lt all other = other_first (drop end row) r
 pub joined : (row : List Cell) (column mid end : ℕ) (rgb : Rgb) → AreColored row column mid rgb → AreColored row mid end rgb → AreColored row column end rgb
 joined row column mid end rgb first second k from below = elim (cases_lt k mid) [ inl lt ↦ first k from lt | inr le ↦ second k le below ]
 
-pub is_longest : (row : List Cell) (column end : ℕ) (rgb : Rgb) → column < end → AreColored row column end rgb → Differs rgb (runs_of (drop end row)) → IsLongest row column (record { rgb = rgb; end = end })
+pub is_longest : (row : List Cell) (column end : ℕ) (rgb : Rgb) → column < end → AreColored row column end rgb → Differs rgb (runs_of (drop end row)) → IsLongest row column end rgb
 is_longest row column end rgb lt all other =
     let n = end - column - 1 in
     let behind : drop (suc n) (drop column row) ≡ drop end row = drop-drop (suc n) column row ∙ ap (λ (k : ℕ). drop k row) (omega arith) in
@@ -130,7 +146,7 @@ row_begun y row old one first =
     ap (λ (text : List ℕ). text ++ row_rest row 0) first ∙ append_assoc old (decimal y) (row_rest row 0)
     ∙ ap (λ (text : List ℕ). old ++ text) (sym (append_assoc (decimal y) (behind (map run_word (runs_of row))) (10 ∷ [])) ∙ sym (line_behind (decimal y) (map run_word (runs_of row))))
 
-pub row_goes_on : (row : List Cell) (column end : ℕ) (rgb : Rgb) (old new : List ℕ) → IsLongest row column (record { rgb = rgb; end = end }) → new ≡ old ++ 32 ∷ run_word (record { count = end - column; rgb = rgb }) → new ++ row_rest row end ≡ old ++ row_rest row column
+pub row_goes_on : (row : List Cell) (column end : ℕ) (rgb : Rgb) (old new : List ℕ) → IsLongest row column end rgb → new ≡ old ++ 32 ∷ run_word (record { count = end - column; rgb = rgb }) → new ++ row_rest row end ≡ old ++ row_rest row column
 unfolding row_rest
 row_goes_on row column end rgb old new longest word =
     let r : Colored = record { count = end - column; rgb = rgb } in

@@ -17,10 +17,10 @@ mod traces;
 mod writing;
 
 pub use message::write_message;
-pub use note::Note;
+pub use note::{Note, write_note};
 pub use page::Page;
 pub use runner::Runner;
-pub use screen::{Run, Screen, write_screen};
-pub use taken::{Taken, write_taken};
+pub use screen::{Screen, write_screen};
+pub use taken::Taken;
 pub use traces::{Notes, write_traces};
 pub use writing::write_history;

@@ -32,8 +32,9 @@ pub enum Note<'a> {
     Replied(&'a Message),
 }
 
-/// Writes the lines of a note.
-pub(crate) fn write_note(
+/// Writes the lines of what a runner noted. To find a handler's or a view's name takes a look at each
+/// view or each plain handler of the script.
+pub fn write_note(
     page: &mut Page,
     script: &Script,
     runner: Runner,

@@ -30,7 +30,7 @@ pub struct Taken<'a> {
 
 /// Writes the line of a letter that was taken as this number. To find a handler's name takes a look
 /// at each view or each plain handler of the script.
-pub fn write_taken(
+pub(crate) fn write_taken(
     page: &mut Page,
     script: &Script,
     runner: Runner,
