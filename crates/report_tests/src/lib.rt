@@ -6,6 +6,8 @@ mod history;
 #[cfg(test)]
 mod message;
 #[cfg(test)]
+mod notes;
+#[cfg(test)]
 mod pixels;
 #[cfg(test)]
 mod screen;

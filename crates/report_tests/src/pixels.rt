@@ -1,12 +1,11 @@
-ghost use Rattle.std.specs.Prelude.{◌≡◌, ◌*◌, length};
+ghost use Rattle.std.specs.Prelude.{◌≡◌, ◌*◌, ◌<◌, length};
 
 use be_color::Rgb;
 use be_span::Cell;
-use be_written::{Run, Screen};
+use be_written::Screen;
 use std::alloc::{AllocError, Global};
 
-/// A screen whose cells are in memory. No run that it tells has more pixels than `longest`, but each
-/// has one.
+/// A screen whose cells are in memory. It tells no more cells at once than `longest`, but one at least.
 #[derive(Drop)]
 pub(crate) struct Pixels {
     width: u32,
@@ -14,6 +13,7 @@ pub(crate) struct Pixels {
     longest: u32,
     cells: Vec<Cell>,
     ghost whole: { length cells.items ≡ width * height },
+    ghost some: { 0 < longest },
 }
 
 impl Pixels {
@@ -25,7 +25,7 @@ impl Pixels {
         letters: &[u8],
     ) -> Result<Option<Pixels>, AllocError> {
         let cells: Vec<Cell> = letters.iter().map(|letter| cell(*letter)).collect(alloc)?;
-        if cells.len() != width as usize * height as usize {
+        if longest == 0 || cells.len() != width as usize * height as usize {
             return Ok(None);
         }
         Ok(Some(Pixels {
@@ -69,16 +69,9 @@ impl Screen for Pixels {
         self.height
     }
 
-    fn run(&self, row: u32, column: u32) -> Run {
-        let first = row as usize * self.width as usize;
-        let rgb = self.cells[first + column as usize].rgb;
-        let mut end = column + 1;
-        while end < self.width && end - column < self.longest {
-            if self.cells[first + end as usize].rgb != rgb {
-                break;
-            }
-            end += 1;
-        }
-        Run { rgb, end }
+    fn row_from(&self, row: u32, column: u32) -> &[Cell] {
+        let first = row as usize * self.width as usize + column as usize;
+        let count = (self.width - column).min(self.longest) as usize;
+        &self.cells[first..first + count]
     }
 }
