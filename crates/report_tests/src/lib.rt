@@ -2,6 +2,8 @@
 #![tactic(auto)]
 
 #[cfg(test)]
+mod bare;
+#[cfg(test)]
 mod history;
 #[cfg(test)]
 mod message;
@@ -13,3 +15,5 @@ mod pixels;
 mod screen;
 #[cfg(test)]
 mod taken;
+#[cfg(test)]
+mod whole;
