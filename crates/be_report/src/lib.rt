@@ -21,4 +21,5 @@ pub use laws::{
     a_history_is_told_by_its_text, a_report_tells_its_history,
     a_text_that_tells_none_breaks_at_a_line, an_entry_has_one_line,
 };
+pub use puts::put_lines;
 pub use whole::{ReportFault, report};

@@ -5,7 +5,7 @@ ghost use Rattle.be_outside.specs.Telling.{with_end, TakesPrefix};
 use be_outside::{Failed, Sink};
 
 /// Puts a text line by line, each line with its end as one piece.
-pub(crate) fn put_lines<K: Sink>(text: &[u8], sink: &mut K) -> Result<(), Failed>
+pub fn put_lines<K: Sink>(text: &[u8], sink: &mut K) -> Result<(), Failed>
     ensures written { OnOk result (K.held sink.new ≡ with_end (K.held sink.old) text.now) }
     ensures prefix { OnErr result (TakesPrefix (K.held sink.old) (K.held sink.new) text.now) }
     ensures failed { OnErr result (FaultsRose (K.faults sink.old) (K.faults sink.new)) }
