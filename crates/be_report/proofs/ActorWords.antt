@@ -1,5 +1,5 @@
 -- The names of activities: no two are the same, and there is one for each.
-use Rattle.std.proofs.Common.{◌≡◌, ℕ, ◌*◌, true, not, ◌&&◌, List, [], ◌∷◌, ◌++◌, length, map, flat_map, refl, arith, length-append}
+use Rattle.std.proofs.Common.{◌≡◌, ℕ, true, not, ◌&&◌, List, [], ◌∷◌, ◌++◌, length, map, flat_map, refl, arith, length-append}
 use Rattle.std.specs.List.{list_all}
 use Rattle.std.specs.Str.{bytes_eq}
 use Rattle.std.proofs.lemmas.Bool.{and_parts, and_from}

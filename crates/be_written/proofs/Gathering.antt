@@ -1,5 +1,5 @@
 -- The lines of all runners are gathered in one pass over a history.
-use Rattle.std.proofs.Common.{◌≡◌, ◌≢◌, ℕ, zero, suc, ◌+◌, ◌<◌, ◌≤◌, Bool, true, false, eqb, List, [], ◌∷◌, ◌++◌, length, get_or, set, drop, map, flat_map, replicate, Option, Some, None, refl, sym, ap, subst, ◌∙◌, arith, append_assoc, append-nil, get_or-set_other, get_or-set_same}
+use Rattle.std.proofs.Common.{◌≡◌, ◌≢◌, ℕ, zero, suc, ◌+◌, ◌<◌, ◌≤◌, Bool, true, false, List, [], ◌∷◌, ◌++◌, length, get_or, set, drop, replicate, Some, None, refl, sym, ap, subst, ◌∙◌, arith, append_assoc, append-nil, get_or-set_other, get_or-set_same}
 use Rattle.std.proofs.lemmas.Bool.Decides.{nat_tests}
 use Rattle.std.proofs.lemmas.List.{drop_all, drop_more, length-set, length-replicate, get_or_read}
 use Rattle.be_script.specs.Script.{Declared}
@@ -11,7 +11,7 @@ use Rattle.be_machine.specs.State.{State, opening_state}
 use Rattle.be_machine.specs.Step.{step}
 use Rattle.be_machine.specs.Traces.{Trace, same_runner, entry_trace, traces_from, traces_of}
 use Rattle.be_written.specs.Lines.{line_of}
-use Rattle.be_written.specs.Notings.{AreNoted, maker_trace}
+use Rattle.be_written.specs.Notings.{AreNoted}
 use Rattle.be_written.specs.Runners.{IsRunner, place_of, runner_at}
 use Rattle.be_written.specs.TraceText.{trace_words, noted_text}
 use Rattle.be_written.proofs.Quiet.{same_is, notes_nothing}

@@ -3,13 +3,12 @@ use Rattle.std.proofs.Common.{◌≡◌, ℕ, ◌+◌, ◌<◌, ◌≤◌, List,
 use Rattle.std.specs.Fmt.{signed_decimal}
 use Rattle.std.proofs.lemmas.List.{drop_all, drop_more}
 use Rattle.be_geom.specs.declared.rect.Rect.{Rect}
-use Rattle.be_message.specs.Messages.{Message}
 use Rattle.be_script.specs.Script.{Declared}
 use Rattle.be_machine.specs.Activities.{Runner}
 use Rattle.be_machine.specs.Traces.{Trace, listed}
 use Rattle.be_written.specs.Lines.{line_of}
 use Rattle.be_written.specs.TraceText.{listed_name, edge_words, trace_words, noted_text}
-use Rattle.be_written.proofs.WriteLemmas.{mapped, appended, line_behind, line_written}
+use Rattle.be_written.proofs.WriteLemmas.{mapped, line_behind, line_written}
 
 -- ---- lines of two words
 

@@ -1,6 +1,6 @@
 -- A runner notes nothing of the entries of others.
-use Rattle.std.proofs.Common.{◌≡◌, ℕ, ◌+◌, Bool, true, false, cond, eqb, List, [], ◌∷◌, Option, Some, None, option_map, refl, sym, ap, subst, ◌∙◌}
-use Rattle.std.specs.Prelude.{option_and_then, slice_get, if◌then◌else◌, ◌==◌}
+use Rattle.std.proofs.Common.{◌≡◌, ℕ, Bool, true, false, List, [], Option, Some, None, option_map, refl, sym, ap, subst}
+use Rattle.std.specs.Prelude.{option_and_then, slice_get, if◌then◌else◌}
 use Rattle.std.specs.Option.{option_map_or}
 use Rattle.std.proofs.lemmas.Bool.{false≢true, eqb-true}
 use Rattle.be_actor.specs.declared.Wish.{Wish}
@@ -10,10 +10,10 @@ use Rattle.be_script.specs.declared.InputLine.{InputLine}
 use Rattle.be_script.specs.Script.{Declared}
 use Rattle.be_machine.specs.Activities.{Runner, app, looper, Activity, runner, twin, input, closing, activity_of}
 use Rattle.be_machine.specs.declared.Entry.{Entry}
-use Rattle.be_machine.specs.Program.{app_wish, body_wish, letter_program, update_program, buffered}
+use Rattle.be_machine.specs.Program.{app_wish, body_wish, letter_program, update_program}
 use Rattle.be_machine.specs.State.{State, Looper, free, locked, handling, Stage, in_body, beginning, in_update, ending}
 use Rattle.be_machine.specs.Traces.{Trace, same_runner, trace_of, entry_trace}
-use Rattle.be_machine.specs.Wants.{Want, asks, takes, begins, flushes, draws_end, ends, notifies, executes, uses, stops, want_of, asks_or, end_want, draw_end_want, stage_want, looper_want, twin_want}
+use Rattle.be_machine.specs.Wants.{Want, asks, flushes, draws_end, ends, notifies, executes, uses, want_of, asks_or, end_want, draw_end_want, stage_want, looper_want}
 use Rattle.be_written.specs.Runners.{runner_in, runner_at}
 
 -- ---- two runners

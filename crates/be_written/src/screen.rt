@@ -85,12 +85,7 @@ fn write_row<S: Screen>(page: &mut Page, screen: &S, row: u32) -> Result<(), NoM
 }
 
 /// The longest run from this pixel on.
-fn longest_run<'a, S: Screen>(
-    screen: &'a S,
-    row: u32,
-    column: u32,
-    strip: &mut Strip<'a>,
-) -> Run
+fn longest_run<'a, S: Screen>(screen: &'a S, row: u32, column: u32, strip: &mut Strip<'a>) -> Run
     requires row { row < S.down screen.now }
     requires column { column < S.across screen.now }
     requires strip { let s = screen.now in IsStrip (S.across s) row (S.cells s) strip.old }
@@ -142,12 +137,7 @@ fn run_at<'a, S: Screen>(screen: &'a S, row: u32, column: u32, strip: &mut Strip
 }
 
 /// The cells that are held, where this pixel's is among them, else those from it on.
-fn strip_with<'a, S: Screen>(
-    screen: &'a S,
-    row: u32,
-    column: u32,
-    held: Strip<'a>,
-) -> Strip<'a>
+fn strip_with<'a, S: Screen>(screen: &'a S, row: u32, column: u32, held: Strip<'a>) -> Strip<'a>
     requires row { row < S.down screen.now }
     requires column { column < S.across screen.now }
     requires small { S.across screen.now < 2 ^ 32 }

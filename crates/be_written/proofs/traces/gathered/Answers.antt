@@ -1,4 +1,4 @@
-use Rattle.std.proofs.Common.{◌≡◌, ℕ, ◌+◌, List, ◌++◌, drop, sym, ap, subst, ◌∙◌, arith}
+use Rattle.std.proofs.Common.{◌≡◌, ◌+◌, List, ◌++◌, drop, sym, ap, subst, ◌∙◌, arith}
 use Rattle.be_machine.specs.Legal.{IsLegal}
 use Rattle.be_machine.specs.Step.{step}
 use Rattle.be_machine.specs.Traces.{Trace, entry_trace}

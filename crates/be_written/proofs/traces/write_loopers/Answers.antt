@@ -1,4 +1,4 @@
-use Rattle.std.proofs.Common.{◌≡◌, codes, [], ◌∷◌, ℕ, ◌+◌, ◌<◌, ◌≤◌, List, ◌++◌, length, get_or, sym, ap, subst, ◌∙◌, arith}
+use Rattle.std.proofs.Common.{◌≡◌, codes, [], ◌∷◌, ℕ, ◌+◌, ◌<◌, ◌≤◌, List, ◌++◌, length, get_or, ap, subst, ◌∙◌, arith}
 use Rattle.be_script.specs.Script.{declared_by}
 use Rattle.be_script.specs.declared.WindowLine.{WindowLine}
 use Rattle.be_written.specs.Lines.{line_of}

@@ -1,4 +1,4 @@
-use Rattle.std.proofs.Common.{◌≡◌, ℕ, List, ◌++◌, sym, subst}
+use Rattle.std.proofs.Common.{◌≡◌, List, ◌++◌, sym, subst}
 use Rattle.be_machine.specs.declared.Entry.{Entry}
 use Rattle.be_script.specs.Script.{declared_by}
 use Rattle.be_written.specs.Notings.{AreNoted}
