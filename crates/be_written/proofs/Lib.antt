@@ -2,6 +2,8 @@ pub mod ActorNames
 pub mod WriteLemmas
 pub mod MessageLemmas
 pub mod ScreenRows
+pub mod SpeltLemmas
+pub mod SpeltValues
 pub mod TakenLemmas
 pub mod NoteLemmas
 pub mod Quiet

@@ -12,11 +12,15 @@ use Rattle.be_written.proofs.WriteLemmas.{mapped, line_behind, line_written}
 
 -- ---- lines of two words
 
+pub told_words : (old one two new kind word : List ℕ) → one ≡ old ++ kind → two ≡ one ++ 32 ∷ word → new ≡ two ++ 10 ∷ [] → new ≡ old ++ line_of (kind ∷ word ∷ [])
+told_words old one two new kind word first second last =
+    let words = second ∙ ap (λ (text : List ℕ). one ++ text) (sym (append-nil (32 ∷ word))) in
+    line_written old one two new kind (word ∷ []) first words last
+
 pub two_words : {E : Type 0} (r : Result (Unit {0}) E) (old one two new kind word : List ℕ) → one ≡ old ++ kind → two ≡ one ++ 32 ∷ word
     → OnOk r (new ≡ two ++ 10 ∷ []) → OnOk r (new ≡ old ++ line_of (kind ∷ word ∷ []))
 two_words r old one two new kind word first second last =
-    let words = second ∙ ap (λ (text : List ℕ). one ++ text) (sym (append-nil (32 ∷ word))) in
-    mapped r (new ≡ two ++ 10 ∷ []) (new ≡ old ++ line_of (kind ∷ word ∷ [])) last (λ end. line_written old one two new kind (word ∷ []) first words end)
+    mapped r (new ≡ two ++ 10 ∷ []) (new ≡ old ++ line_of (kind ∷ word ∷ [])) last (told_words old one two new kind word first second)
 
 -- ---- a line of a listing
 

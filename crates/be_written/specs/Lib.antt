@@ -3,6 +3,7 @@ pub mod Names
 pub mod EntryText
 pub mod MessageText
 pub mod TraceText
+pub mod Spelt
 pub mod Takings
 pub mod Runners
 pub mod Notings

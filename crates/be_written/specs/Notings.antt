@@ -10,6 +10,7 @@ use Rattle.be_machine.specs.Traces.{Trace, noted, got, took, listed, replied, en
 use Rattle.be_written.specs.declared.note.Note.{Note}
 use Rattle.be_written.specs.declared.note.Note.TheVariants as note
 use Rattle.be_written.specs.Runners.{IsRunner, place_of, runner_at}
+use Rattle.be_written.specs.Spelt.{IsSaid}
 use Rattle.be_written.specs.Takings.{Tells}
 use Rattle.be_written.specs.TraceText.{noted_text}
 
@@ -27,10 +28,10 @@ maker_trace d s e = noted_by d s e (runner_at d e.actor)
 abbrev pub Says : Note → List Trace → Type 0
 Says note.Nothing traces = traces ≡ []
 Says (note.Word word) traces = traces ≡ noted word.now ∷ []
-Says (note.Got message) traces = traces ≡ got message.now ∷ []
+Says (note.Got said) traces = (m : Message) × (IsSaid said m × (traces ≡ got m ∷ []))
 Says (note.Took n taken) traces = (hand : Hand Message) × (Tells taken hand × (traces ≡ took n hand ∷ []))
 Says (note.Listed views) traces = traces ≡ map (λ p. listed p.0 p.1) views.now
-Says (note.Replied message) traces = traces ≡ replied message.now ∷ []
+Says (note.Replied said) traces = (m : Message) × (IsSaid said m × (traces ≡ replied m ∷ []))
 
 -- ---- a history
 

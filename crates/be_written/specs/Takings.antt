@@ -6,6 +6,7 @@ use Rattle.be_machine.specs.Activities.{Runner, app, looper}
 use Rattle.be_written.specs.declared.runner.Runner as declared
 use Rattle.be_written.specs.declared.runner.Runner.TheVariants as runner
 use Rattle.be_written.specs.declared.taken.Taken.{Taken}
+use Rattle.be_written.specs.Spelt.{IsSaid}
 
 abbrev pub runner_of : declared.Runner → Runner
 runner_of (runner.App m) = app m
@@ -17,4 +18,4 @@ pub record Tells (taken : Taken) (hand : Hand Message) : Type 0 where
   pub hop : hand.letter.hop ≡ taken.hop
   pub target : hand.letter.target ≡ taken.target
   pub route : hand.route ≡ taken.route
-  pub message : hand.letter.body ≡ taken.message.now
+  pub message : IsSaid taken.message hand.letter.body

@@ -7,11 +7,14 @@
 //! its runs.
 #![tactic(auto)]
 
+mod cut;
 mod message;
 mod note;
 mod page;
 mod runner;
+mod said;
 mod screen;
+mod spelt;
 mod taken;
 mod traces;
 mod writing;
@@ -20,6 +23,7 @@ pub use message::write_message;
 pub use note::{Note, write_note};
 pub use page::Page;
 pub use runner::Runner;
+pub use said::Said;
 pub use screen::{Screen, write_screen};
 pub use taken::Taken;
 pub use traces::{Notes, write_traces};

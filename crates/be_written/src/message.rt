@@ -91,7 +91,7 @@ fn write_value(page: &mut Page, value: &Value) -> Result<(), NoMemory>
 }
 
 /// The bytes of a text, those that part words and values by their codes.
-fn write_text(page: &mut Page, text: &[u8]) -> Result<(), NoMemory>
+pub(crate) fn write_text(page: &mut Page, text: &[u8]) -> Result<(), NoMemory>
     ensures { OnOk result (page.new ≡ page.old ++ flat_map escaped text.now) }
 {
     for byte in text {
@@ -121,7 +121,7 @@ fn write_rect(page: &mut Page, rect: Rect) -> Result<(), NoMemory>
 }
 
 /// Two numbers with a stroke between them.
-fn write_stroked(page: &mut Page, x: i16, y: i16) -> Result<(), NoMemory>
+pub(crate) fn write_stroked(page: &mut Page, x: i16, y: i16) -> Result<(), NoMemory>
     ensures { OnOk result (page.new ≡ page.old ++ stroked x y) }
 {
     page.signed(i64::from(x))?;
@@ -129,7 +129,7 @@ fn write_stroked(page: &mut Page, x: i16, y: i16) -> Result<(), NoMemory>
     page.signed(i64::from(y))
 }
 
-fn bool_text(is_set: bool) -> &'static [u8]
+pub(crate) fn bool_text(is_set: bool) -> &'static [u8]
     ensures { result.now ≡ bool_text is_set }
 {
     if is_set { b"true" } else { b"false" }

@@ -1,19 +1,20 @@
 ghost use Rattle.std.specs.Prelude.{◌≡◌, List, [], ◌∷◌, ◌++◌, map, OnOk};
 ghost use Rattle.std.specs.Fmt.{signed_decimal};
 ghost use Rattle.be_machine.specs.Traces.{Trace, listed};
+ghost use Rattle.be_message.specs.Messages as messages;
 ghost use Rattle.be_script.specs.Script.{declared_by};
 ghost use Rattle.be_written.specs.Lines.{line_of};
 ghost use Rattle.be_written.specs.MessageText.{message_text};
 ghost use Rattle.be_written.specs.Notings.{Says};
+ghost use Rattle.be_written.specs.Spelt.{IsSaid};
 ghost use Rattle.be_written.specs.Takings.{runner_of};
 ghost use Rattle.be_written.specs.TraceText.{listed_name, noted_text, trace_words};
 
-use crate::message::write_message;
 use crate::page::Page;
 use crate::runner::Runner;
+use crate::said::{Said, write_said};
 use crate::taken::{Taken, view_name, write_taken};
 use be_geom::{NoMemory, Rect};
-use be_message::Message;
 use be_script::Script;
 
 /// What a runner notes of an entry that it makes.
@@ -22,14 +23,14 @@ pub enum Note<'a> {
     Nothing,
     Word(&'a [u8]),
     /// The reply for which an application waited.
-    Got(&'a Message),
+    Got(Said<'a>),
     /// The letter of this number.
     Took(u64, Taken<'a>),
     /// The views that an update lists, each with the smallest rectangle of its pixels, in the
     /// window's coordinates.
     Listed(&'a [(u16, Rect)]),
     /// A reply that reached an application.
-    Replied(&'a Message),
+    Replied(Said<'a>),
 }
 
 /// Writes the lines of what a runner noted. To find a handler's or a view's name takes a look at each
@@ -46,10 +47,10 @@ pub fn write_note(
     match note {
         Note::Nothing => Ok(()),
         Note::Word(word) => write_line(page, b"note", word),
-        Note::Got(message) => write_told(page, b"got", message),
+        Note::Got(said) => write_told(page, b"got", *said),
         Note::Took(number, taken) => write_taken(page, script, runner, *number, taken),
         Note::Listed(views) => write_listing(page, script, runner, views),
-        Note::Replied(message) => write_told(page, b"reply", message),
+        Note::Replied(said) => write_told(page, b"reply", *said),
     }
 }
 
@@ -63,13 +64,13 @@ pub(crate) fn write_line(page: &mut Page, kind: &[u8], word: &[u8]) -> Result<()
 }
 
 /// A message behind what became of it.
-fn write_told(page: &mut Page, kind: &[u8], message: &Message) -> Result<(), NoMemory>
-    ensures { OnOk result
-        (page.new ≡ page.old ++ line_of (kind.now ∷ message_text message.now ∷ [])) }
+fn write_told(page: &mut Page, kind: &[u8], said: Said<'_>) -> Result<(), NoMemory>
+    ensures { OnOk result ((m : messages.Message) → IsSaid said.entry m
+        → page.new ≡ page.old ++ line_of (kind.now ∷ message_text m ∷ [])) }
 {
     page.text(kind)?;
     page.text(b" ")?;
-    write_message(page, message)?;
+    write_said(page, said)?;
     page.end_line()
 }
 

@@ -7,13 +7,13 @@ ghost use Rattle.be_written.specs.Takings.{runner_of, Tells};
 ghost use Rattle.be_written.specs.TraceText.{sender_name, handler_name, route_name, taken_words};
 ghost use Rattle.be_script.specs.Script.{declared_by};
 
-use crate::message::write_fields;
 use crate::page::Page;
 use crate::runner::Runner;
+use crate::said::{Said, said_word, write_said_fields};
 use crate::writing::{app_name, window_name, write_named};
 use be_geom::NoMemory;
 use be_handler::Route;
-use be_message::{Message, Target};
+use be_message::Target;
 use be_port::Sender;
 use be_script::{HandlerLine, Script, ViewLine};
 
@@ -25,7 +25,7 @@ pub struct Taken<'a> {
     pub hop: u8,
     pub target: Target,
     pub route: Route,
-    pub message: &'a Message,
+    pub message: Said<'a>,
 }
 
 /// Writes the line of a letter that was taken as this number. To find a handler's name takes a look
@@ -46,10 +46,10 @@ pub(crate) fn write_taken(
     write_sender(page, script, taken.sender)?;
     page.number_word(u64::from(taken.hop))?;
     page.text(b" ")?;
-    page.code(taken.message.what())?;
+    page.code(said_word(taken.message))?;
     page.word(handler_name(script, runner, taken.target))?;
     page.word(route_name(script, runner, taken.route))?;
-    write_fields(page, taken.message.fields())?;
+    write_said_fields(page, taken.message)?;
     page.end_line()
 }
 
