@@ -1,6 +1,8 @@
+use crate::bare::script;
+use be_flat::flatten;
 use be_geom::{Point, Rect};
 use be_message::{Message, Text, Value};
-use be_written::{Page, write_message};
+use be_written::{Note, Page, Runner, Said, write_message, write_note};
 use std::alloc::Global;
 use std::test::Fail;
 
@@ -19,6 +21,20 @@ fn with(alloc: Global, what: u32, name: &str, values: [Value; 2]) -> Result<Mess
 fn written(alloc: Global, message: &Message) -> Result<Page, Fail> {
     let mut page = Page::new(alloc);
     write_message(&mut page, message)?;
+    Ok(page)
+}
+
+/// The line of a message that was got, from the bytes that spell it.
+fn spelt(alloc: Global, message: &Message) -> Result<Page, Fail> {
+    let bytes = flatten(alloc, message)?;
+    let script = script(alloc);
+    let mut page = Page::new(alloc);
+    write_note(
+        &mut page,
+        &script,
+        Runner::App(0),
+        &Note::Got(Said::Spelt(&bytes)),
+    )?;
     Ok(page)
 }
 
@@ -98,8 +114,13 @@ fn values_of_each_type(rt: HostRuntime) -> Result<(), Fail> {
             b"PING n=MSGG:(PING),(PONG j=MSGG:(PONG),(PING i=LONG:7,8))".as_slice(),
         ),
     ] {
-        let page = written(alloc, &with(alloc, PING, "n", values)?)?;
-        assert_eq!(rt; page.as_slice(), want);
+        let message = with(alloc, PING, "n", values)?;
+        assert_eq!(rt; written(alloc, &message)?.as_slice(), want);
+        let mut line = Page::new(alloc);
+        line.text(b"got ")?;
+        line.text(want)?;
+        line.end_line()?;
+        assert_eq!(rt; spelt(alloc, &message)?.as_slice(), line.as_slice());
     }
     Ok(())
 }

@@ -1,7 +1,8 @@
+use be_flat::flatten;
 use be_geom::Rect;
 use be_message::{Message, Text, Value};
 use be_reader::read;
-use be_written::{Note, Page, Runner, write_note};
+use be_written::{Note, Page, Runner, Said, write_note};
 use std::test::Fail;
 
 const DONE: u32 = 0x444f_4e45;
@@ -36,6 +37,7 @@ fn lines_of_notes(rt: HostRuntime) -> Result<(), Fail> {
     let mut message = Message::new(alloc, DONE);
     message.add("n", Value::Int(-7))?;
     message.add("t", Value::Text(Text::new(alloc, b"a b")?))?;
+    let bytes = flatten(alloc, &message)?;
     for (runner, note, want) in [
         (Runner::App(0), Note::Nothing, b"".as_slice()),
         (Runner::App(0), Note::Word(b"hi"), b"note hi\n".as_slice()),
@@ -46,12 +48,17 @@ fn lines_of_notes(rt: HostRuntime) -> Result<(), Fail> {
         ),
         (
             Runner::App(0),
-            Note::Got(&message),
+            Note::Got(Said::Whole(&message)),
             b"got DONE n=LONG:-7 t=CSTR:a%20b\n".as_slice(),
         ),
         (
             Runner::Looper(0),
-            Note::Replied(&message),
+            Note::Replied(Said::Whole(&message)),
+            b"reply DONE n=LONG:-7 t=CSTR:a%20b\n".as_slice(),
+        ),
+        (
+            Runner::Looper(0),
+            Note::Replied(Said::Spelt(&bytes)),
             b"reply DONE n=LONG:-7 t=CSTR:a%20b\n".as_slice(),
         ),
         (Runner::Looper(0), Note::Listed(&[]), b"".as_slice()),

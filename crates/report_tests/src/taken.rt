@@ -2,7 +2,7 @@ use be_handler::Route;
 use be_message::{Message, Target, Value};
 use be_port::Sender;
 use be_reader::read;
-use be_written::{Note, Page, Runner, Taken, write_note};
+use be_written::{Note, Page, Runner, Said, Taken, write_note};
 use std::test::Fail;
 
 const PING: u32 = 0x5049_4e47;
@@ -78,7 +78,7 @@ fn letters_that_were_taken(rt: HostRuntime) -> Result<(), Fail> {
             hop,
             target,
             route,
-            message: &message,
+            message: Said::Whole(&message),
         };
         write_note(&mut page, &script, runner, &Note::Took(number, taken))?;
         assert_eq!(rt; page.as_slice(), want);

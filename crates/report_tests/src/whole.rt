@@ -45,7 +45,12 @@ fn each_line_is_one_put(rt: HostRuntime) -> Result<(), Fail> {
             Err(ReportFault::WriteFault),
             b"history 1\n1 stop".as_slice(),
         ),
-        (None, 12, Err(ReportFault::WriteFault), &REPORT[..12]),
+        (
+            None,
+            12,
+            Err(ReportFault::WriteFault),
+            b"history 1\n".as_slice(),
+        ),
     ] {
         let mut calls = Vec::new(alloc);
         if let Some(call) = failing {

@@ -3,6 +3,7 @@ ghost use Rattle.be_script.specs.Limits.{IsWithinLimits};
 ghost use Rattle.be_script.specs.Script.{declared_by};
 
 use crate::board::Board;
+use be_flat::flatten;
 use be_geom::NoMemory;
 use be_handler::Route;
 use be_machine::Entry;
@@ -12,7 +13,7 @@ use be_port::Sender;
 use be_reader::read;
 use be_report::{put_lines, read_history};
 use be_script::Script;
-use be_written::{Note, Page, Runner, Taken, write_history, write_note, write_screen};
+use be_written::{Note, Page, Runner, Said, Taken, write_history, write_note, write_screen};
 use std::alloc::Global;
 
 /// A sink that has the page's bytes, put line by line.
@@ -89,16 +90,17 @@ pub fn note_rounds(alloc: Global, count: u32, rounds: u32) -> Result<MemorySink,
     message
         .add("number", Value::Int(-2_000_000))
         .map_err(|_| NoMemory)?;
+    let bytes = flatten(alloc, &message)?;
     for _round in 0..rounds {
-        noted(alloc, &script, &message, count)?;
+        noted(alloc, &script, &bytes, count)?;
     }
-    noted(alloc, &script, &message, count)
+    noted(alloc, &script, &bytes, count)
 }
 
 fn noted(
     alloc: Global,
     script: &Script,
-    message: &Message,
+    message: &[u8],
     count: u32,
 ) -> Result<MemorySink, NoMemory> {
     let mut page = Page::new(alloc);
@@ -108,7 +110,7 @@ fn noted(
             hop: 0,
             target: Target::Window,
             route: Route::Handler(Target::View(0)),
-            message,
+            message: Said::Spelt(message),
         };
         write_note(
             &mut page,
