@@ -1,10 +1,10 @@
-//! The text of a report, piece by piece: the lines of a history, what was noted of it, a message, and
-//! a screen.
+//! The text of a report, piece by piece: the lines of a history, what was noted of it, a message,
+//! and a screen.
 //!
-//! Each piece is written behind the others on a page, in a time that is linear in its bytes, but for
-//! the names of handlers, each of which is looked for among all views or all plain handlers. A
+//! Each piece is written behind the others on a page, in a time that is linear in its bytes, but
+//! for the names of handlers, each of which is looked for among all views or all plain handlers. A
 //! history is gone through once for all that is noted of it. A screen is written in one pass over
-//! its runs.
+//! its cells.
 #![tactic(auto)]
 
 mod cut;

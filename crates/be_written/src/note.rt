@@ -33,8 +33,8 @@ pub enum Note<'a> {
     Replied(Said<'a>),
 }
 
-/// Writes the lines of what a runner noted. To find a handler's or a view's name takes a look at each
-/// view or each plain handler of the script.
+/// Writes the lines of what a runner noted. To find a handler's or a view's name takes a look at
+/// each view or each plain handler of the script.
 pub fn write_note(
     page: &mut Page,
     script: &Script,

@@ -63,7 +63,9 @@ fn write_spelt_fields<'a>(
 fn write_spelt_field<'a>(page: &mut Page, bytes: &'a [u8], levels: u8) -> Result<&'a [u8], NoMemory>
     ensures { (name : List ℕ) (kind : Kind) (vs : Values) (behind : List ℕ)
         → StartsField bytes.now levels name kind vs behind
-        → IfOk result (λ rest. Leaves page.old (fields_text (messages.field name kind vs messages.no_fields)) behind page.new rest.now) }
+        → IfOk result (λ rest. Leaves page.old
+        (fields_text (messages.field name kind vs messages.no_fields))
+        behind page.new rest.now) }
 {
     let (letters, rest) = cut(bytes, 4);
     let (length, rest) = cut(rest, 1);
@@ -141,7 +143,8 @@ fn write_spelt_inner<'a>(page: &mut Page, bytes: &'a [u8], levels: u8) -> Result
     ensures { (what : ℕ) (fs : Fields) (front behind : List ℕ) → bytes.now ≡ front ++ behind
         → SpellsDatum front (messages.message what fs)
         → datum_depth (messages.message what fs) ≤ levels
-        → IfOk result (λ rest. Leaves page.old (datum_text (messages.message what fs)) behind page.new rest.now) }
+        → IfOk result (λ rest. Leaves page.old
+        (datum_text (messages.message what fs)) behind page.new rest.now) }
 {
     if levels == 0 {
         return Ok(bytes);
@@ -197,7 +200,8 @@ fn write_spelt_point<'a>(page: &mut Page, bytes: &'a [u8]) -> Result<&'a [u8], N
 fn write_spelt_rect<'a>(page: &mut Page, bytes: &'a [u8]) -> Result<&'a [u8], NoMemory>
     ensures { (r : Rect) (front behind : List ℕ) → bytes.now ≡ front ++ behind
         → SpellsDatum front (messages.rect r)
-        → IfOk result (λ rest. Leaves page.old (datum_text (messages.rect r)) behind page.new rest.now) }
+        → IfOk result (λ rest. Leaves page.old
+        (datum_text (messages.rect r)) behind page.new rest.now) }
 {
     let rest = write_spelt_point(page, bytes)?;
     page.text(b"/")?;

@@ -5,7 +5,8 @@ use be_span::Cell;
 use be_written::Screen;
 use std::alloc::{AllocError, Global};
 
-/// A screen whose cells are in memory. It tells no more cells at once than `longest`, but one at least.
+/// A screen whose cells are in memory. It tells no more cells at once than `longest`, but one at
+/// least.
 #[derive(Drop)]
 pub(crate) struct Pixels {
     width: u32,

@@ -1,5 +1,5 @@
-//! Writes a history, notes or a screen over and over, or reads a history, as the words on the command
-//! line say; and writes what came of it last. `bench/report` times it.
+//! Writes a history, notes or a screen over and over, or reads a history, as the words on the
+//! command line say; and writes what came of it last. `bench/report` times it.
 #![tactic(auto)]
 
 mod board;
@@ -15,10 +15,10 @@ use std::process::ExitCode;
 use std::{env, io};
 
 const USAGE: &str =
-    "usage: write_reports history|read|notes COUNT|plain WIDTH HEIGHT|checkered WIDTH HEIGHT ROUNDS";
+    "usage: write_reports history|read|notes COUNT|(plain|checkered) WIDTH HEIGHT ROUNDS";
 
-/// A script and its history are read from standard input. Other words than those of the usage end with
-/// status 2; a script or a history that is refused, and want of memory, with 1.
+/// A script and its history are read from standard input. Other words than those of the usage end
+/// with status 2; a script or a history that is refused, and want of memory, with 1.
 fn main(rt: HostRuntime) -> io::Result<ExitCode> {
     let mut words = Vec::new(rt.alloc());
     for word in env::args(&rt)?.skip(1) {
