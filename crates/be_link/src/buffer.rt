@@ -1,5 +1,5 @@
-ghost use Rattle.std.specs.Prelude.{◌≡◌, ◌+◌, ◌-◌, ◌^◌, ◌<◌, ◌↔◌, true, length, IsErr, IfOk, IfErr, OnOk, OnErr};
-ghost use Rattle.be_link.specs.Queues.{empty_buffer, is_full, with_command, IsBuffer};
+ghost use Rattle.std.specs.Prelude.{◌≡◌, ◌+◌, ◌-◌, ◌^◌, ◌<◌, ◌↔◌, true, length, option_map, slice_get, IsErr, IfOk, IfErr, OnOk, OnErr};
+ghost use Rattle.be_link.specs.Queues.{empty_buffer, is_full, numbered, with_command, without_oldest, IsBuffer};
 
 use crate::fault::BufferFull;
 use be_command::Command;
@@ -58,6 +58,15 @@ impl Buffer {
         self.made += 1;
         let _ = self.ring.push_back((self.made, command));
         Ok(self.made)
+    }
+
+    /// Takes the oldest command out, with its number, on its way to the link. None where there is
+    /// none.
+    pub fn pop(&mut self) -> Option<(u64, Command)>
+        ensures command { option_map numbered result ≡ slice_get self.old.commands 0 }
+        ensures rest { self.new ≡ without_oldest self.old }
+    {
+        self.ring.pop_front()
     }
 
     /// How many commands are in the buffer.

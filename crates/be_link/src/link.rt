@@ -1,4 +1,4 @@
-ghost use Rattle.std.specs.Prelude.{◌≡◌, ◌≤◌, ◌↔◌, false, [], length, slice_get, option_map, IsErr, IfOk, OnOk, OnErr};
+ghost use Rattle.std.specs.Prelude.{◌≡◌, ◌≤◌, ◌<◌, ◌↔◌, ◌++◌, ◌∷◌, false, [], length, slice_get, option_map, IsErr, IfOk, OnOk, OnErr};
 ghost use Rattle.be_link.specs.Queues.{numbered, fits, lengthened, emptied, shortened};
 
 use crate::buffer::Buffer;
@@ -56,6 +56,14 @@ impl Link {
         }
         move_all(&mut buffer.ring, &mut self.ring);
         Ok(count)
+    }
+
+    /// Puts a command behind the others, with the number that it had in the buffer.
+    pub fn push(&mut self, number: u64, command: Command)
+        requires { length self.old < 256 }
+        ensures { self.new ≡ self.old ++ numbered (number, command) ∷ [] }
+    {
+        let _ = self.ring.push_back((number, command));
     }
 
     /// How many commands are in the link.
