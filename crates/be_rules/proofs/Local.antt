@@ -21,10 +21,10 @@ use Rattle.be_machine.specs.Touched as part
 use Rattle.be_machine.specs.Windows.{width_of, owned, corner_at}
 use Rattle.be_machine.proofs.ReadsDirt.{number_is, is_owned}
 use Rattle.be_rules.specs.Places.{place_of, IsPart}
-use Rattle.be_rules.specs.Slices.{Shown, Slice, desk, input, cell, looper, port, link, pane, desk_in, input_in, app_in, looper_in, buffer_in, port_in, link_in, shown_of, slice_of, all_parts}
+use Rattle.be_rules.specs.Slices.{Shown, Slice, desk, input, cell, looper, port, link, pane, desk_in, input_in, app_in, looper_in, buffer_in, port_in, link_in, look_at, shown_of, slice_of, all_parts}
 use Rattle.be_rules.proofs.Cut.{IsWhole, owner_there}
 use Rattle.be_rules.proofs.ListLemmas.{past_none, elem_left, elem_right, elem_range}
-use Rattle.be_rules.proofs.Looks.{look_at, look_own}
+use Rattle.be_rules.proofs.Looks.{look_own}
 
 abbrev shown_in : Slice → Option Shown
 shown_in (desk x) = None
