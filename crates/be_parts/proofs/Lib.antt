@@ -1,0 +1,4 @@
+pub mod Looking
+pub mod Executed
+pub mod Changed
+pub mod Begun

@@ -1,0 +1,15 @@
+pub mod Kept
+pub mod Effects
+pub mod Cells
+pub mod Desks
+pub mod Links
+pub mod Stages
+pub mod Holding
+pub mod Loopers
+pub mod Stands
+pub mod Ports
+pub mod Panes
+pub mod Changed
+pub mod Begun
+pub mod Parts
+pub mod Kinds

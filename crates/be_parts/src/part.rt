@@ -1,0 +1,78 @@
+ghost use Rattle.std.specs.Prelude.{◌≡◌, ◌<◌, ◌++◌, ◌∷◌, [], true, is_some, option_map, IfOk, IfSome, IfNone};
+ghost use Rattle.std.specs.Borrow.{LendsIf, sem};
+ghost use Rattle.be_parts.specs.contracts.log.Log as logs;
+ghost use Rattle.be_parts.specs.contracts.part.Part as parts;
+ghost use Rattle.be_parts.specs.Parts.{log_of, logged_of, meaning_of, spare_of, with_log};
+
+use crate::cell::CellPart;
+use crate::desk::DeskPart;
+use crate::input::InputPart;
+use crate::link::LinkPart;
+use crate::log::Log;
+use crate::looper::LooperPart;
+use crate::pane::PanePart;
+use crate::port::PortPart;
+use be_geom::NoMemory;
+use be_machine::Entry;
+
+/// One part of the server, which an activity takes for an entry.
+#[derive(Drop)]
+pub enum Part {
+    Desk(DeskPart),
+    Input(InputPart),
+    Cell(CellPart),
+    Looper(LooperPart),
+    Port(PortPart),
+    Link(LinkPart),
+    Pane(PanePart),
+}
+
+impl Part {
+    /// The entries that its activity made. None where no activity keeps any there.
+    fn log(&mut self) -> Option<&mut Log>
+        ensures* writes_back { sem 𝓛 (LendsIf parts.the_row logs.the_row self.entry result
+            (with_log self.old) self.old) }
+        ensures value { option_map (λ log. log.now) result ≡ logged_of self.old }
+    {
+        match self {
+            Part::Input(part) => Some(&mut part.log),
+            Part::Cell(part) => Some(&mut part.log),
+            Part::Looper(part) => Some(&mut part.log),
+            Part::Pane(part) => Some(&mut part.log),
+            Part::Desk(_) | Part::Port(_) | Part::Link(_) => None,
+        }
+    }
+
+    /// Asks for room for one entry more.
+    pub fn make_room(&mut self) -> Result<(), NoMemory>
+        ensures slice { meaning_of self.new ≡ meaning_of self.old }
+        ensures log { log_of self.new ≡ log_of self.old }
+        ensures room { is_some (logged_of self.old) ≡ true
+            → IfOk result (λ _. 0 < spare_of self.new) }
+    {
+        match self.log() {
+            Some(log) => log.make_room(),
+            None => Ok(()),
+        }
+    }
+
+    /// Puts an entry behind the others.
+    pub fn enter(&mut self, number: u64, entry: Entry)
+        requires room { 0 < spare_of self.old }
+        ensures slice { meaning_of self.new ≡ meaning_of self.old }
+        ensures log { log_of self.new ≡ log_of self.old ++ (number, entry) ∷ [] }
+    {
+        if let Some(log) = self.log() {
+            log.enter(number, entry);
+        }
+    }
+
+    /// Takes the oldest entry out.
+    pub fn unlog(&mut self) -> Option<(u64, Entry)>
+        ensures same { meaning_of self.new ≡ meaning_of self.old }
+        ensures oldest { IfSome result (λ pair. log_of self.old ≡ pair ∷ log_of self.new) }
+        ensures none { IfNone result ((log_of self.old ≡ []) × (log_of self.new ≡ [])) }
+    {
+        self.log()?.pop()
+    }
+}
