@@ -1,0 +1,6 @@
+pub mod Wants
+pub mod Deeds
+pub mod Finding
+pub mod Bodies
+pub mod Counts
+pub mod Loopers

@@ -1,0 +1,37 @@
+//! What an activity wants, and whether it may have it, told by the parts in hand.
+//!
+//! Some sound list of slices has these parts, and there may be many: an answer holds in each of
+//! them. Asking takes no memory, and a few steps: a look at one instruction, and at the fronts of a
+//! port and of a link. An application that draws looks back through its program for its lock, and a
+//! looper looks for its body among the script's. No pixel is looked at.
+#![tactic(auto)]
+
+mod activity;
+mod answered;
+mod apps;
+mod ask;
+mod bodies;
+mod commands;
+mod deed;
+mod finding;
+mod letters;
+mod locking;
+mod places;
+mod programs;
+mod requests;
+mod twins;
+mod updating;
+mod want;
+
+pub use activity::{Activity, Runner, activity_of};
+pub use ask::wanted;
+pub use commands::{may_end_drawing, may_flush};
+pub use deed::{Answer, Deed};
+pub use letters::may_take;
+pub use locking::{may_claim, may_lock};
+pub use places::{
+    cell_place, desk_place, input_place, link_place, looper_place, pane_place, port_place,
+};
+pub use requests::request;
+pub use updating::{may_begin, may_notify};
+pub use want::{Request, Want, Wanted};
