@@ -1,0 +1,3 @@
+pub mod Recording
+pub mod Sorts
+pub mod Faults

@@ -1,0 +1,5 @@
+//! The tests of pictures. Nothing else is here.
+#![tactic(auto)]
+
+#[cfg(test)]
+mod recording;
