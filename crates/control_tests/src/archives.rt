@@ -121,7 +121,13 @@ fn refuses_what_is_no_archive(rt: HostRuntime) -> Result<(), Fail> {
     let mut one_field_more = message_of(alloc, VIEW, (7, 5), &[below(0)])?;
     one_field_more.add("more", Value::Int(0))?;
     assert_eq!(rt; refusal(alloc, &one_field_more), none);
+    Ok(())
+}
 
+#[test]
+fn refuses_another_order_and_type(rt: HostRuntime) -> Result<(), Fail> {
+    let alloc = rt.alloc();
+    let none = Some(ArchiveFault::NotArchive);
     let mut another_order = Message::new(alloc, VIEW);
     another_order.add("parent", Value::Int(0))?;
     add_size(&mut another_order, 7, 5)?;
@@ -136,93 +142,63 @@ fn refuses_what_is_no_archive(rt: HostRuntime) -> Result<(), Fail> {
     Ok(())
 }
 
+const WIDE: Row = Row {
+    parent: 0,
+    across: 4,
+    down: 0,
+};
+
+const LOW: Row = Row {
+    parent: 1,
+    across: 3,
+    down: 4,
+};
+
+const LAST: Row = Row {
+    parent: 1,
+    across: 3,
+    down: 3,
+};
+
 #[test]
 fn refuses_a_view_that_cannot_be(rt: HostRuntime) -> Result<(), Fail> {
     let alloc = rt.alloc();
-    let wide = Row {
-        parent: 0,
-        across: 4,
-        down: 0,
-    };
-    let low = Row {
-        parent: 1,
-        across: 3,
-        down: 4,
-    };
-    let last = Row {
-        parent: 1,
-        across: 3,
-        down: 3,
-    };
-    let chain = [
-        below(0),
-        below(1),
-        below(2),
-        below(3),
-        below(4),
-        below(5),
-        below(6),
-    ];
-    let deeper = [
-        below(0),
-        below(1),
-        below(2),
-        below(3),
-        below(4),
-        below(5),
-        below(6),
-        below(7),
-    ];
+    let bad_view = |view| Some(ArchiveFault::BadView { view });
+    let bad_size = Some(ArchiveFault::BadSize);
+    let too_many = Some(ArchiveFault::TooMany);
     for (size, rows, fault) in [
         ((0, 0), [].as_slice(), None),
-        ((-1, 0), [].as_slice(), Some(ArchiveFault::BadSize)),
-        ((0, -1), [below(1)].as_slice(), Some(ArchiveFault::BadSize)),
-        ((7, 5), [below(0), last].as_slice(), None),
-        (
-            (7, 5),
-            [below(1)].as_slice(),
-            Some(ArchiveFault::BadView { view: 1 }),
-        ),
-        (
-            (7, 5),
-            [below(-1)].as_slice(),
-            Some(ArchiveFault::BadView { view: 1 }),
-        ),
-        (
-            (7, 5),
-            [wide, low].as_slice(),
-            Some(ArchiveFault::BadView { view: 1 }),
-        ),
-        (
-            (7, 5),
-            [below(0), low].as_slice(),
-            Some(ArchiveFault::BadView { view: 2 }),
-        ),
-        ((7, 5), chain.as_slice(), None),
-        (
-            (7, 5),
-            deeper.as_slice(),
-            Some(ArchiveFault::BadView { view: 8 }),
-        ),
+        ((-1, 0), [].as_slice(), bad_size),
+        ((0, -1), [below(1)].as_slice(), bad_size),
+        ((7, 5), [below(0), LAST].as_slice(), None),
+        ((7, 5), [below(1)].as_slice(), bad_view(1)),
+        ((7, 5), [below(-1)].as_slice(), bad_view(1)),
+        ((7, 5), [WIDE, LOW].as_slice(), bad_view(1)),
+        ((7, 5), [below(0), LOW].as_slice(), bad_view(2)),
         ((7, 5), [below(0); 31].as_slice(), None),
-        (
-            (7, 5),
-            [below(0); 32].as_slice(),
-            Some(ArchiveFault::TooMany),
-        ),
-        (
-            (-1, 5),
-            [below(0); 32].as_slice(),
-            Some(ArchiveFault::BadSize),
-        ),
-        (
-            (7, 5),
-            [below(9); 32].as_slice(),
-            Some(ArchiveFault::TooMany),
-        ),
+        ((7, 5), [below(0); 32].as_slice(), too_many),
+        ((7, 5), [below(9); 32].as_slice(), too_many),
+        ((-1, 5), [below(0); 32].as_slice(), bad_size),
     ] {
         let message = message_of(alloc, VIEW, size, rows)?;
         assert_eq!(rt; refusal(alloc, &message), fault);
     }
+    Ok(())
+}
+
+#[test]
+fn reads_views_down_to_depth_8(rt: HostRuntime) -> Result<(), Fail> {
+    let alloc = rt.alloc();
+    let mut rows = [below(0); 8];
+    for (place, row) in rows.iter_mut().enumerate() {
+        row.parent = place as i32;
+    }
+    let deepest = message_of(alloc, VIEW, (7, 5), &rows[..7])?;
+    assert_eq!(rt; refusal(alloc, &deepest), None);
+    let deeper = message_of(alloc, VIEW, (7, 5), &rows)?;
+    assert_eq!(rt;
+        refusal(alloc, &deeper),
+        Some(ArchiveFault::BadView { view: 8 })
+    );
     Ok(())
 }
