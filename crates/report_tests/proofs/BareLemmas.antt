@@ -1,19 +1,17 @@
 -- What the machine of a screen alone does, computed.
-use Rattle.std.proofs.Common.{◌≡◌, ℕ, zero, suc, ◌+◌, ◌*◌, ◌<◌, ◌≤◌, Bool, true, false, List, [], ◌∷◌, length, replicate, Some, refl, ap, ◌∙◌, sym, arith}
-use Rattle.std.specs.Prelude.{slice_get, option_and_then, Option}
+use Rattle.std.proofs.Common.{◌≡◌, ℕ, zero, suc, ◌+◌, ◌*◌, ◌<◌, Bool, true, false, [], ◌∷◌, replicate, Some, refl, ap, sym, arith}
+use Rattle.std.specs.Prelude.{slice_get, option_and_then}
 use Rattle.std.specs.Option.{option_map_or}
 use Rattle.be_span.specs.Cells.{desktop_cell}
-use Rattle.be_span.specs.declared.Cell.{Cell}
 use Rattle.be_script.specs.Limits.{IsWithinLimits}
 use Rattle.be_script.specs.Names.{are_names}
 use Rattle.be_script.specs.Work.{work_of}
-use Rattle.be_machine.specs.Activities.{Activity, activity_of}
+use Rattle.be_machine.specs.Activities.{activity_of}
 use Rattle.be_machine.specs.declared.Entry.{Entry}
 use Rattle.be_machine.specs.History.{AreLegalFrom, IsLegalHistory, state_from, state_after}
 use Rattle.be_machine.specs.Legal.{legal_act, want_act}
-use Rattle.be_machine.specs.State.{State, opening_state}
+use Rattle.be_machine.specs.State.{opening_state}
 use Rattle.be_machine.specs.Step.{step, met}
-use Rattle.be_machine.specs.Traces.{Trace}
 use Rattle.be_machine.specs.Wants.{want_of}
 use Rattle.be_written.specs.Notings.{maker_trace, noted_by}
 use Rattle.be_written.specs.Runners.{runner_at}

@@ -1,5 +1,5 @@
 -- A script that declares a screen of 4 by 3 pixels and nothing else, and its machine.
-use Rattle.std.specs.Prelude.{ℕ, Bool, List, [], ◌∷◌}
+use Rattle.std.specs.Prelude.{Bool, List, [], ◌∷◌}
 use Rattle.be_script.specs.Script.{Declared}
 use Rattle.be_machine.specs.declared.Act.TheVariants.{Stop}
 use Rattle.be_machine.specs.declared.Entry.{Entry}
