@@ -12,12 +12,12 @@ use Rattle.be_machine.specs.State.{State}
 use Rattle.be_machine.specs.Step.{step}
 use Rattle.be_machine.specs.Touched.{Part, Touches}
 use Rattle.be_machine.specs.Wants.{Want, want_of}
-use Rattle.be_machine.proofs.Histories.{InRange, in_range}
-use Rattle.be_machine.proofs.LegalEntries.{maker, maker_is}
+use Rattle.be_machine.proofs.Histories.{in_range}
+use Rattle.be_machine.proofs.LegalEntries.{maker_is}
 use Rattle.be_rules.specs.Far.{IsFar}
 use Rattle.be_rules.specs.Found.{CanAct}
 use Rattle.be_rules.specs.Places.{place_of}
-use Rattle.be_rules.specs.Rules.{IsSound, TouchesAt, TouchesPlace, kept_at}
+use Rattle.be_rules.specs.Rules.{IsSound, TouchesAt, kept_at}
 use Rattle.be_rules.specs.Slices.{Slice, state_of}
 use Rattle.be_rules.specs.Sure.{seen_in, parts_by, IsAmong}
 use Rattle.be_rules.proofs.Keepers.{own_of, kept_there, kept_touched}

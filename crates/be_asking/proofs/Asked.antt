@@ -3,11 +3,8 @@ use Rattle.std.proofs.Common.{◌≡◌, ℕ, List, Some, None, sym, ap, subst, 
 use Rattle.std.specs.Prelude.{slice_get}
 use Rattle.be_hall.specs.Hands.{meant, part_at}
 use Rattle.be_hall.specs.Machine.{Fits, IsHeld}
-use Rattle.be_message.specs.Messages.{Message}
 use Rattle.be_script.specs.Script.{Declared}
-use Rattle.be_machine.specs.Activities as machine
 use Rattle.be_machine.specs.declared.Act.{Act}
-use Rattle.be_machine.specs.declared.Entry.{Entry}
 use Rattle.be_machine.specs.Legal.{want_act}
 use Rattle.be_machine.specs.State.{State}
 use Rattle.be_machine.specs.Step.{step}
@@ -21,7 +18,7 @@ use Rattle.be_rules.specs.Far.{IsFar}
 use Rattle.be_rules.specs.Found.{CanAct, CannotAct, NeedsPart, OwnHeld}
 use Rattle.be_rules.specs.Places.{IsPart, place_of}
 use Rattle.be_rules.specs.Rules.{IsSound}
-use Rattle.be_rules.specs.Slices.{Slice, slices, state_of, app_in, looper_in, buffer_in, port_in, link_in}
+use Rattle.be_rules.specs.Slices.{Slice, app_in, looper_in, buffer_in, port_in, link_in}
 use Rattle.be_rules.specs.Sure.{IsAmong, in_hand, parts_by, seen_in}
 use Rattle.be_rules.proofs.Everywhere.{cannot_act, needs_part}
 use Rattle.be_rules.proofs.InHand.{IsLess, less, more}

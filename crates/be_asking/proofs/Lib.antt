@@ -20,3 +20,11 @@ pub mod LooperWants
 pub mod Spots
 pub mod TwinWants
 pub mod InputWants
+pub mod SeenInHand
+pub mod OwnedWindows
+pub mod PostsAnswered
+pub mod OwnersAnswered
+pub mod WhoWaits
+pub mod EndsAnswered
+pub mod RepliesAnswered
+pub mod ExecutesAnswered

@@ -1,10 +1,9 @@
--- An application that wants a lock, or its reply.
-use Rattle.std.proofs.Common.{◌≡◌, ℕ, ◌+◌, ◌<◌, ◌≤◌, Bool, true, false, List, Option, Some, None, inl, inr, refl, sym, ap, ◌∙◌, subst, arith}
-use Rattle.std.specs.Prelude.{slice_get, length, option_map, option_and_then, nat_le, if◌then◌else◌}
+-- Who wants a lock, and an application that wants its reply.
+use Rattle.std.proofs.Common.{◌≡◌, ℕ, List, Option, Some, None, inl, inr, refl, sym, ap, ◌∙◌, subst}
+use Rattle.std.specs.Prelude.{option_map, option_and_then}
 use Rattle.be_hall.specs.Hands.{meant, part_at}
 use Rattle.be_hall.specs.Machine.{IsHeld}
 use Rattle.be_script.specs.Script.{Declared}
-use Rattle.be_machine.specs.declared.Act.{Act}
 use Rattle.be_machine.specs.declared.Act.TheVariants as act
 use Rattle.be_machine.specs.Legal.{want_act, wish_act}
 use Rattle.be_machine.specs.State.{State}
@@ -15,8 +14,8 @@ use Rattle.be_parts.specs.Parts.{meaning_of}
 use Rattle.be_parts.specs.declared.part.Part as parts
 use Rattle.be_parts.specs.declared.part.Part.TheVariants as kinds
 use Rattle.be_rules.specs.Found.{CanAct, CannotAct, NeedsPart}
-use Rattle.be_rules.specs.Places.{IsPart, place_of}
-use Rattle.be_rules.specs.Sure.{IsAmong, in_hand, parts_by, seen_in}
+use Rattle.be_rules.specs.Places.{place_of}
+use Rattle.be_rules.specs.Sure.{IsAmong, parts_by, seen_in}
 use Rattle.be_asking.specs.Deeds.{IsAsked}
 use Rattle.be_asking.specs.Finding.{IsMissing, IsReachable}
 use Rattle.be_asking.specs.declared.activity.Activity.TheVariants as who
@@ -28,12 +27,15 @@ use Rattle.be_looper.specs.declared.Owner.{Owner}
 use Rattle.be_looper.specs.declared.Owner.TheVariants as owners
 use Rattle.be_message.specs.Messages.{Message}
 use Rattle.be_reply.specs.Cells as reply
-use Rattle.be_machine.specs.Looper.{cell_of, claim_act, kind_of_reply, lock_act, reply_for}
+use Rattle.be_machine.specs.Looper.{kind_of_reply, lock_act}
 use Rattle.be_machine.specs.State.{App, Looper, free, locked, handling}
 use Rattle.be_machine.specs.Activities as machine
 use Rattle.be_parts.specs.Loopers.{owner_in, owner_of}
 use Rattle.be_rules.specs.Slices.{app_in, looper_in}
-use Rattle.be_asking.proofs.Asked.{cell_is, here, is_there, looper_is, may, missing, own, reach, s, waits}
+use Rattle.be_asking.proofs.Asked.{cell_is, here, looper_is, may, missing, own, reach, s, waits}
+use Rattle.be_asking.specs.Wants.{runner_in}
+use Rattle.be_asking.specs.declared.activity.Runner.{Runner}
+use Rattle.be_asking.proofs.PostsAnswered.{own_held}
 use Rattle.be_asking.proofs.Takes.{idle}
 
 -- ---- locks
@@ -51,12 +53,12 @@ held_by w (Some (locked m)) owner is not = refl
 held_by w (Some (handling hand stage)) owner is not = refl
 held_by w None owner is not = refl
 
-module _ (d : Declared) (inhand : List (ℕ × parts.Part)) (a m w : ℕ) (asked : IsAsked d inhand a (who.Runner (by.App m)) (want.Asks (by.App m) (request.Lock w))) where
+module _ (d : Declared) (inhand : List (ℕ × parts.Part)) (a : ℕ) (r : Runner) (w : ℕ) (asked : IsAsked d inhand a (who.Runner r) (want.Asks r (request.Lock w))) where
   abbrev now : State
   now = s d inhand a _ _ asked
 
   abbrev wanted : wants.Want
-  wanted = wants.asks (machine.app m) (wish.Lock w)
+  wanted = wants.asks (runner_in r) (wish.Lock w)
 
   pub reach_looper : IsReachable d inhand (part.looper w)
   reach_looper = reach d inhand a _ _ asked (part.looper w) (inr (inl refl))
@@ -66,7 +68,7 @@ module _ (d : Declared) (inhand : List (ℕ × parts.Part)) (a m w : ℕ) (asked
 
   module _ (l : Kept) (at : part_at inhand (place_of d (part.looper w)) ≡ Some (kinds.Looper l)) where
     there : (p : part.Part) → IsAmong p (parts_by (seen_in now) wanted) → IsHeld (meant meaning_of inhand) (place_of d p)
-    there p (inl is) = subst (λ x. IsHeld (meant meaning_of inhand) (place_of d x)) (sym is) (own d inhand a _ _ asked).0
+    there p (inl is) = subst (λ x. IsHeld (meant meaning_of inhand) (place_of d x)) (sym is) (own_held d (meant meaning_of inhand) asked.fitting.0 r (own d inhand a _ _ asked))
     there p (inr (inl is)) = subst (λ x. IsHeld (meant meaning_of inhand) (place_of d x)) (sym is) (here d inhand a _ _ asked (part.looper w) (kinds.Looper l) at)
     there p (inr (inr nobody)) = absurd nobody
 

@@ -7,7 +7,7 @@ use Rattle.be_looper.specs.declared.Owner.{Owner}
 use Rattle.be_looper.specs.declared.Owner.TheVariants as owners
 use Rattle.be_message.specs.Messages.{Message}
 use Rattle.be_port.specs.Laws.{EmptyAsPort, TakesAsPort}
-use Rattle.be_port.specs.Ports.{Port, front}
+use Rattle.be_port.specs.Ports.{Port}
 use Rattle.be_port.specs.Queues.{Queue}
 use Rattle.be_port.specs.declared.letter.Letter as code
 use Rattle.be_script.specs.Script.{Declared}
@@ -26,15 +26,15 @@ use Rattle.be_parts.specs.declared.part.Part as parts
 use Rattle.be_parts.specs.declared.part.Part.TheVariants as kinds
 use Rattle.be_parts.specs.Kept.{Kept}
 use Rattle.be_rules.specs.Found.{CanAct, CannotAct, NeedsPart}
-use Rattle.be_rules.specs.Places.{IsPart, place_of}
+use Rattle.be_rules.specs.Places.{place_of}
 use Rattle.be_rules.specs.Slices.{Slice, desk, input, cell, looper, port, link, pane, looper_in, port_in}
-use Rattle.be_rules.specs.Sure.{IsAmong, in_hand, parts_by, seen_in}
+use Rattle.be_rules.specs.Sure.{IsAmong, parts_by, seen_in}
 use Rattle.be_asking.specs.Deeds.{IsAsked}
 use Rattle.be_asking.specs.Finding.{IsMissing, IsReachable}
 use Rattle.be_asking.specs.declared.activity.Activity.TheVariants as who
 use Rattle.be_asking.specs.declared.activity.Runner.TheVariants as by
 use Rattle.be_asking.specs.declared.want.Want.TheVariants as want
-use Rattle.be_asking.proofs.Asked.{here, is_there, looper_is, may, missing, port_is, reach, s, waits}
+use Rattle.be_asking.proofs.Asked.{here, looper_is, may, missing, port_is, reach, s, waits}
 
 -- ---- by the owner, and the letter in front
 

@@ -1,12 +1,11 @@
 -- A twin that owes a notice, and a looper that wants to begin an update.
-use Rattle.std.proofs.Common.{◌≡◌, ℕ, ◌+◌, ◌*◌, ◌<◌, ◌≤◌, Bool, true, false, List, Option, Some, None, inl, inr, refl, sym, ap, ◌∙◌, subst, arith}
-use Rattle.std.specs.Prelude.{slice_get, length, option_map, option_and_then, nat_le, if◌then◌else◌}
+use Rattle.std.proofs.Common.{◌≡◌, ℕ, ◌+◌, ◌*◌, ◌<◌, ◌≤◌, Bool, true, false, List, Some, None, inl, inr, refl, sym, ap, ◌∙◌, subst, arith}
+use Rattle.std.specs.Prelude.{length, option_map, option_and_then, if◌then◌else◌}
 use Rattle.be_hall.specs.Hands.{meant, part_at}
 use Rattle.be_hall.specs.Machine.{IsHeld}
 use Rattle.be_script.specs.Script.{Declared}
-use Rattle.be_machine.specs.declared.Act.{Act}
 use Rattle.be_machine.specs.declared.Act.TheVariants as act
-use Rattle.be_machine.specs.Legal.{want_act, wish_act}
+use Rattle.be_machine.specs.Legal.{want_act}
 use Rattle.be_machine.specs.State.{State}
 use Rattle.be_machine.specs.Touched as part
 use Rattle.be_machine.specs.Wants as wants
@@ -15,27 +14,23 @@ use Rattle.be_parts.specs.Parts.{meaning_of}
 use Rattle.be_parts.specs.declared.part.Part as parts
 use Rattle.be_parts.specs.declared.part.Part.TheVariants as kinds
 use Rattle.be_rules.specs.Found.{CanAct, CannotAct, NeedsPart}
-use Rattle.be_rules.specs.Places.{IsPart, place_of}
-use Rattle.be_rules.specs.Sure.{IsAmong, in_hand, parts_by, seen_in}
+use Rattle.be_rules.specs.Places.{place_of}
+use Rattle.be_rules.specs.Sure.{IsAmong, parts_by, seen_in}
 use Rattle.be_asking.specs.Deeds.{IsAsked}
 use Rattle.be_asking.specs.Finding.{IsMissing, IsReachable}
 use Rattle.be_asking.specs.declared.activity.Activity.TheVariants as who
 use Rattle.be_asking.specs.declared.activity.Runner.TheVariants as by
-use Rattle.be_asking.specs.declared.want.Request.TheVariants as request
 use Rattle.be_asking.specs.declared.want.Want.TheVariants as want
-use Rattle.std.specs.Prelude.{ℤ, ◌==◌, ◌↔◌, not, unwrap_or, IsTrue}
+use Rattle.std.specs.Prelude.{◌==◌, ◌↔◌, not, IsTrue}
 use Rattle.std.proofs.lemmas.Bool.Decides.{nat_tests}
-use Rattle.be_geom.specs.declared.point.Point.{Point}
 use Rattle.be_link.specs.Queues.{Numbered}
 use Rattle.be_message.specs.Messages.{Message}
 use Rattle.be_pane.specs.Owed.{IsClean}
 use Rattle.be_pane.specs.declared.pane.Pane as panes
 use Rattle.be_port.specs.Ports.{Port}
 use Rattle.be_port.specs.Queues.{Queue}
-use Rattle.be_span.specs.Cells.{desktop_cell}
 use Rattle.be_update.specs.Laws.{FoundAsTheMachine, ListedAsDirty}
 use Rattle.be_update.specs.Sessions.{is_any}
-use Rattle.be_machine.specs.Port.{notify_act}
 use Rattle.be_machine.specs.Windows.{dirty_of, owned}
 use Rattle.be_machine.proofs.ReadsDirt.{number_is}
 use Rattle.be_machine.proofs.PixelExposed.{owned_cell_after}
@@ -47,7 +42,7 @@ use Rattle.be_rules.specs.Rules.{IsSound}
 use Rattle.be_rules.proofs.Lawfully.{state}
 use Rattle.be_parts.specs.Stands.{PaneIs, PaneShows, PortIs}
 use Rattle.be_rules.specs.Slices.{Slice, desk, input, cell, looper, port, link, pane, link_in, port_in, shown_of}
-use Rattle.be_asking.proofs.Asked.{here, is_there, link_is, may, missing, own, port_is, reach, s, sound, waits}
+use Rattle.be_asking.proofs.Asked.{here, link_is, may, missing, port_is, reach, s, sound, waits}
 use Rattle.be_asking.proofs.InHand.{pane_read}
 use Rattle.be_asking.proofs.Small.{small, small_port}
 

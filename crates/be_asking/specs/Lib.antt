@@ -4,3 +4,5 @@ pub mod Finding
 pub mod Bodies
 pub mod Counts
 pub mod Loopers
+pub mod Acts
+pub mod Executing

@@ -1,4 +1,4 @@
-//! Commands into the buffer, over to the link, and executed.
+//! What a looper wants of its commands at the end of a body and of its drawing.
 ghost use Rattle.be_asking.specs.Deeds.{IsAnswer, IsAsked};
 ghost use Rattle.be_asking.specs.declared.activity.Activity.TheVariants as who;
 ghost use Rattle.be_asking.specs.declared.activity.Runner.TheVariants as by;
@@ -7,16 +7,12 @@ ghost use Rattle.be_hall.specs.Hands.{meant};
 ghost use Rattle.be_parts.specs.Parts.{meaning_of};
 ghost use Rattle.be_script.specs.Script.{declared_by};
 
+use crate::acts::{drawn, flushed};
 use crate::deed::{Answer, Deed};
 use crate::finding::{find_link, find_looper};
-use crate::requests::MOST_BUFFERED;
 use be_hall::Held;
-use be_machine::Act;
 use be_parts::Part;
 use be_script::Script;
-
-// A link holds so many commands.
-const MOST_LINKED: u32 = 256;
 
 /// A looper whose buffer has to be emptied waits until the link has room for all of it.
 pub fn may_flush<'a>(script: &Script, held: &Held<Part>, number: u32, w: u16) -> Answer<'a>
@@ -32,11 +28,10 @@ pub fn may_flush<'a>(script: &Script, held: &Held<Part>, number: u32, w: u16) ->
         Ok(link) => link,
         Err(place) => return Answer::Needs(place),
     };
-    let count = looper.buffer().len();
-    if count + link.link().len() > MOST_LINKED {
-        return Answer::NotYet;
+    match flushed(looper, link, w) {
+        None => Answer::NotYet,
+        Some(act) => Answer::May(Deed::Makes(act)),
     }
-    Answer::May(Deed::Makes(Act::Flush(w, count)))
 }
 
 /// The command that ends an update comes behind those in the buffer, where there is room.
@@ -49,9 +44,8 @@ pub fn may_end_drawing<'a>(script: &Script, held: &Held<Part>, number: u32, w: u
         Ok(looper) => looper,
         Err(place) => return Answer::Needs(place),
     };
-    let buffer = looper.buffer();
-    if buffer.len() >= MOST_BUFFERED {
-        return Answer::NotYet;
+    match drawn(looper, w) {
+        None => Answer::NotYet,
+        Some(act) => Answer::May(Deed::Makes(act)),
     }
-    Answer::May(Deed::Makes(Act::Draw(w, buffer.next_number())))
 }

@@ -7,17 +7,25 @@
 #![tactic(auto)]
 
 mod activity;
+mod acts;
 mod answered;
 mod apps;
 mod ask;
+mod asking;
 mod bodies;
 mod commands;
 mod deed;
+mod ending;
+mod executing;
 mod finding;
 mod letters;
 mod locking;
+mod owned;
+mod owning;
 mod places;
+mod posting;
 mod programs;
+mod replying;
 mod requests;
 mod twins;
 mod updating;
@@ -25,10 +33,12 @@ mod want;
 
 pub use activity::{Activity, Runner, activity_of};
 pub use ask::wanted;
+pub use asking::may_ask;
 pub use commands::{may_end_drawing, may_flush};
 pub use deed::{Answer, Deed};
+pub use ending::may_end;
+pub use executing::{Execution, may_execute};
 pub use letters::may_take;
-pub use locking::{may_claim, may_lock};
 pub use places::{
     cell_place, desk_place, input_place, link_place, looper_place, pane_place, port_place,
 };

@@ -8,6 +8,7 @@ ghost use Rattle.be_hall.specs.Hands.{meant};
 ghost use Rattle.be_parts.specs.Parts.{meaning_of};
 ghost use Rattle.be_script.specs.Script.{declared_by};
 
+use crate::activity::Runner;
 use crate::answered::answered_by;
 use crate::deed::{Answer, Deed};
 use crate::finding::{find_cell, find_looper};
@@ -17,10 +18,16 @@ use be_machine::Act;
 use be_parts::Part;
 use be_script::Script;
 
-/// An application at a lock waits while somebody has the looper.
-pub fn may_lock<'a>(script: &Script, held: &Held<Part>, number: u32, m: u16, w: u16) -> Answer<'a>
-    requires { IsAsked (declared_by script.now) held.now.parts number (who.Runner (by.App m))
-        (want.Asks (by.App m) (request.Lock w)) }
+/// Who is at a lock waits while somebody has the looper.
+pub fn may_lock<'a>(
+    script: &Script,
+    held: &Held<Part>,
+    number: u32,
+    runner: Runner,
+    w: u16,
+) -> Answer<'a>
+    requires { IsAsked (declared_by script.now) held.now.parts number (who.Runner runner)
+        (want.Asks runner (request.Lock w)) }
     ensures { IsAnswer (declared_by script.now) (meant meaning_of held.now.parts) number result }
 {
     match find_looper(script, held, w) {

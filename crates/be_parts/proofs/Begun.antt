@@ -8,20 +8,19 @@ use Rattle.be_geom.specs.declared.point.Point.{Point}
 use Rattle.be_geom.specs.declared.rect.Rect.{Rect}
 use Rattle.be_geom.specs.Places.{at_pixel, same_point}
 use Rattle.be_geom.specs.Rects.{rect_has, moved_rect}
-use Rattle.be_pane.specs.Panes as machine
 use Rattle.be_pane.specs.Owed.{IsClean}
 use Rattle.be_pane.specs.StandsFor.{PaneStandsFor, IsWhole}
 use Rattle.be_region.specs.Sessions.{SameSession}
 use Rattle.be_pane.specs.declared.pane.Pane.{Pane}
 use Rattle.be_region.specs.Regions.{region_has}
-use Rattle.be_span.specs.Cells.{Lookup, desktop_cell}
+use Rattle.be_span.specs.Cells.{desktop_cell}
 use Rattle.be_span.specs.Spans.{Spans, area_of, cell_in, is_dirty, place_of}
 use Rattle.be_span.specs.declared.Cell.{Cell}
 use Rattle.be_update.specs.Laws.{AreDirty, BegunAsTheMachine, ListedAsDirty, PassedAsTheMachine, cleaned}
 use Rattle.be_update.specs.Listing.{listed_views}
 use Rattle.be_update.specs.Sessions.{cleaned_cell, is_any, passed, session_of, with_session}
-use Rattle.be_update.specs.Surveys.{HasBegun, IsSurveyOf, IsWaiting, Surveyed, without_notice}
-use Rattle.be_views.specs.Trees.{Tree, View}
+use Rattle.be_update.specs.Surveys.{HasBegun, IsSurveyOf, Surveyed, without_notice}
+use Rattle.be_views.specs.Trees.{Tree}
 use Rattle.be_machine.specs.Pixels.{pixel_at}
 use Rattle.be_machine.specs.State.{State}
 use Rattle.be_machine.specs.Update.{begun, listing_of, opened, passed_by}

@@ -1,5 +1,5 @@
 -- A pane on which a planned change was carried out stands for the slice after that.
-use Rattle.std.proofs.Common.{◌≡◌, ℕ, ◌<◌, Bool, true, false, List, Option, Some, None, Ok, length, refl, sym, ap, ◌∙◌, subst}
+use Rattle.std.proofs.Common.{◌≡◌, ℕ, ◌<◌, true, List, Option, Some, None, Ok, length, refl, sym, ap, ◌∙◌, subst}
 use Rattle.std.specs.Prelude.{ℤ, slice_get, unwrap_or, option_map}
 use Rattle.std.proofs.lemmas.Option.{same_Some}
 use Rattle.be_color.specs.declared.colors.Color.{Color}
@@ -10,7 +10,6 @@ use Rattle.be_geom.specs.declared.rect.Rect.{Rect}
 use Rattle.be_input.specs.Pointing.{corner_of}
 use Rattle.be_pane.specs.Panes as machine
 use Rattle.be_pane.specs.SameStacks.{SameStacks}
-use Rattle.be_pane.specs.StandsFor.{PaneStandsFor, IsWhole}
 use Rattle.be_region.specs.Sessions.{SameSession}
 use Rattle.be_pane.specs.declared.pane.Pane.{Pane}
 use Rattle.be_region.specs.Regions.{region_has}
@@ -27,7 +26,7 @@ use Rattle.be_machine.proofs.Sizes.{KeepsCounts, desk_sizes}
 use Rattle.be_rules.specs.Slices.{Slice, pane, shown_of}
 use Rattle.be_rules.proofs.ListLemmas.{get_map}
 use Rattle.be_parts.specs.Changed.{IsChanged, cells_in}
-use Rattle.be_parts.specs.Stands.{has_cell, cell_of, PaneShows, PaneIs}
+use Rattle.be_parts.specs.Stands.{PaneShows, PaneIs}
 use Rattle.be_parts.specs.Panes.{IsFull}
 use Rattle.be_parts.proofs.Looking.{has_owned, cell_owned}
 

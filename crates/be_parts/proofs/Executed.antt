@@ -1,9 +1,8 @@
 -- A pane on which a command was executed stands for the slice after that.
-use Rattle.std.proofs.Common.{◌≡◌, ℕ, Bool, true, false, List, Option, Some, None, refl, sym, ap, ◌∙◌, subst}
+use Rattle.std.proofs.Common.{◌≡◌, ℕ, Bool, true, List, Option, Some, sym, ap, ◌∙◌, subst}
 use Rattle.std.specs.Prelude.{ℤ, slice_get, unwrap_or, option_map, option_and_then}
 use Rattle.std.specs.Option.{option_map_or}
 use Rattle.be_bitmap.specs.Pictures.{Picture}
-use Rattle.be_color.specs.declared.colors.Color.{Color}
 use Rattle.be_command.specs.Effects.{Deed, Effect, at_view, changes, ends_update, effect_of}
 use Rattle.be_geom.specs.declared.point.Point.{Point}
 use Rattle.be_link.specs.Queues.{Numbered}
@@ -23,7 +22,7 @@ use Rattle.be_machine.specs.State.{State}
 use Rattle.be_machine.specs.Windows.{owned, corner_at, tree_at}
 use Rattle.be_machine.proofs.Lists.{at_here}
 use Rattle.be_machine.proofs.PixelRules.{cell_by}
-use Rattle.be_rules.specs.Slices.{Slice, pane, shown_of}
+use Rattle.be_rules.specs.Slices.{Slice, shown_of}
 use Rattle.be_parts.specs.Panes.{IsExecuted}
 use Rattle.be_parts.specs.Stands.{has_cell, cell_of, PaneShows, PaneIs}
 use Rattle.be_parts.specs.Panes.{IsFull}

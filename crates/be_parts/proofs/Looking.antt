@@ -1,15 +1,12 @@
 -- The pixels of a window's slice are those that it owns, with their cells.
-use Rattle.std.proofs.Common.{◌≡◌, ℕ, zero, suc, ◌+◌, ◌*◌, ◌<◌, Bool, true, false, List, [], ◌∷◌, Option, Some, None, refl, sym, ap, ◌∙◌, subst, arith}
-use Rattle.std.specs.Prelude.{ℤ, pos, negsuc, ◌/◌, ◌%◌, nat_lt, slice_get, unwrap_or, option_map, option_and_then, if◌then◌else◌}
-use Rattle.std.proofs.Math.Arith.{digits_mod, digits_div}
-use Rattle.std.proofs.lemmas.Bool.Decides.{nat_tests}
+use Rattle.std.proofs.Common.{◌≡◌, ℕ, Bool, true, false, Option, Some, None, refl, sym, ap, ◌∙◌}
+use Rattle.std.specs.Prelude.{ℤ, unwrap_or, if◌then◌else◌}
 use Rattle.be_geom.specs.declared.point.Point.{Point}
 use Rattle.be_pane.specs.Panes as machine
 use Rattle.be_pane.specs.StandsFor.{PaneStandsFor}
 use Rattle.be_pane.specs.declared.pane.Pane.{Pane}
 use Rattle.be_span.specs.Cells.{desktop_cell}
 use Rattle.be_span.specs.declared.Cell.{Cell}
-use Rattle.be_span.specs.Screen.{cell_at}
 use Rattle.be_views.specs.Trees.{Tree}
 use Rattle.be_machine.specs.Pixels.{pixel_at}
 use Rattle.be_machine.specs.State.{State}

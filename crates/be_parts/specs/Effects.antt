@@ -1,5 +1,5 @@
 -- What becomes of a slice where one of its values changes. Slices of other parts stay.
-use Rattle.std.specs.Prelude.{ℕ, ◌+◌, Bool, true, List, Option, option_map}
+use Rattle.std.specs.Prelude.{◌+◌, true, List, option_map}
 use Rattle.be_actor.specs.declared.Place.{Place}
 use Rattle.be_desk.specs.Changes.{Desk}
 use Rattle.be_link.specs.Queues.{Buffer, Numbered}

@@ -1,5 +1,5 @@
 -- Who has a looper, as the machine has it.
-use Rattle.std.specs.Prelude.{◌≡◌, Option, Some, None}
+use Rattle.std.specs.Prelude.{Option, Some, None}
 use Rattle.be_looper.specs.Loopers.{Handled, Looper}
 use Rattle.be_looper.specs.declared.Owner.{Owner}
 use Rattle.be_looper.specs.declared.Owner.TheVariants.{Free, Own, App}

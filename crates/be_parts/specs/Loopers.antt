@@ -1,5 +1,5 @@
 -- What a looper's slice tells.
-use Rattle.std.specs.Prelude.{ℕ, Option, Some, None, option_map, option_and_then, slice_get, unwrap_or}
+use Rattle.std.specs.Prelude.{Option, Some, None, option_map, option_and_then, slice_get, unwrap_or}
 use Rattle.be_actor.specs.declared.Place.{Place}
 use Rattle.be_handler.specs.declared.Route.{Route}
 use Rattle.be_link.specs.Queues.{Buffer, Numbered, empty_buffer}

@@ -1,5 +1,5 @@
 -- A pane's slice after its twin executed a command that is no change, and after a notice.
-use Rattle.std.specs.Prelude.{◌≡◌, ℕ, ℤ, true, List, Option, Some, slice_get, option_and_then}
+use Rattle.std.specs.Prelude.{◌≡◌, ℕ, ℤ, true, List, Some, slice_get, option_and_then}
 use Rattle.be_bitmap.specs.Pictures.{Picture}
 use Rattle.be_command.specs.Effects.{Effect, effect_of}
 use Rattle.be_link.specs.Queues.{Numbered}

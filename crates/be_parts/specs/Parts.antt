@@ -4,7 +4,7 @@ use Rattle.std.specs.Prelude.{ℕ, List, [], Option, Some, None}
 use Rattle.std.specs.Option.{option_map_or}
 use Rattle.be_hall.specs.Hands.{Hand, with_part}
 use Rattle.be_machine.specs.declared.Entry.{Entry}
-use Rattle.be_parts.specs.Kept.{Kept, Logged}
+use Rattle.be_parts.specs.Kept.{Logged}
 use Rattle.be_parts.specs.declared.part.Part.{Part}
 use Rattle.be_parts.specs.declared.part.Part.TheVariants.{Desk, Input, Cell, Looper, Port, Link, Pane}
 use Rattle.be_rules.specs.Slices.{Slice}

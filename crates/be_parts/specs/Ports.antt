@@ -1,5 +1,5 @@
 -- What a port's slice tells, and what becomes of it at each effect.
-use Rattle.std.specs.Prelude.{◌≡◌, ℕ, ◌+◌, true, false, [], length, Option, Some, None, Result}
+use Rattle.std.specs.Prelude.{◌≡◌, ℕ, ◌+◌, true, false, length, Some, Result}
 use Rattle.std.specs.Option.{option_map_or}
 use Rattle.be_message.specs.Messages.{Message}
 use Rattle.be_port.specs.Answers.{posted_as}

@@ -1,11 +1,8 @@
 -- A looper as its data have it, and as the machine does.
-use Rattle.std.specs.Prelude.{◌≡◌, ℕ, List, map, Option, Some, None}
+use Rattle.std.specs.Prelude.{map}
 use Rattle.be_actor.specs.declared.Place.{Place}
-use Rattle.be_geom.specs.declared.rect.Rect.{Rect}
 use Rattle.be_looper.specs.Duties.{Hand}
 use Rattle.be_looper.specs.Loopers as loopers
-use Rattle.be_looper.specs.declared.Owner.{Owner}
-use Rattle.be_looper.specs.declared.Owner.TheVariants.{Free, Own, App}
 use Rattle.be_message.specs.Messages.{Message}
 use Rattle.be_port.specs.declared.Duty.{Duty}
 use Rattle.be_port.specs.declared.letter.Letter as held

@@ -51,7 +51,7 @@ by_later (Some z) later y P e h k = h e
 by_later None later y P e h k = k e
 
 -- it is found of a part of the state
-found_in : {Y : Type 0} (d : Declared) (s : State) (f : Slice → Option Y) (held : List (ℕ × Slice)) (y : Y) (P : Type 0) → Fits (slices d s) held → find_in f held ≡ Some y → ((x : Part) → f (slice_of s x) ≡ Some y → P) → P
+pub found_in : {Y : Type 0} (d : Declared) (s : State) (f : Slice → Option Y) (held : List (ℕ × Slice)) (y : Y) (P : Type 0) → Fits (slices d s) held → find_in f held ≡ Some y → ((x : Part) → f (slice_of s x) ≡ Some y → P) → P
 found_in d s f [] y P fits e h = absurd (cc)
 found_in d s f (x ∷ xs) y P fits e h = by_later (f x.1) (find_in f xs) y P e (λ here. by_element s (all_parts d) f x.0 x.1 y P (get_elem? (all_parts d) x.0) refl fits.0 here h) (λ later. found_in d s f xs y P fits.1 later h)
 
@@ -59,7 +59,7 @@ if_same : {Y : Type 0} (n m : ℕ) (b : Bool) (g : ℕ → Option Y) (y : Y) →
 if_same n m true g y e is = subst (λ k. g k ≡ Some y) (same_number n m e) is
 if_same n m false g y e is = absurd (cc)
 
-app_there : (s : State) (m : ℕ) (a : App) (x : Part) → app_of m (slice_of s x) ≡ Some a → slice_get s.apps m ≡ Some a
+pub app_there : (s : State) (m : ℕ) (a : App) (x : Part) → app_of m (slice_of s x) ≡ Some a → slice_get s.apps m ≡ Some a
 app_there s m a (part.cell n) e = if_same n m (n == m) (slice_get s.apps) a refl e
 app_there s m a part.desk e = absurd (cc)
 app_there s m a part.input e = absurd (cc)
@@ -68,7 +68,7 @@ app_there s m a (part.port w) e = absurd (cc)
 app_there s m a (part.link w) e = absurd (cc)
 app_there s m a (part.pane w) e = absurd (cc)
 
-looper_there : (s : State) (w : ℕ) (l : Looper) (x : Part) → looper_of w (slice_of s x) ≡ Some l → slice_get s.loopers w ≡ Some l
+pub looper_there : (s : State) (w : ℕ) (l : Looper) (x : Part) → looper_of w (slice_of s x) ≡ Some l → slice_get s.loopers w ≡ Some l
 looper_there s w l (part.looper n) e = if_same n w (n == w) (slice_get s.loopers) l refl e
 looper_there s w l (part.cell n) e = absurd (cc)
 looper_there s w l part.desk e = absurd (cc)
@@ -77,7 +77,7 @@ looper_there s w l (part.port n) e = absurd (cc)
 looper_there s w l (part.link n) e = absurd (cc)
 looper_there s w l (part.pane n) e = absurd (cc)
 
-link_there : (s : State) (w : ℕ) (l : List Numbered) (x : Part) → link_of w (slice_of s x) ≡ Some l → slice_get s.links w ≡ Some l
+pub link_there : (s : State) (w : ℕ) (l : List Numbered) (x : Part) → link_of w (slice_of s x) ≡ Some l → slice_get s.links w ≡ Some l
 link_there s w l (part.link n) e = if_same n w (n == w) (slice_get s.links) l refl e
 link_there s w l (part.cell n) e = absurd (cc)
 link_there s w l part.desk e = absurd (cc)

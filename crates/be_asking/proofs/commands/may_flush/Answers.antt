@@ -1,10 +1,6 @@
-use Rattle.std.proofs.Common.{sym, subst}
-use Rattle.be_hall.specs.Hands.{meant}
-use Rattle.be_machine.specs.declared.Act.TheVariants as act
-use Rattle.be_parts.specs.Parts.{meaning_of}
-use Rattle.be_rules.specs.Found.{CanAct}
+use Rattle.std.proofs.Common.{sym}
 use Rattle.be_script.specs.Script.{declared_by}
-use Rattle.be_asking.proofs.FlushAnswered.{flush_waits, flushes, needs_link, needs_looper, over, reach_link, reach_looper, within}
+use Rattle.be_asking.proofs.FlushAnswered.{flush_waits, flushes, needs_link, needs_looper, reach_link, reach_looper}
 use Rattle.be_asking.proofs.commands.may_flush.Goals as goal
 
 pub find_looper-requires : goal.find_looper-requires
@@ -19,15 +15,11 @@ find_link-requires c = reach_link (declared_by c.args.script.now) c.args.held.no
 pub returns-in-Err-find_link : goal.returns-in-Err-find_link
 returns-in-Err-find_link c = needs_link (declared_by c.args.script.now) c.args.held.now.parts c.args.number c.args.w c.requires c.in-Err-find_link.place c.in-Err-find_link.ensures.missing
 
-pub returns-then-count-len-gt-MOST_LINKED : goal.returns-then-count-len-gt-MOST_LINKED
-returns-then-count-len-gt-MOST_LINKED c =
-    flush_waits (declared_by c.args.script.now) c.args.held.now.parts c.args.number c.args.w c.requires c.in-Ok.looper.now c.in-Ok-find_link.link.now c.in-Ok.ensures.there c.in-Ok-find_link.ensures.there
-    c.buffer.result.now c.buffer.ensures c.link.result.now c.link.ensures
-    (over _ _ _ _ c.len-count.ensures.len c.len.ensures.len c.if-count-len-gt-MOST_LINKED.true)
+pub returns-in-None : goal.returns-in-None
+returns-in-None c =
+    flush_waits (declared_by c.args.script.now) c.args.held.now.parts c.args.number c.args.w c.requires c.in-Ok.looper.now c.in-Ok-find_link.link.now c.in-Ok.ensures.there c.in-Ok-find_link.ensures.there (sym c.in-None.ensures)
 
-pub returns : goal.returns
-returns c =
-    subst (λ n. CanAct (declared_by c.args.script.now) (meant meaning_of c.args.held.now.parts) c.args.number (act.Flush c.args.w n)) (sym c.len-count.ensures.len)
-    (flushes (declared_by c.args.script.now) c.args.held.now.parts c.args.number c.args.w c.requires c.in-Ok.looper.now c.in-Ok-find_link.link.now c.in-Ok.ensures.there c.in-Ok-find_link.ensures.there
-    c.buffer.result.now c.buffer.ensures c.link.result.now c.link.ensures
-    (within _ _ _ _ c.len-count.ensures.len c.len.ensures.len c.if-count-len-gt-MOST_LINKED.false))
+pub returns-in-Some : goal.returns-in-Some
+returns-in-Some c =
+    flushes (declared_by c.args.script.now) c.args.held.now.parts c.args.number c.args.w c.requires c.in-Ok.looper.now c.in-Ok-find_link.link.now c.in-Ok.ensures.there c.in-Ok-find_link.ensures.there
+    c.in-Some.act (sym c.in-Some.ensures)

@@ -1,4 +1,4 @@
-use Rattle.std.proofs.Common.{◌<◌, ◌≤◌, ◌*◌, sym, subst, arith}
+use Rattle.std.proofs.Common.{◌≤◌, ◌*◌, sym, subst, arith}
 use Rattle.be_hall.specs.Hands.{meant}
 use Rattle.be_machine.specs.declared.Act.TheVariants as act
 use Rattle.be_parts.specs.Parts.{meaning_of}
