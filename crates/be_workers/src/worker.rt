@@ -39,7 +39,7 @@ pub struct Worker<W: Turns> {
 // How often a worker that has nothing to do looks at its bell, and lets others run, before it
 // sleeps. To be woken costs more than a step: two that pass on to each other are mostly rung while
 // they look.
-const LOOKS: u32 = 16;
+const LOOKS: u32 = 2;
 
 impl<W: Turns + Drop> Worker<W> {
     /// Makes turns until it is told to stop, its activity is over, the closing entry was made or it
