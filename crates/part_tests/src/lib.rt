@@ -1,0 +1,5 @@
+//! The tests of the server's parts. Nothing else is here.
+#![tactic(auto)]
+
+#[cfg(test)]
+mod parts;
