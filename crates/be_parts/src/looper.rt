@@ -197,6 +197,7 @@ impl LooperPart {
     }
 
     /// The message in hand was forwarded, and its duty with it: `BLooper::DetachCurrentMessage`.
+    /// Without a message nothing changes.
     pub fn detach(&mut self)
         ensures slice { self.new.slice
             ≡ looper_with (with_duty_by duty_after_forward) self.old.slice }
@@ -215,7 +216,8 @@ impl LooperPart {
         self.handling = None;
     }
 
-    /// Goes on to a place of the body or of the Draw bodies that it is in.
+    /// Goes on to a place of the body or of the Draw bodies that it is in. Without a message
+    /// nothing changes.
     pub fn go_to(&mut self, place: Place)
         ensures slice { self.new.slice ≡ looper_with (at_place place) self.old.slice }
         ensures log { self.new.log ≡ self.old.log }
@@ -225,7 +227,7 @@ impl LooperPart {
         }
     }
 
-    /// Draws these views now, one after the other.
+    /// Draws these views now, one after the other. Without a message nothing changes.
     pub fn draw(&mut self, views: Vec<(u16, Rect)>)
         ensures slice { self.new.slice
             ≡ looper_with (at_stage (in_update (map (λ v. v.0) views.items) first_place))
@@ -237,7 +239,7 @@ impl LooperPart {
         }
     }
 
-    /// Only the end of the notice in hand is left.
+    /// Only the end of the notice in hand is left. Without a message nothing changes.
     pub fn draw_nothing_more(&mut self)
         ensures slice { self.new.slice ≡ looper_with (at_stage ending) self.old.slice }
         ensures log { self.new.log ≡ self.old.log }
