@@ -15,12 +15,9 @@ use std::alloc::Global;
 use std::str;
 
 impl Draft {
-    // The message that it stands for, beside the current one.
-    pub(crate) fn filled(
-        &self,
-        alloc: Global,
-        current: Option<&Message>,
-    ) -> Result<Message, NoMemory>
+    /// The message that it stands for, beside the current one. It takes memory for each word, and
+    /// for the current message where that is copied.
+    pub fn filled(&self, alloc: Global, current: Option<&Message>) -> Result<Message, NoMemory>
         requires fields { keeps_fields self.now ≡ true }
         requires current { HasCurrent self.now.words (option_copied current) }
         ensures { IfOk result (λ message. message ≡ filled self.now (option_copied current.entry)) }
