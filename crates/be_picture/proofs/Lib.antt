@@ -1,1 +1,6 @@
 pub mod Recorded
+pub mod Plain
+pub mod PlainKinds
+pub mod FirstWords
+pub mod TextBack
+pub mod LineLemmas

@@ -215,3 +215,29 @@ not_open n h = by_true (n == 0) unbalanced (grind (arith, nat_tests, h))
 
 pub some_open : (n : ℕ) → 0 < n → refused_of Closes n ≡ None
 some_open n h = by_false (n == 0) unbalanced (grind (arith, nat_tests))
+
+-- ---- a command that isn't refused
+
+sort_or : (o : Option Sort) (cs : List Command) (c : Command) → sort_of c ≡ o
+    → refusal cs c ≡ None → (s : Sort) × (sort_of c ≡ Some s)
+sort_or None cs c is free = absurd (none-some not_drawing (sym free ∙ not_drawn cs c is))
+sort_or (Some s) cs c is free = (s, is)
+
+pub has_sort : (cs : List Command) (c : Command) → refusal cs c ≡ None
+    → (s : Sort) × (sort_of c ≡ Some s)
+has_sort cs c free = sort_or (sort_of c) cs c refl free
+
+no_reason : (n : ℕ) (b : Bool) (why : Refusal)
+    → unless_too_many n (cond b (Some why) None) ≡ None → b ≡ false
+no_reason n true why h = absurd (none-some why (sym h))
+no_reason n false why h = refl
+
+pub not_full : (cs : List Command) (c : Command) → sort_of c ≡ Some Opens → refusal cs c ≡ None
+    → nat_le 15 (open_pushes cs) ≡ false
+not_full cs c sort free =
+    no_reason (length cs) (nat_le 15 (open_pushes cs)) too_deep (sym (refused cs c Opens sort) ∙ free)
+
+pub not_none : (cs : List Command) (c : Command) → sort_of c ≡ Some Closes → refusal cs c ≡ None
+    → (open_pushes cs == 0) ≡ false
+not_none cs c sort free =
+    no_reason (length cs) (open_pushes cs == 0) unbalanced (sym (refused cs c Closes sort) ∙ free)

@@ -1,3 +1,5 @@
 pub mod Recording
 pub mod Sorts
 pub mod Faults
+pub mod Text
+pub mod Laws

@@ -1,8 +1,9 @@
 ghost use Rattle.std.specs.Prelude.{◌≡◌, [], ◌∷◌, ◌++◌, None, Some, IfErr, OnErr, OnOk, length};
 ghost use Rattle.std.specs.Prelude.{nat_le, if◌then◌else◌};
 ghost use Rattle.be_picture.specs.Faults.{IsJudged, IsRecordFault};
-ghost use Rattle.be_picture.specs.Recording.{refusal};
+ghost use Rattle.be_picture.specs.Recording.{open_pushes, refusal};
 ghost use Rattle.be_picture.specs.Sorts.{sort_of};
+ghost use Rattle.be_picture.specs.Text.{is_unbalanced};
 ghost use Rattle.be_command.specs.declared.Command.{Command};
 
 use crate::fault::RecordFault;
@@ -89,6 +90,18 @@ impl Recorder {
         match sort_of(command) {
             Some(sort) => self.judge_sort(sort),
             None => Judged::NotDrawing,
+        }
+    }
+
+    /// Whether a line with this first word would close a state that isn't open, or open one too
+    /// many.
+    pub(crate) fn is_unbalanced(&self, word: &[u8]) -> bool
+        ensures { result ≡ is_unbalanced (open_pushes self.now) word.now }
+    {
+        if word == b"pop".as_slice() {
+            self.pushes == 0
+        } else {
+            word == b"push".as_slice() && self.pushes >= MOST_OPEN
         }
     }
 

@@ -3,3 +3,5 @@
 
 #[cfg(test)]
 mod recording;
+#[cfg(test)]
+mod text;
