@@ -4,3 +4,11 @@ pub mod PlainKinds
 pub mod FirstWords
 pub mod TextBack
 pub mod LineLemmas
+pub mod Pens
+pub mod Restored
+pub mod Cells
+pub mod Shown
+pub mod Drawing
+pub mod Rests
+pub mod BlankPanes
+pub mod Rows

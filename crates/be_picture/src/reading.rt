@@ -1,7 +1,9 @@
-ghost use Rattle.std.specs.Prelude.{◌≡◌, ◌≤◌, [], length, not, is_none};
+ghost use Rattle.std.specs.Prelude.{◌≡◌, ◌≤◌, All, IfOk, [], length};
+ghost use Rattle.be_command.specs.Effects.{effect_of};
 ghost use Rattle.be_command.specs.Reading.{command_or_reason};
 ghost use Rattle.be_lex.specs.Lines.{lines_of};
 ghost use Rattle.be_line.specs.FirstWords.{is_of_drawing};
+ghost use Rattle.be_twin.specs.Judged.{HasPen};
 ghost use Rattle.be_picture.specs.Faults.{IsRead, IsTaken};
 ghost use Rattle.be_picture.specs.Recording.{open_pushes, refusal};
 ghost use Rattle.be_picture.specs.Text.{is_drawing_word, picture_of, read_line, read_lines};
@@ -23,7 +25,8 @@ const LINE_BYTES: usize = 2_048;
 /// commands.
 #[tactic(auto, unfolding(crate::specs::Text::picture_of))]
 pub fn read_picture(alloc: Global, bytes: &[u8], names: &Names) -> Result<Picture, PictureFault>
-    ensures { IsRead (picture_of names.now bytes.now) result }
+    ensures said { IsRead (picture_of names.now bytes.now) result }
+    ensures pens { IfOk result (All (λ c. HasPen (effect_of c))) }
 {
     if bytes.len() > PICTURE_BYTES {
         return Err(PictureFault::At {
@@ -31,7 +34,8 @@ pub fn read_picture(alloc: Global, bytes: &[u8], names: &Names) -> Result<Pictur
             reason: Reason::TooLong,
         });
     }
-    read_lines(alloc, bytes, names)
+    let picture = read_lines(alloc, bytes, names)?;
+    Ok(picture)
 }
 
 /// Reads the lines of a picture, one behind the other.

@@ -80,6 +80,7 @@ impl Recorder {
     {
         Picture {
             commands: self.commands,
+            pushes: self.pushes,
         }
     }
 

@@ -2,6 +2,8 @@
 #![tactic(auto)]
 
 #[cfg(test)]
+mod off_screen;
+#[cfg(test)]
 mod recording;
 #[cfg(test)]
 mod text;
