@@ -4,13 +4,6 @@ use Rattle.std.specs.List.{enumerate_from}
 use Rattle.std.proofs.Common.{◌≡◌, ℕ, zero, suc, ◌+◌, ◌<◌, List, [], ◌∷◌, ◌++◌, length, get_or, map, replicate, Option, Some, None, refl, sym, ap, subst, ◌∙◌, arith}
 use Rattle.std.proofs.lemmas.Option.{same_Some, slice_get-get_or}
 
--- what holds of each element, and of one behind them
-pub each_pushed : {X : Type 0} (P : X → Type 0) (xs : List X) (x : X) → ((k : ℕ) (y : X) → slice_get xs k ≡ Some y → P y) → P x → (k : ℕ) (y : X) → slice_get (xs ++ x ∷ []) k ≡ Some y → P y
-each_pushed P [] x each here zero y e = subst P (same_Some x y e) here
-each_pushed P [] x each here (suc k) y e = cc
-each_pushed P (z ∷ zs) x each here zero y e = each zero y e
-each_pushed P (z ∷ zs) x each here (suc k) y e = each_pushed P zs x (λ j. each (suc j)) here k y e
-
 -- one more element, with its number
 pub enumerated_more : {X : Type 0} (n : ℕ) (xs : List X) (x : X) → enumerate_from n (xs ++ x ∷ []) ≡ enumerate_from n xs ++ (n + length xs, x) ∷ []
 enumerated_more n [] x = let e : n ≡ n + 0 = omega arith in ap (λ m. (m, x) ∷ []) e

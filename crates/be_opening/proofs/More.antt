@@ -1,7 +1,8 @@
 -- Parts behind parts.
-use Rattle.std.specs.List.{range_with_len}
+use Rattle.std.specs.List.{All, range_with_len}
 use Rattle.std.proofs.Common.{◌≡◌, ℕ, ◌+◌, List, [], ◌∷◌, ◌++◌, append_assoc, map, length, sym, ap, subst, ◌∙◌, arith}
 use Rattle.std.proofs.lemmas.List.{append-nil, map-append}
+use Rattle.std.proofs.lemmas.List.Elements.{All-push}
 use Rattle.std.proofs.lemmas.List.FromFn.{map-range_with_len_more}
 use Rattle.be_machine.specs.State.{opening_state}
 use Rattle.be_machine.specs.Touched as machine
@@ -9,8 +10,7 @@ use Rattle.be_parts.specs.Parts.{log_of, meaning_of}
 use Rattle.be_parts.specs.declared.part.Part.{Part}
 use Rattle.be_rules.specs.Slices.{Slice, slice_of, slices}
 use Rattle.be_script.specs.Script.{Declared}
-use Rattle.be_opening.specs.Opened.{HasMore, HasNoEntries}
-use Rattle.be_opening.proofs.Lists.{each_pushed}
+use Rattle.be_opening.specs.Opened.{HasMore}
 
 pub none_more : (d : Declared) (old : List Part) → HasMore d [] old old
 none_more d old = record { meant = sym (append-nil (map meaning_of old)); logs = λ none. none }
@@ -23,7 +23,7 @@ one_more d more of old now part has means empty = record {
       ∙ append_assoc (map meaning_of old) (map (slice_of (opening_state d)) more) (meaning_of part ∷ [])
       ∙ ap (λ (x : Slice). map meaning_of old ++ (map (slice_of (opening_state d)) more ++ x ∷ [])) means
       ∙ ap (λ (l : List Slice). map meaning_of old ++ l) (sym (map-append (slice_of (opening_state d)) more (of ∷ [])));
-  logs = λ none. each_pushed (λ (p : Part). log_of p ≡ []) now part (has.logs none) empty;
+  logs = λ none. All-push (λ (p : Part). log_of p ≡ []) now part (has.logs none) empty;
 }
 
 -- one part more of a kind
@@ -78,9 +78,11 @@ two_mean d none first second p q empty pushed then_pushed desk input =
     ∙ ap (λ (x : Slice). x ∷ meaning_of q ∷ []) desk
     ∙ ap (λ (x : Slice). slice_of (opening_state d) machine.desk ∷ x ∷ []) input
 
-none_of_two : (p q : Part) → log_of p ≡ [] → log_of q ≡ [] → HasNoEntries (p ∷ q ∷ [])
-none_of_two p q first second = each_pushed (λ (x : Part). log_of x ≡ []) (p ∷ []) q (each_pushed (λ (x : Part). log_of x ≡ []) [] p (λ k y got. cc) first) second
+none_of_two : (p q : Part) → log_of p ≡ [] → log_of q ≡ [] → All (λ (x : Part). log_of x ≡ []) (p ∷ q ∷ [])
+none_of_two p q first second =
+    let none : All (λ (x : Part). log_of x ≡ []) [] = λ k d less. absurd (omega arith) in
+    All-push (λ (x : Part). log_of x ≡ []) (p ∷ []) q (All-push (λ (x : Part). log_of x ≡ []) [] p none first) second
 
-pub two_empty : (none first second : List Part) (p q : Part) → none ≡ [] → first ≡ none ++ p ∷ [] → second ≡ first ++ q ∷ [] → log_of p ≡ [] → log_of q ≡ [] → HasNoEntries second
+pub two_empty : (none first second : List Part) (p q : Part) → none ≡ [] → first ≡ none ++ p ∷ [] → second ≡ first ++ q ∷ [] → log_of p ≡ [] → log_of q ≡ [] → All (λ (x : Part). log_of x ≡ []) second
 two_empty none first second p q empty pushed then_pushed desk input =
-    subst (λ (l : List Part). HasNoEntries l) (sym (two_are none first second p q empty pushed then_pushed)) (none_of_two p q desk input)
+    subst (λ (l : List Part). All (λ (x : Part). log_of x ≡ []) l) (sym (two_are none first second p q empty pushed then_pushed)) (none_of_two p q desk input)

@@ -1,5 +1,5 @@
 -- The parts of the opening, kind by kind.
-use Rattle.std.specs.Prelude.{◌≡◌, ℕ, List, [], ◌++◌, map, Some, slice_get}
+use Rattle.std.specs.Prelude.{◌≡◌, List, [], ◌++◌, map, All}
 use Rattle.be_script.specs.Script.{Declared}
 use Rattle.be_machine.specs.State.{opening_state}
 use Rattle.be_machine.specs.Touched as machine
@@ -7,12 +7,8 @@ use Rattle.be_parts.specs.Parts.{log_of, meaning_of}
 use Rattle.be_parts.specs.declared.part.Part.{Part}
 use Rattle.be_rules.specs.Slices.{slice_of}
 
--- no activity made an entry
-abbrev pub HasNoEntries : List Part → Type 0
-HasNoEntries parts = (k : ℕ) (part : Part) → slice_get parts k ≡ Some part → log_of part ≡ []
-
 -- behind the old ones stand those that mean these parts of the opening state, without entries
 pub record HasMore (d : Declared) (more : List machine.Part) (old new : List Part) : Type 0 where
   pub meant :
       map meaning_of new ≡ map meaning_of old ++ map (slice_of (opening_state d)) more
-  pub logs : HasNoEntries old → HasNoEntries new
+  pub logs : All (λ part. log_of part ≡ []) old → All (λ part. log_of part ≡ []) new
