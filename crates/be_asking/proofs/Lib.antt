@@ -28,3 +28,7 @@ pub mod WhoWaits
 pub mod EndsAnswered
 pub mod RepliesAnswered
 pub mod ExecutesAnswered
+pub mod Rests
+pub mod StopAnswered
+pub mod QuietAnswered
+pub mod EndedApps

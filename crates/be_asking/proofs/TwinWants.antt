@@ -1,6 +1,6 @@
 -- What a twin wants, by the window's pane.
 use Rattle.std.proofs.Common.{◌≡◌, ℕ, ◌<◌, Bool, true, false, List, length, Some, None, refl, sym, ap, ◌∙◌, subst}
-use Rattle.std.specs.Prelude.{ℤ, ◌↔◌, ◌&&◌, ◌==◌, not, slice_get, find, if◌then◌else◌}
+use Rattle.std.specs.Prelude.{ℤ, ◌↔◌, ◌&&◌, ◌==◌, IsTrue, not, slice_get, find, if◌then◌else◌}
 use Rattle.be_asking.proofs.InHand.{pane_read, is_held}
 use Rattle.be_asking.proofs.LooperWants.{element}
 use Rattle.be_asking.specs.declared.want.Want.TheVariants as want
@@ -85,6 +85,13 @@ module _ (d : Declared) (parts : List (ℕ × Part)) (w : ℕ) (y : Part) (p : P
     wants_by : (b : Bool) → owes_notice s w ≡ b → want_of d (state_of d all) (twin w) ≡ Some (if b then notifies w else executes w)
     unfolding want_of
     wants_by b e = ap (λ t. want_of d t (twin w)) (back d all sound) ∙ ap (λ c. Some (if c then notifies w else executes w)) e
+
+  -- the test of a notice that is owed is the machine's
+  pub owes_told : (b : Bool) → (IsTrue b ↔ IsOwed p) → (all : List Slice) → IsSound d all → Fits all (meant meaning_of parts) → owes_notice (state_of d all) w ≡ b
+  owes_told true told all sound fits = ap (λ t. owes_notice t w) (back d all sound) ∙ owes_is all sound fits ∙ (owed_as all sound fits).0 (told.0 refl)
+  owes_told false told all sound fits =
+      ap (λ t. owes_notice t w) (back d all sound)
+      ∙ not_owned (owes_notice (s all sound fits) w) (λ e. let never : false ≡ true = told.1 ((owed_as all sound fits).1 (sym (owes_is all sound fits) ∙ e)) in absurd (cc))
 
   pub twin_notifies : (number : ℕ) → IsOwed p → IsWanted d (meant meaning_of parts) number (twin w) (Wants (want.Notifies w))
   twin_notifies number is all sound fits = (wants_by all sound fits true (owes_is all sound fits ∙ (owed_as all sound fits).0 is), is_held parts (place_of d (part.pane w)) y at)

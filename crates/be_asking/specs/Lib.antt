@@ -6,3 +6,4 @@ pub mod Counts
 pub mod Loopers
 pub mod Acts
 pub mod Executing
+pub mod Stopping

@@ -15,6 +15,7 @@ mod asking;
 mod bodies;
 mod commands;
 mod deed;
+mod ended;
 mod ending;
 mod executing;
 mod finding;
@@ -25,8 +26,10 @@ mod owning;
 mod places;
 mod posting;
 mod programs;
+mod quiet;
 mod replying;
 mod requests;
+mod stopping;
 mod twins;
 mod updating;
 mod want;
@@ -43,5 +46,6 @@ pub use places::{
     cell_place, desk_place, input_place, link_place, looper_place, pane_place, port_place,
 };
 pub use requests::request;
+pub use stopping::may_stop;
 pub use updating::{may_begin, may_notify};
 pub use want::{Request, Want, Wanted};

@@ -1,5 +1,5 @@
 //! The instructions at which applications and loopers are.
-ghost use Rattle.std.specs.Prelude.{◌≡◌, ◌<◌, ◌==◌, ◌&&◌, [], find, length, map, option_map, slice_get, None};
+ghost use Rattle.std.specs.Prelude.{◌≡◌, ◌<◌, ◌==◌, ◌&&◌, [], find, length, map, nat_le, option_map, slice_get, None};
 ghost use Rattle.be_asking.specs.Bodies.{is_body_in};
 ghost use Rattle.std.specs.Option.{option_map_or};
 ghost use Rattle.be_machine.specs.Program.{app_program, lock_before, update_program};
@@ -25,6 +25,13 @@ pub(crate) fn step_at(program: &Program, step: u32) -> Option<&Instruction>
     ensures { option_map (λ step. step.now) result ≡ slice_get program.now step }
 {
     program.steps.get(step as usize)
+}
+
+/// Whether a program has no instruction at this step any more.
+pub(crate) fn is_past(program: &Program, step: u32) -> bool
+    ensures { result ≡ nat_le (length program.now) step }
+{
+    step as usize >= program.steps.len()
 }
 
 /// The window that is locked where so many instructions of an application's program are done. It
