@@ -32,3 +32,7 @@ pub mod Rests
 pub mod StopAnswered
 pub mod QuietAnswered
 pub mod EndedApps
+pub mod PostedBehind
+pub mod DeliveriesAnswered
+pub mod UsesAnswered
+pub mod StirredAnswered

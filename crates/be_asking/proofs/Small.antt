@@ -1,6 +1,7 @@
 -- The counts of a part in hand are small.
 use Rattle.std.proofs.Common.{◌≡◌, ℕ, ◌*◌, ◌≤◌, Bool, true, false, List, [], ◌∷◌, Option, Some, None, length, subst, arith}
-use Rattle.std.specs.Prelude.{◌==◌, if◌then◌else◌}
+use Rattle.std.specs.Prelude.{◌==◌, option_map, if◌then◌else◌}
+use Rattle.std.proofs.lemmas.Option.{same_Some}
 use Rattle.be_hall.specs.Hands.{meant, part_at}
 use Rattle.be_hall.specs.Machine.{HeldFit}
 use Rattle.be_link.specs.Queues.{Buffer}
@@ -8,7 +9,7 @@ use Rattle.be_parts.specs.Parts.{meaning_of}
 use Rattle.be_parts.specs.declared.part.Part.{Part}
 use Rattle.be_port.specs.Queues.{Queue}
 use Rattle.be_rules.specs.Rules.{SliceFits}
-use Rattle.be_rules.specs.Slices.{Slice, desk, input, cell, looper, port, link, pane, buffer_in}
+use Rattle.be_rules.specs.Slices.{Slice, desk, input, cell, looper, port, link, pane, buffer_in, input_in}
 use Rattle.be_parts.specs.Stands.{PortIs}
 
 small_by : (n : ℕ) (b : Bool) (x y : Part) (rest : Option Part) → (if b then Some x else rest) ≡ Some y → SliceFits n (meaning_of x) → (rest ≡ Some y → SliceFits n (meaning_of y)) → SliceFits n (meaning_of y)
@@ -48,3 +49,13 @@ small_port n (cell m a) q fits stands = absurd stands
 small_port n (looper w l b) q fits stands = absurd stands
 small_port n (link w l) q fits stands = absurd stands
 small_port n (pane w p) q fits stands = absurd stands
+
+-- of the input
+pub small_events : (n : ℕ) (slice : Slice) (k : ℕ) → SliceFits n slice → option_map (λ (known : ℕ × Bool). known.0) (input_in slice) ≡ Some k → k ≤ n
+small_events n (input used b) k fits e = subst (λ j. j ≤ n) (same_Some used k e) fits
+small_events n (desk x) k fits e = absurd (cc)
+small_events n (cell m a) k fits e = absurd (cc)
+small_events n (looper w l b) k fits e = absurd (cc)
+small_events n (port w p) k fits e = absurd (cc)
+small_events n (link w l) k fits e = absurd (cc)
+small_events n (pane w p) k fits e = absurd (cc)

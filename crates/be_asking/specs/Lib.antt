@@ -7,3 +7,4 @@ pub mod Loopers
 pub mod Acts
 pub mod Executing
 pub mod Stopping
+pub mod Using

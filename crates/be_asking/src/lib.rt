@@ -15,6 +15,7 @@ mod asking;
 mod bodies;
 mod commands;
 mod deed;
+mod delivering;
 mod ended;
 mod ending;
 mod executing;
@@ -29,9 +30,11 @@ mod programs;
 mod quiet;
 mod replying;
 mod requests;
+mod stirred;
 mod stopping;
 mod twins;
 mod updating;
+mod using;
 mod want;
 
 pub use activity::{Activity, Runner, activity_of};
@@ -48,4 +51,5 @@ pub use places::{
 pub use requests::request;
 pub use stopping::may_stop;
 pub use updating::{may_begin, may_notify};
+pub use using::may_use;
 pub use want::{Request, Want, Wanted};
