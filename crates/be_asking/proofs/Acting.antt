@@ -15,7 +15,6 @@ use Rattle.be_machine.specs.Wants.{Want, want_of}
 use Rattle.be_machine.proofs.Histories.{in_range}
 use Rattle.be_machine.proofs.LegalEntries.{maker_is}
 use Rattle.be_rules.specs.Far.{IsFar}
-use Rattle.be_rules.specs.Found.{CanAct}
 use Rattle.be_rules.specs.Places.{place_of}
 use Rattle.be_rules.specs.Rules.{IsSound, TouchesAt, kept_at}
 use Rattle.be_rules.specs.Slices.{Slice, state_of}
@@ -24,6 +23,7 @@ use Rattle.be_rules.proofs.Keepers.{own_of, kept_there, kept_touched}
 use Rattle.be_rules.proofs.Known.{ready_by}
 use Rattle.be_rules.proofs.Lawfully.{state, back}
 use Rattle.be_rules.proofs.SureParts.{near}
+use Rattle.be_asking.specs.Deeds.{MayAct}
 use Rattle.be_asking.proofs.Spotted.{spot}
 
 module _ (d : Declared) (held : List (ℕ × Slice)) (all : List Slice) (sound : IsSound d all) (fits : Fits all held) (a : ℕ) (who : Activity) (want : Want) (act : Act)
@@ -60,10 +60,10 @@ module _ (d : Declared) (held : List (ℕ × Slice)) (all : List Slice) (sound :
       let same : t.want ≡ want = same_Some t.want want (sym t.wanted ∙ asked) in
       subst (IsHeld held) (sym (spot d p t.part t.there)) (touched t.part (subst (λ (w : Want). Touches s (step d s e) w t.part) same t.touched))
 
-  pub can_act_held : AllHeld → CanAct d held a act
+  pub can_act_held : AllHeld → MayAct d held a act
   can_act_held touched other sound' fits' =
-      (ready_by d e held all sound fits legal (λ p t. held_at touched p (subst (λ (z : State). TouchesAt d z e p) (back d all sound) t)) other sound' fits').0
+      ready_by d e held all sound fits legal (λ p t. held_at touched p (subst (λ (z : State). TouchesAt d z e p) (back d all sound) t)) other sound' fits'
 
   -- where nothing is far off
-  pub can_act : ((p : Part) → IsFar s (step d s e) want p → IsHeld held (place_of d p)) → ((p : Part) → IsAmong p (parts_by (seen_in s) want) → IsHeld held (place_of d p)) → CanAct d held a act
+  pub can_act : ((p : Part) → IsFar s (step d s e) want p → IsHeld held (place_of d p)) → ((p : Part) → IsAmong p (parts_by (seen_in s) want) → IsHeld held (place_of d p)) → MayAct d held a act
   can_act far parts = can_act_held (λ p t. ⊎_elim (parts p) (far p) (near s (step d s e) want p t))

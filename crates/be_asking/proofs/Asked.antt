@@ -15,7 +15,7 @@ use Rattle.be_machine.proofs.ProgressAfter.{IsSettled, settled_after}
 use Rattle.be_parts.specs.Parts.{meaning_of}
 use Rattle.be_parts.specs.declared.part.Part as parts
 use Rattle.be_rules.specs.Far.{IsFar}
-use Rattle.be_rules.specs.Found.{CanAct, CannotAct, NeedsPart, OwnHeld}
+use Rattle.be_rules.specs.Found.{CannotAct, NeedsPart, OwnHeld}
 use Rattle.be_rules.specs.Places.{IsPart, place_of}
 use Rattle.be_rules.specs.Rules.{IsSound}
 use Rattle.be_rules.specs.Slices.{Slice, app_in, looper_in, buffer_in, port_in, link_in}
@@ -25,7 +25,7 @@ use Rattle.be_rules.proofs.InHand.{IsLess, less, more}
 use Rattle.be_rules.proofs.Lawfully.{state, back}
 use Rattle.be_rules.proofs.Named.{parts_named}
 use Rattle.be_machine.proofs.Histories.{in_range}
-use Rattle.be_asking.specs.Deeds.{IsAsked}
+use Rattle.be_asking.specs.Deeds.{IsAsked, MayAct}
 use Rattle.be_asking.specs.Wants.{activity_in, message_of, want_in}
 use Rattle.be_asking.specs.declared.activity.Activity.{Activity}
 use Rattle.be_asking.specs.declared.want.Want.{Want}
@@ -81,7 +81,7 @@ module _ (d : Declared) (inhand : List (ℕ × parts.Part)) (a : ℕ) (who : Act
   waits still there nothing = cannot_act d held all sound fits a (activity_in who) wish asked.number own wanted still there nothing
 
   -- it may
-  pub may : (act : Act) → ((p : Part) → IsFar s (step d s (record { actor = a; act = act })) wish p → IsHeld held (place_of d p)) → ((p : Part) → IsAmong p (parts_by (seen_in s) wish) → IsHeld held (place_of d p)) → want_act d s wish ≡ Some act → CanAct d held a act
+  pub may : (act : Act) → ((p : Part) → IsFar s (step d s (record { actor = a; act = act })) wish p → IsHeld held (place_of d p)) → ((p : Part) → IsAmong p (parts_by (seen_in s) wish) → IsHeld held (place_of d p)) → want_act d s wish ≡ Some act → MayAct d held a act
   may act far there may_now = can_act d held all sound fits a (activity_in who) wish act asked.number wanted may_now far there
 
   -- ---- the parts that a call looks for

@@ -1,5 +1,5 @@
 -- What the ports in hand answer to the messages of a delivery.
-use Rattle.std.proofs.Common.{◌≡◌, ℕ, ◌*◌, ◌≤◌, Bool, true, false, List, Option, Some, None, refl, sym, ap, ◌∙◌, subst}
+use Rattle.std.proofs.Common.{◌≡◌, ℕ, ◌*◌, ◌≤◌, true, false, List, Option, Some, None, refl, sym, ap, ◌∙◌, subst}
 use Rattle.std.specs.Prelude.{◌==◌, option_map, option_and_then, slice_get}
 use Rattle.std.specs.Option.{option_map_or}
 use Rattle.std.proofs.lemmas.Option.{same_Some}
@@ -7,7 +7,7 @@ use Rattle.be_hall.specs.Hands.{meant, part_at}
 use Rattle.be_hall.specs.Machine.{Fits}
 use Rattle.be_input.specs.declared.Delivery as code
 use Rattle.be_input.specs.declared.Post as sent
-use Rattle.be_input.specs.Deliveries.{Delivery, Post}
+use Rattle.be_input.specs.Deliveries.{Post}
 use Rattle.be_input.specs.Seen.{seen_delivery, seen_post}
 use Rattle.be_message.specs.Messages.{Message}
 use Rattle.be_port.specs.Laws.{AnswersAsPort}

@@ -13,10 +13,10 @@ use Rattle.be_parts.specs.Kept.{Kept}
 use Rattle.be_parts.specs.Parts.{meaning_of}
 use Rattle.be_parts.specs.declared.part.Part as parts
 use Rattle.be_parts.specs.declared.part.Part.TheVariants as kinds
-use Rattle.be_rules.specs.Found.{CanAct, CannotAct, NeedsPart}
+use Rattle.be_rules.specs.Found.{CannotAct, NeedsPart}
 use Rattle.be_rules.specs.Places.{place_of}
 use Rattle.be_rules.specs.Sure.{IsAmong, parts_by, seen_in}
-use Rattle.be_asking.specs.Deeds.{IsAsked}
+use Rattle.be_asking.specs.Deeds.{IsAsked, MayAct}
 use Rattle.be_asking.specs.Finding.{IsMissing, IsReachable}
 use Rattle.be_asking.specs.declared.activity.Activity.TheVariants as who
 use Rattle.be_asking.specs.declared.activity.Runner.TheVariants as by
@@ -57,5 +57,5 @@ module _ (d : Declared) (inhand : List (ℕ × parts.Part)) (a w : ℕ) (asked :
     pub draw_waits : option_and_then (draw_by w) (buffer_in l.slice) ≡ None → CannotAct d (meant meaning_of inhand) a
     draw_waits none = waits d inhand a _ _ asked (λ stop. absurd (cc)) there (acts ∙ none)
 
-    pub draws : (act : Act) → option_and_then (draw_by w) (buffer_in l.slice) ≡ Some act → CanAct d (meant meaning_of inhand) a act
+    pub draws : (act : Act) → option_and_then (draw_by w) (buffer_in l.slice) ≡ Some act → MayAct d (meant meaning_of inhand) a act
     draws act some = may d inhand a _ _ asked act (λ p far. absurd far) there (acts ∙ some)

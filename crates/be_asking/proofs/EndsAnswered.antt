@@ -23,9 +23,9 @@ use Rattle.be_parts.specs.Loopers.{duty_in, hand_of}
 use Rattle.be_parts.specs.Parts.{meaning_of}
 use Rattle.be_parts.specs.declared.part.Part as parts
 use Rattle.be_parts.specs.declared.part.Part.TheVariants as kinds
-use Rattle.be_rules.specs.Found.{CanAct, CannotAct}
+use Rattle.be_rules.specs.Found.{CannotAct}
 use Rattle.be_rules.specs.Places.{place_of}
-use Rattle.be_asking.specs.Deeds.{IsAsked}
+use Rattle.be_asking.specs.Deeds.{IsAsked, MayAct}
 use Rattle.be_asking.specs.declared.activity.Activity.TheVariants as who
 use Rattle.be_asking.specs.declared.activity.Runner.TheVariants as by
 use Rattle.be_asking.specs.declared.want.Want.TheVariants as want
@@ -75,18 +75,18 @@ module _ (d : Declared) (inhand : List (ℕ × parts.Part)) (a w : ℕ) (asked :
     ends : want_act d now (wants.ends w) ≡ Some (end_of (end_telling duty route))
     ends = acts ∙ end_by (hand_of l.slice) duty route (sym owed) (sym goes)
 
-    pub ends_alone : (duty ≡ Done) ⊎ (duty ≡ Free) → CanAct d (meant meaning_of inhand) a (act.End end.Nothing)
+    pub ends_alone : (duty ≡ Done) ⊎ (duty ≡ Free) → MayAct d (meant meaning_of inhand) a (act.End end.Nothing)
     ends_alone nobody =
         let told = told_nothing duty route nobody in
         acts_alone d inhand a w _ asked (λ x. refl) l at (act.End end.Nothing) (λ p far. far) duty (sym owed) told.0 (ends ∙ ap Some told.1)
 
     module _ (m : ℕ) (k : Kept) (is : duty ≡ Owed m) (cell : part_at inhand (place_of d (part.cell m)) ≡ Some (kinds.Cell k)) where
-      pub ends_unknown : route ≡ routes.Unknown → CanAct d (meant meaning_of inhand) a (act.End end.Unknown)
+      pub ends_unknown : route ≡ routes.Unknown → MayAct d (meant meaning_of inhand) a (act.End end.Unknown)
       ends_unknown unknown =
           acts_told d inhand a w _ asked (λ x. refl) l at (act.End end.Unknown) (λ p far. far) m (sym owed ∙ ap Some is) k cell
           (ends ∙ ap (λ x. Some (end_of (end_telling x route))) is ∙ ap (λ r. Some (end_of (telling_of r m))) unknown)
 
-      pub ends_without : (route ≡ routes.Skipped) ⊎ ((target : Target) × (route ≡ routes.Handler target)) → CanAct d (meant meaning_of inhand) a (act.End end.NoReply)
+      pub ends_without : (route ≡ routes.Skipped) ⊎ ((target : Target) × (route ≡ routes.Handler target)) → MayAct d (meant meaning_of inhand) a (act.End end.NoReply)
       ends_without known =
           acts_told d inhand a w _ asked (λ x. refl) l at (act.End end.NoReply) (λ p far. far) m (sym owed ∙ ap Some is) k cell
           (ends ∙ ap (λ x. Some (end_of (end_telling x route))) is ∙ ap (λ t. Some (end_of t)) (told_none m route known))

@@ -41,12 +41,12 @@ use Rattle.be_parts.specs.Stands.{PaneIs, PaneShows, cell_of, has_cell}
 use Rattle.be_parts.specs.declared.part.Part as parts
 use Rattle.be_parts.specs.declared.part.Part.TheVariants as kinds
 use Rattle.be_rules.specs.Far.{FarEffect}
-use Rattle.be_rules.specs.Found.{CanAct, CannotAct, NeedsPart}
+use Rattle.be_rules.specs.Found.{CannotAct, NeedsPart}
 use Rattle.be_rules.specs.Places.{place_of}
 use Rattle.be_rules.specs.Rules.{IsSound}
 use Rattle.be_rules.specs.Slices.{Slice, link_in, shown_of}
 use Rattle.be_rules.specs.Sure.{IsAmong, Seen, effect_in, effect_parts, in_hand, parts_by, seen_in}
-use Rattle.be_asking.specs.Deeds.{IsAsked}
+use Rattle.be_asking.specs.Deeds.{IsAsked, MayAct}
 use Rattle.be_asking.specs.Executing.{HasPicture, IsOldest}
 use Rattle.be_asking.specs.Finding.{IsMissing, IsReachable}
 use Rattle.be_asking.specs.declared.activity.Activity.TheVariants as who
@@ -228,7 +228,7 @@ module _ (d : Declared) (inhand : List (ℕ × parts.Part)) (a w : ℕ) (asked :
 
         pub executes : LinkedAreWithinLimits → (outcome : Outcome)
             → ((pictures : List Picture) → HasPicture pictures (effect_of c) → (u : ℕ) (corner : Point) (kept : machine.Pane) (tree : Tree) (owned : ℤ → ℤ → Bool) (cells : ℤ → ℤ → Cell) → PaneStandsFor p u corner kept tree owned cells → ComesOf pictures corner tree kept (effect_of c) outcome)
-            → CanAct d (meant meaning_of inhand) a (act.Exec n outcome)
+            → MayAct d (meant meaning_of inhand) a (act.Exec n outcome)
         executes law outcome judged =
             let later : State = step d now (record { actor = a; act = act.Exec n outcome }) in
             let on_its_way = law d so.history w 0 linked.0 (numbered (n, c)) so.limits so.legal (read oldest.link oldest.there linked.0 linked.1) linked.2 in

@@ -36,3 +36,4 @@ pub mod PostedBehind
 pub mod DeliveriesAnswered
 pub mod UsesAnswered
 pub mod StirredAnswered
+pub mod FarEvents

@@ -13,10 +13,10 @@ use Rattle.be_parts.specs.Kept.{Kept}
 use Rattle.be_parts.specs.Parts.{meaning_of}
 use Rattle.be_parts.specs.declared.part.Part as parts
 use Rattle.be_parts.specs.declared.part.Part.TheVariants as kinds
-use Rattle.be_rules.specs.Found.{CanAct, CannotAct, NeedsPart}
+use Rattle.be_rules.specs.Found.{CannotAct, NeedsPart}
 use Rattle.be_rules.specs.Places.{place_of}
 use Rattle.be_rules.specs.Sure.{IsAmong, parts_by, seen_in}
-use Rattle.be_asking.specs.Deeds.{IsAsked}
+use Rattle.be_asking.specs.Deeds.{IsAsked, MayAct}
 use Rattle.be_asking.specs.Finding.{IsMissing, IsReachable}
 use Rattle.be_asking.specs.declared.activity.Activity.TheVariants as who
 use Rattle.be_asking.specs.declared.activity.Runner.TheVariants as by
@@ -79,7 +79,7 @@ module _ (d : Declared) (inhand : List (ℕ × parts.Part)) (a : ℕ) (r : Runne
     pub lock_waits : (owner : Owner) → Some owner ≡ owner_of l.slice → (owner ≡ owners.Free → ⊥) → CannotAct d (meant meaning_of inhand) a
     lock_waits owner is not = waits d inhand a _ _ asked (λ stop. absurd (cc)) there (acts ∙ held_by w (looper_in l.slice) owner is not)
 
-    pub locks : Some owners.Free ≡ owner_of l.slice → CanAct d (meant meaning_of inhand) a (act.Lock w)
+    pub locks : Some owners.Free ≡ owner_of l.slice → MayAct d (meant meaning_of inhand) a (act.Lock w)
     locks is = may d inhand a _ _ asked (act.Lock w) (λ p far. absurd far) there (acts ∙ ap (option_and_then (lock_act w)) (idle (looper_in l.slice) is))
 
 -- ---- claims
@@ -111,5 +111,5 @@ module _ (d : Declared) (inhand : List (ℕ × parts.Part)) (a m : ℕ) (asked :
     pub claim_waits : reply.reply_in c ≡ None → CannotAct d (meant meaning_of inhand) a
     claim_waits none = waits d inhand a _ _ asked (λ stop. absurd (cc)) own_there (claim_acts ∙ ap (option_map (λ (r : Message). act.Claim (kind_of_reply r))) none)
 
-    pub claims_it : (r : Message) → reply.reply_in c ≡ Some r → CanAct d (meant meaning_of inhand) a (act.Claim (kind_of_reply r))
+    pub claims_it : (r : Message) → reply.reply_in c ≡ Some r → MayAct d (meant meaning_of inhand) a (act.Claim (kind_of_reply r))
     claims_it r some = may d inhand a _ _ asked (act.Claim (kind_of_reply r)) (λ p far. absurd far) own_there (claim_acts ∙ ap (option_map (λ (r : Message). act.Claim (kind_of_reply r))) some)

@@ -24,14 +24,14 @@ use Rattle.be_parts.specs.Kept.{Kept}
 use Rattle.be_parts.specs.Parts.{meaning_of}
 use Rattle.be_parts.specs.declared.part.Part as parts
 use Rattle.be_parts.specs.declared.part.Part.TheVariants as kinds
-use Rattle.be_rules.specs.Found.{CanAct, CannotAct, NeedsPart}
+use Rattle.be_rules.specs.Found.{CannotAct, NeedsPart}
 use Rattle.be_rules.specs.Places.{place_of}
 use Rattle.be_rules.specs.Slices.{Slice, buffer_in, link_in}
 use Rattle.be_rules.specs.Sure.{IsAmong, parts_by, maybe, owned_window, parts_for, seen_in}
 use Rattle.be_rules.proofs.Lawfully.{back}
 use Rattle.be_actor.specs.Drafts.{DraftWords, filled}
 use Rattle.be_asking.specs.Acts.{OwnsWindow, draw_by, flush_by, is_own, sync_by}
-use Rattle.be_asking.specs.Deeds.{IsAsked}
+use Rattle.be_asking.specs.Deeds.{IsAsked, MayAct}
 use Rattle.be_asking.specs.Finding.{IsMissing, IsReachable}
 use Rattle.be_asking.specs.Wants.{message_of, runner_in, wish_in}
 use Rattle.be_asking.specs.declared.activity.Activity.TheVariants as who
@@ -87,7 +87,7 @@ module _ (d : Declared) (inhand : List (ℕ × parts.Part)) (a : ℕ) (r : Runne
     unfolding want_act wish_act
     unlock_acts = ap (option_and_then (λ n. Some (act.Unlock n))) (window_here d inhand a r w _ asked owns)
 
-    pub unlocks : CanAct d (meant meaning_of inhand) a (act.Unlock w)
+    pub unlocks : MayAct d (meant meaning_of inhand) a (act.Unlock w)
     unlocks = may d inhand a _ _ asked (act.Unlock w) (λ p far. absurd far) unlock_there unlock_acts
 
 -- ---- flush
@@ -134,7 +134,7 @@ module _ (d : Declared) (inhand : List (ℕ × parts.Part)) (a : ℕ) (r : Runne
     pub flush_waits : with_both (flush_by w) (buffer_in l.slice) (link_in k) ≡ None → CannotAct d (meant meaning_of inhand) a
     flush_waits none = waits d inhand a _ _ asked (λ stop. absurd (cc)) flush_there (flush_acts ∙ none)
 
-    pub flushes : (act : Act) → with_both (flush_by w) (buffer_in l.slice) (link_in k) ≡ Some act → CanAct d (meant meaning_of inhand) a act
+    pub flushes : (act : Act) → with_both (flush_by w) (buffer_in l.slice) (link_in k) ≡ Some act → MayAct d (meant meaning_of inhand) a act
     flushes act some = may d inhand a _ _ asked act (λ p far. absurd far) flush_there (flush_acts ∙ some)
 
 -- ---- sync
@@ -173,7 +173,7 @@ module _ (d : Declared) (inhand : List (ℕ × parts.Part)) (a : ℕ) (r : Runne
     pub sync_waits : option_and_then (sync_by w) (link_in k) ≡ None → CannotAct d (meant meaning_of inhand) a
     sync_waits none = waits d inhand a _ _ asked (λ stop. absurd (cc)) sync_there (sync_acts ∙ none)
 
-    pub syncs : (act : Act) → option_and_then (sync_by w) (link_in k) ≡ Some act → CanAct d (meant meaning_of inhand) a act
+    pub syncs : (act : Act) → option_and_then (sync_by w) (link_in k) ≡ Some act → MayAct d (meant meaning_of inhand) a act
     syncs act some = may d inhand a _ _ asked act (λ p far. absurd far) sync_there (sync_acts ∙ some)
 
 -- ---- draw
@@ -212,7 +212,7 @@ module _ (d : Declared) (inhand : List (ℕ × parts.Part)) (a : ℕ) (r : Runne
     pub draw_waits : option_and_then (draw_by w) (buffer_in l.slice) ≡ None → CannotAct d (meant meaning_of inhand) a
     draw_waits none = waits d inhand a _ _ asked (λ stop. absurd (cc)) draw_there (draw_acts ∙ none)
 
-    pub draws : (act : Act) → option_and_then (draw_by w) (buffer_in l.slice) ≡ Some act → CanAct d (meant meaning_of inhand) a act
+    pub draws : (act : Act) → option_and_then (draw_by w) (buffer_in l.slice) ≡ Some act → MayAct d (meant meaning_of inhand) a act
     draws act some = may d inhand a _ _ asked act (λ p far. absurd far) draw_there (draw_acts ∙ some)
 
     few_by : (o : Option Buffer) → buffer_in l.slice ≡ o → IfSome o (λ b. b.made ≤ 4611686018427387904)

@@ -28,13 +28,13 @@ use Rattle.be_parts.specs.Parts.{meaning_of}
 use Rattle.be_parts.specs.Stands.{PortIs}
 use Rattle.be_parts.specs.declared.part.Part as parts
 use Rattle.be_parts.specs.declared.part.Part.TheVariants as kinds
-use Rattle.be_rules.specs.Found.{CanAct, NeedsPart, OwnHeld}
+use Rattle.be_rules.specs.Found.{NeedsPart, OwnHeld}
 use Rattle.be_rules.specs.Places.{place_of}
 use Rattle.be_rules.specs.Slices.{Slice, desk, input, cell, looper, port, link, pane, port_in}
 use Rattle.be_rules.specs.Sure.{IsAmong, Seen, in_hand, parts_by, parts_for, seen_in}
 use Rattle.be_rules.proofs.Lawfully.{back}
 use Rattle.be_asking.specs.Acts.{HasHop, IsSameHop, hop_behind, post_window}
-use Rattle.be_asking.specs.Deeds.{IsAsked}
+use Rattle.be_asking.specs.Deeds.{IsAsked, MayAct}
 use Rattle.be_asking.specs.Finding.{IsMissing, IsReachable}
 use Rattle.be_asking.specs.Wants.{message_of, runner_in, wish_in}
 use Rattle.be_asking.specs.declared.activity.Activity.TheVariants as who
@@ -161,7 +161,7 @@ module _ (d : Declared) (inhand : List (ℕ × parts.Part)) (a : ℕ) (r : Runne
         same_judged (Some p) = ap (λ x. Some (act.Post w x)) (sym (same_answer p hop (hop_of now (runner_in r)) same))
         same_judged None = refl
 
-    pub posts : AnswersAsPort → (hop : ℕ) → HasHop d inhand r hop → CanAct d (meant meaning_of inhand) a (act.Post w (answer queue hop))
+    pub posts : AnswersAsPort → (hop : ℕ) → HasHop d inhand r hop → MayAct d (meant meaning_of inhand) a (act.Post w (answer queue hop))
     posts answers hop has =
         may d inhand a _ _ asked (act.Post w (answer queue hop)) (λ p far. absurd far) there
         (acts answers hop (subst (λ (t : State). IsSameHop hop (hop_of t (runner_in r))) (back d asked.fitting.0 (sound d inhand a _ _ asked)) (has asked.fitting.0 (sound d inhand a _ _ asked) (fits d inhand a _ _ asked))))
@@ -177,5 +177,5 @@ module _ (d : Declared) (inhand : List (ℕ × parts.Part)) (a : ℕ) (r : Runne
   unfolding want_act wish_act
   noted = refl
 
-  pub notes : CanAct d (meant meaning_of inhand) a (act.Note text.now)
+  pub notes : MayAct d (meant meaning_of inhand) a (act.Note text.now)
   notes = may d inhand a _ _ asked (act.Note text.now) (λ p far. absurd far) alone noted

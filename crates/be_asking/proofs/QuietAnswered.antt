@@ -19,7 +19,6 @@ use Rattle.be_script.specs.Script.{Declared}
 use Rattle.be_machine.specs.Closing.{is_free}
 use Rattle.be_machine.specs.State.{Looper, State, free, locked, handling}
 use Rattle.be_machine.specs.Touched as part
-use Rattle.be_machine.specs.Update.{owes_notice}
 use Rattle.be_parts.specs.Kept.{Kept}
 use Rattle.be_parts.specs.Loopers.{owner_in, owner_of}
 use Rattle.be_parts.specs.Parts.{meaning_of}
@@ -28,7 +27,7 @@ use Rattle.be_parts.specs.declared.part.Part.{Part}
 use Rattle.be_parts.specs.declared.part.Part.TheVariants as kinds
 use Rattle.be_rules.specs.Places.{place_of}
 use Rattle.be_rules.specs.Rules.{IsSound}
-use Rattle.be_rules.specs.Slices.{Slice, desk, input, cell, looper, port, link, pane, buffer_in, link_in, looper_in, port_in, state_of}
+use Rattle.be_rules.specs.Slices.{Slice, desk, input, cell, looper, port, link, pane, buffer_in, link_in, looper_in, state_of}
 use Rattle.be_rules.proofs.Lawfully.{back}
 use Rattle.be_update.specs.Laws.{ListedAsDirty, OwedAsTheMachine}
 use Rattle.be_asking.specs.Finding.{IsMissing, IsReachable}

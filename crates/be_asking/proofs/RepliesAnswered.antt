@@ -22,9 +22,9 @@ use Rattle.be_parts.specs.Loopers.{duty_in, hand_of}
 use Rattle.be_parts.specs.Parts.{meaning_of}
 use Rattle.be_parts.specs.declared.part.Part as parts
 use Rattle.be_parts.specs.declared.part.Part.TheVariants as kinds
-use Rattle.be_rules.specs.Found.{CanAct, CannotAct}
+use Rattle.be_rules.specs.Found.{CannotAct}
 use Rattle.be_rules.specs.Places.{place_of}
-use Rattle.be_asking.specs.Deeds.{IsAsked}
+use Rattle.be_asking.specs.Deeds.{IsAsked, MayAct}
 use Rattle.be_asking.specs.declared.activity.Activity.TheVariants as who
 use Rattle.be_asking.specs.declared.activity.Runner.TheVariants as by
 use Rattle.be_asking.specs.declared.want.Request.TheVariants as request
@@ -59,11 +59,11 @@ module _ (d : Declared) (inhand : List (ℕ × parts.Part)) (a w : ℕ) (draft :
     answers : (x : Duty) → duty ≡ x → want_act d now replies ≡ Some (answer_of (reply_answer x))
     answers x is = acts ∙ answered_by (hand_of l.slice) duty (sym owed) ∙ ap (λ y. Some (answer_of (reply_answer y))) is
 
-    pub second_reply : duty ≡ Done → CanAct d (meant meaning_of inhand) a (act.Reply replied.Duplicate)
+    pub second_reply : duty ≡ Done → MayAct d (meant meaning_of inhand) a (act.Reply replied.Duplicate)
     second_reply is = acts_alone d inhand a w _ asked (λ x. refl) l at (act.Reply replied.Duplicate) (λ p far. far) duty (sym owed) (ap waiter is) (answers Done is)
 
-    pub unwanted_reply : duty ≡ Free → CanAct d (meant meaning_of inhand) a (act.Reply replied.Unwanted)
+    pub unwanted_reply : duty ≡ Free → MayAct d (meant meaning_of inhand) a (act.Reply replied.Unwanted)
     unwanted_reply is = acts_alone d inhand a w _ asked (λ x. refl) l at (act.Reply replied.Unwanted) (λ p far. far) duty (sym owed) (ap waiter is) (answers Free is)
 
-    pub reply_reaches : (m : ℕ) (k : Kept) → duty ≡ Owed m → part_at inhand (place_of d (part.cell m)) ≡ Some (kinds.Cell k) → CanAct d (meant meaning_of inhand) a (act.Reply replied.Accepted)
+    pub reply_reaches : (m : ℕ) (k : Kept) → duty ≡ Owed m → part_at inhand (place_of d (part.cell m)) ≡ Some (kinds.Cell k) → MayAct d (meant meaning_of inhand) a (act.Reply replied.Accepted)
     reply_reaches m k is cell = acts_told d inhand a w _ asked (λ x. refl) l at (act.Reply replied.Accepted) (λ p far. far) m (sym owed ∙ ap Some is) k cell (answers (Owed m) is)

@@ -3,8 +3,6 @@ use Rattle.std.proofs.Common.{◌≡◌, ℕ, ◌+◌, ◌<◌, Bool, true, fals
 use Rattle.std.specs.Prelude.{◌==◌, ◌&&◌, not, slice_get}
 use Rattle.std.specs.List.{list_all, range_with_len}
 use Rattle.std.proofs.lemmas.Option.{slice_get_within}
-use Rattle.be_hall.specs.Hands.{meant}
-use Rattle.be_hall.specs.Machine.{Fits}
 use Rattle.be_link.specs.Queues.{Numbered, is_flushed}
 use Rattle.be_message.specs.Messages.{Message}
 use Rattle.be_port.specs.Ports.{Port, queue_of}
@@ -16,7 +14,6 @@ use Rattle.be_machine.specs.Update.{owes_notice}
 use Rattle.be_machine.proofs.HasParts.{HasParts}
 use Rattle.be_machine.proofs.Lists.{all_get, both, both_first, both_second}
 use Rattle.be_machine.proofs.ProgressPlaces.{all_pass, all_pass_below}
-use Rattle.be_parts.specs.Parts.{meaning_of}
 use Rattle.be_parts.specs.declared.part.Part.{Part}
 use Rattle.be_rules.specs.Rules.{IsSound}
 use Rattle.be_rules.specs.Slices.{Slice, state_of}

@@ -8,7 +8,7 @@ use lib.ListN.{get_elem?}
 use Rattle.be_script.specs.Script.{Declared}
 use Rattle.be_machine.specs.Touched.{Part}
 use Rattle.be_machine.specs.Touched as part
-use Rattle.be_rules.specs.Places.{place_of}
+use Rattle.be_rules.specs.Places.{IsPart, place_of}
 use Rattle.be_rules.specs.Slices.{all_parts}
 use Rattle.be_rules.proofs.ListLemmas.{elem_range, same_elements, there_in}
 
@@ -65,3 +65,27 @@ module _ (d : Declared) where
   spot zero x e = ap (place_of d) (same_elements part.desk x e)
   spot (suc zero) x e = ap (place_of d) (same_elements part.input x e)
   spot (suc (suc i)) x e = (let at : suc (suc i) ≡ 2 + i = omega arith in at) ∙ cells i x e
+
+  -- ---- it is the script's
+
+  abbrev AreAll : List Part → Type 0
+  AreAll xs = (i : ℕ) (x : Part) → get_elem? xs i ≡ some x → IsPart d x
+
+  all_both : (xs ys : List Part) → AreAll xs → AreAll ys → AreAll (xs ++ ys)
+  all_both xs ys f g i x e = ⊎_elim (λ h. f i x h) (λ h. g h.0 x h.2) (split_at xs ys i x e)
+
+  all_of : (g : ℕ → Part) (n : ℕ) → ((k : ℕ) → k < n → IsPart d (g k)) → AreAll (map g (range_with_len 0 n))
+  all_of g n each i x e =
+      let lt : i < n = subst (λ k. i < k) (long g n) (there_in (map g (range_with_len 0 n)) i x e) in
+      subst (IsPart d) (sym (ranged g n i x e)) (each i lt)
+
+  -- a part that has a place is one of the script's
+  pub part_there : (p : ℕ) (x : Part) → get_elem? (all_parts d) p ≡ some x → IsPart d x
+  part_there zero x e = subst (IsPart d) (same_elements part.desk x e) tt
+  part_there (suc zero) x e = subst (IsPart d) (same_elements part.input x e) tt
+  part_there (suc (suc i)) x e =
+      all_both (map part.cell (range_with_len 0 apps)) _ (all_of part.cell apps (λ k lt. lt))
+      (all_both (map part.looper (range_with_len 0 windows)) _ (all_of part.looper windows (λ k lt. lt))
+      (all_both (map part.port (range_with_len 0 windows)) _ (all_of part.port windows (λ k lt. lt))
+      (all_both (map part.link (range_with_len 0 windows)) _ (all_of part.link windows (λ k lt. lt)) (all_of part.pane windows (λ k lt. lt)))))
+      i x e

@@ -1,6 +1,6 @@
 -- Which panes an activation alters, and whether they are in hand.
-use Rattle.std.proofs.Common.{◌≡◌, ℕ, zero, suc, ◌+◌, ◌<◌, ◌≤◌, Bool, List, [], ◌∷◌, length, Option, Some, None, Result, Ok, Err, ◌⊎◌, inl, inr, ⊎_elim, refl, sym, ap, ◌∙◌, subst, arith}
-use Rattle.std.specs.Prelude.{ℤ, ◌↔◌, MatchOption}
+use Rattle.std.proofs.Common.{◌≡◌, ℕ, zero, suc, ◌+◌, ◌<◌, List, [], ◌∷◌, length, Option, Some, None, Result, Ok, Err, ◌⊎◌, inl, inr, ⊎_elim, refl, sym, ap, ◌∙◌, subst, arith}
+use Rattle.std.specs.Prelude.{MatchOption}
 use Rattle.std.specs.List.{Contains}
 use lib.ListN.{get_or}
 use Rattle.std.proofs.lemmas.List.Elements.{at_read}
@@ -17,7 +17,7 @@ use Rattle.be_parts.specs.declared.part.Part.{Part}
 use Rattle.be_rules.specs.Far.{IsAltered, windows_behind, windows_or}
 use Rattle.be_rules.proofs.Cut.{owner_there}
 use Rattle.be_rules.proofs.Spots.{changes_hands}
-use Rattle.be_asking.specs.Finding.{IsInHand, IsMissing}
+use Rattle.be_asking.specs.Finding.{IsInHand}
 use Rattle.be_asking.specs.Using.{AreInHand, AreWindows, HasMissing, HasStirred, IsStirred, LacksStirred}
 
 -- ---- window by window

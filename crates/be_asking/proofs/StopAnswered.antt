@@ -1,19 +1,19 @@
 -- What the closing activity is answered.
-use Rattle.std.proofs.Common.{◌≡◌, ℕ, ◌<◌, Bool, true, false, List, length, Option, Some, None, inr, refl, sym, ap, subst, ◌∙◌}
+use Rattle.std.proofs.Common.{◌≡◌, ℕ, ◌<◌, Bool, true, false, List, length, Some, None, inr, refl, sym, ap, subst, ◌∙◌}
 use Rattle.std.specs.Prelude.{◌==◌, ◌&&◌, not, option_and_then, option_map, if◌then◌else◌}
 use Rattle.std.specs.List.{list_all, range_with_len}
 use Rattle.std.proofs.lemmas.Option.{same_Some}
 use mathlib.Core.Option.{some}
 use lib.ListN.{get_elem?}
 use Rattle.be_hall.specs.Hands.{meant, part_at}
-use Rattle.be_hall.specs.Machine.{Fits}
+use Rattle.be_hall.specs.Machine.{Fits, IsHeld}
 use Rattle.be_script.specs.Script.{Declared}
 use Rattle.be_machine.specs.Activities.{activity_of, closing}
 use Rattle.be_machine.specs.Closing.{all_done, all_quiet}
 use Rattle.be_machine.specs.declared.Act.TheVariants as act
 use Rattle.be_machine.specs.declared.Entry.{Entry}
 use Rattle.be_machine.specs.Laws.{IsWantOf}
-use Rattle.be_machine.specs.Legal.{legal_act, want_act}
+use Rattle.be_machine.specs.Legal.{IsLegal, legal_act, want_act}
 use Rattle.be_machine.specs.Program.{has_ended}
 use Rattle.be_machine.specs.State.{State}
 use Rattle.be_machine.specs.Touched as part
@@ -21,16 +21,19 @@ use Rattle.be_machine.specs.Wants.{stops, want_of}
 use Rattle.be_machine.proofs.Lists.{both_first, both_second}
 use Rattle.be_parts.specs.Parts.{meaning_of}
 use Rattle.be_parts.specs.declared.part.Part.{Part}
-use Rattle.be_rules.specs.Found.{CanAct, CannotAct, NeedsPart}
-use Rattle.be_rules.specs.Places.{IsPart, place_of}
+use Rattle.be_rules.specs.Found.{CannotAct, NeedsPart}
+use Rattle.be_rules.specs.Places.{place_of}
 use Rattle.be_rules.specs.Rules.{IsSound}
 use Rattle.be_rules.specs.Slices.{Slice, all_parts, input_in, state_of}
-use Rattle.be_rules.proofs.Lawfully.{back}
+use Rattle.be_rules.proofs.Lawfully.{back, world_lawful}
+use Rattle.be_rules.proofs.ListLemmas.{some_there}
 use Rattle.be_rules.proofs.Local.{at_place}
+use Rattle.be_asking.specs.Deeds.{MayAct}
 use Rattle.be_asking.specs.Stopping.{HasAll, HasApps, HasWindows, IsLost, Tells, can_stop}
 use Rattle.be_asking.specs.Finding.{IsInHand}
-use Rattle.be_asking.proofs.InHand.{input_read, not_held}
+use Rattle.be_asking.proofs.InHand.{input_read, is_held, not_held}
 use Rattle.be_asking.proofs.Rests.{fails}
+use Rattle.be_asking.proofs.Spotted.{part_there, spot}
 
 -- ---- by the state
 
@@ -44,9 +47,21 @@ unfolding want_of
 stop_wanted d s e a number by =
     ap (λ n. option_and_then (want_of d s) (activity_of d n)) by ∙ ap (option_and_then (want_of d s)) number
 
+-- whatever has a place is in hand
+held_below : (d : Declared) (parts : List (ℕ × Part)) → HasAll d parts → (p : ℕ) → p < length (all_parts d) → IsHeld (meant meaning_of parts) p
+held_below d parts each p lt =
+    let x = some_there (all_parts d) p lt in
+    let y = each x.0 (part_there d p x.0 x.1) in
+    subst (IsHeld (meant meaning_of parts)) (sym (spot d p x.0 x.1)) (is_held parts (place_of d x.0) y.0 y.1)
+
 module _ (d : Declared) (parts : List (ℕ × Part)) (a : ℕ) (number : activity_of d a ≡ Some closing) where
-  pub stops_now : Tells d parts (can_stop d) true → CanAct d (meant meaning_of parts) a act.Stop
-  stops_now told all sound fits = stop_legal d (state_of d all) a true number (told all sound fits)
+  abbrev e : Entry
+  e = record { actor = a; act = act.Stop }
+
+  pub stops_now : Tells d parts (can_stop d) true → HasAll d parts → MayAct d (meant meaning_of parts) a act.Stop
+  stops_now told each all sound fits =
+      let legal : IsLegal d (state_of d all) e = stop_legal d (state_of d all) a true number (told all sound fits) in
+      (legal, λ p touched. held_below d parts each p ((world_lawful d).touched_below all e p sound legal touched))
 
   pub stops_later : Tells d parts (can_stop d) false → CannotAct d (meant meaning_of parts) a
   stops_later told all sound fits = stop_legal d (state_of d all) a false number (told all sound fits)

@@ -25,11 +25,11 @@ use Rattle.be_parts.specs.Stands.{PortIs}
 use Rattle.be_parts.specs.declared.part.Part as parts
 use Rattle.be_parts.specs.declared.part.Part.TheVariants as kinds
 use Rattle.be_parts.specs.Kept.{Kept}
-use Rattle.be_rules.specs.Found.{CanAct, CannotAct, NeedsPart}
+use Rattle.be_rules.specs.Found.{CannotAct, NeedsPart}
 use Rattle.be_rules.specs.Places.{place_of}
 use Rattle.be_rules.specs.Slices.{Slice, desk, input, cell, looper, port, link, pane, looper_in, port_in}
 use Rattle.be_rules.specs.Sure.{IsAmong, parts_by, seen_in}
-use Rattle.be_asking.specs.Deeds.{IsAsked}
+use Rattle.be_asking.specs.Deeds.{IsAsked, MayAct}
 use Rattle.be_asking.specs.Finding.{IsMissing, IsReachable}
 use Rattle.be_asking.specs.declared.activity.Activity.TheVariants as who
 use Rattle.be_asking.specs.declared.activity.Runner.TheVariants as by
@@ -116,7 +116,7 @@ module _ (d : Declared) (inhand : List (ℕ × parts.Part)) (a w : ℕ) (asked :
     pub takes_not : with_both take_act (looper_in l.slice) (port_in q) ≡ None → CannotAct d (meant meaning_of inhand) a
     takes_not none = waits d inhand a _ _ asked (λ is. absurd (cc)) there (acts ∙ none)
 
-    pub takes : (act : Act) → with_both take_act (looper_in l.slice) (port_in q) ≡ Some act → CanAct d (meant meaning_of inhand) a act
+    pub takes : (act : Act) → with_both take_act (looper_in l.slice) (port_in q) ≡ Some act → MayAct d (meant meaning_of inhand) a act
     takes act some = may d inhand a _ _ asked act (λ p far. absurd far) there (acts ∙ some)
 
     pub waits_busy : (owner : Owner) → Some owner ≡ owner_of l.slice → (owner ≡ owners.Free → ⊥) → CannotAct d (meant meaning_of inhand) a
@@ -125,7 +125,7 @@ module _ (d : Declared) (inhand : List (ℕ × parts.Part)) (a w : ℕ) (asked :
     pub waits_empty : EmptyAsPort → (queue : Queue) → Some owners.Free ≡ owner_of l.slice → PortIs q queue → slice_get queue.letters 0 ≡ None → CannotAct d (meant meaning_of inhand) a
     waits_empty empty queue is stands none = takes_not (ap (λ o. with_both take_act o (port_in q)) (idle (looper_in l.slice) is) ∙ no_front empty q queue stands none)
 
-    pub takes_front : TakesAsPort → (queue : Queue) (first : code.Letter) → Some owners.Free ≡ owner_of l.slice → PortIs q queue → slice_get queue.letters 0 ≡ Some first → CanAct d (meant meaning_of inhand) a (Take first.number)
+    pub takes_front : TakesAsPort → (queue : Queue) (first : code.Letter) → Some owners.Free ≡ owner_of l.slice → PortIs q queue → slice_get queue.letters 0 ≡ Some first → MayAct d (meant meaning_of inhand) a (Take first.number)
     takes_front law queue first is stands some = takes (Take first.number) (ap (λ o. with_both take_act o (port_in q)) (idle (looper_in l.slice) is) ∙ a_front law q queue first stands some)
 
 -- an owner that isn't nobody

@@ -13,10 +13,10 @@ use Rattle.be_parts.specs.Kept.{Kept}
 use Rattle.be_parts.specs.Parts.{meaning_of}
 use Rattle.be_parts.specs.declared.part.Part as parts
 use Rattle.be_parts.specs.declared.part.Part.TheVariants as kinds
-use Rattle.be_rules.specs.Found.{CanAct, CannotAct, NeedsPart}
+use Rattle.be_rules.specs.Found.{CannotAct, NeedsPart}
 use Rattle.be_rules.specs.Places.{place_of}
 use Rattle.be_rules.specs.Sure.{IsAmong, parts_by, seen_in}
-use Rattle.be_asking.specs.Deeds.{IsAsked}
+use Rattle.be_asking.specs.Deeds.{IsAsked, MayAct}
 use Rattle.be_asking.specs.Finding.{IsMissing, IsReachable}
 use Rattle.be_asking.specs.declared.activity.Activity.TheVariants as who
 use Rattle.be_asking.specs.declared.activity.Runner.TheVariants as by
@@ -88,7 +88,7 @@ module _ (d : Declared) (inhand : List (ℕ × parts.Part)) (a w : ℕ) (asked :
       unfolding want_act
       acts = ap (option_map (λ (p : Port Message). act.Notify (length p.arrived + 1))) (port_is d inhand a _ _ asked w (kinds.Port q) reach_port.there at_port) ∙ notified_by q queue stands
 
-      pub notifies : CanAct d (meant meaning_of inhand) a (act.Notify (queue.last + 1))
+      pub notifies : MayAct d (meant meaning_of inhand) a (act.Notify (queue.last + 1))
       notifies = may d inhand a _ _ asked (act.Notify (queue.last + 1)) (λ p far. absurd far) there acts
 
 -- ---- the begin of an update
@@ -158,7 +158,7 @@ module _ (d : Declared) (inhand : List (ℕ × parts.Part)) (a w : ℕ) (asked :
         let shows : PaneShows w (shown_of at_begin w) p = subst (λ (o : Slice). PaneIs o p) (sym (pane_read d inhand asked.fitting.0 so asked.fitting.2 (kinds.Pane k) w begin_reach_pane.there at_pane)) stands in
         (found p w shows.corner shows.kept shows.tree (owned at_begin w) (cells_in at_begin) (dirty_of at_begin w) (as_owned at_begin w whole_screen p shows) (are_dirty at_begin w whole_screen listed)).1
 
-    pub begins_it : FoundAsTheMachine → ListedAsDirty → (length commands == 0) ≡ true → (p : panes.Pane) → PaneIs k.slice p → (clean : Bool) → (IsTrue clean ↔ IsClean p.spans) → CanAct d (meant meaning_of inhand) a (act.Begin (not clean))
+    pub begins_it : FoundAsTheMachine → ListedAsDirty → (length commands == 0) ≡ true → (p : panes.Pane) → PaneIs k.slice p → (clean : Bool) → (IsTrue clean ↔ IsClean p.spans) → MayAct d (meant meaning_of inhand) a (act.Begin (not clean))
     begins_it found listed none p stands clean told =
         may d inhand a _ _ asked (act.Begin (not clean)) (λ x far. absurd far) all_there
         (begin_acts true none ∙ ap (λ b. Some (act.Begin b)) (any_by (is_any (dirty_of at_begin w)) clean (IsClean p.spans) told (dirty_is found listed p stands)))

@@ -1,13 +1,13 @@
 -- What the input is answered.
 use Rattle.std.proofs.Common.{◌≡◌, ℕ, ◌+◌, ◌<◌, ◌≤◌, Bool, true, false, List, [], ◌∷◌, ◌++◌, length, Option, Some, None, inl, inr, ⊎_elim, refl, sym, ap, ◌∙◌, subst}
-use Rattle.std.specs.Prelude.{IfSome, option_map, option_and_then, slice_get, if◌then◌else◌}
+use Rattle.std.specs.Prelude.{IfSome, option_map, option_and_then, if◌then◌else◌}
 use Rattle.std.proofs.lemmas.Option.{same_Some}
 use Rattle.be_desk.specs.Changes.{Desk}
 use Rattle.be_desk.specs.Desks.{desk_of}
 use Rattle.be_desk.specs.declared.desk.Desk as code
 use Rattle.be_geom.specs.declared.change.Change.TheVariants.{Activate}
 use Rattle.be_hall.specs.Hands.{meant, part_at}
-use Rattle.be_hall.specs.Machine.{Fits}
+use Rattle.be_hall.specs.Machine.{Fits, IsHeld}
 use Rattle.be_input.specs.declared.Delivery as declared
 use Rattle.be_input.specs.declared.Event.{Event}
 use Rattle.be_input.specs.declared.Event.TheVariants as event
@@ -22,33 +22,37 @@ use Rattle.be_machine.specs.Activities as machine
 use Rattle.be_machine.specs.Activities.{activity_of}
 use Rattle.be_machine.specs.declared.Act.{Act}
 use Rattle.be_machine.specs.declared.Act.TheVariants as act
+use Rattle.be_machine.specs.declared.Entry.{Entry}
 use Rattle.be_machine.specs.Input.{after_act, delivery_act, delivery_of, event_act}
+use Rattle.be_machine.specs.Laws.{IsWantOf}
 use Rattle.be_machine.specs.Legal.{legal_act, want_act}
 use Rattle.be_machine.specs.Program.{has_ended}
 use Rattle.be_machine.specs.State.{State}
+use Rattle.be_machine.specs.Step.{step}
 use Rattle.be_machine.specs.Touched as part
 use Rattle.be_machine.specs.Wants.{uses, want_of}
 use Rattle.be_parts.specs.Kept.{Kept}
 use Rattle.be_parts.specs.Parts.{meaning_of}
 use Rattle.be_parts.specs.declared.part.Part as parts
 use Rattle.be_parts.specs.declared.part.Part.TheVariants as kinds
-use Rattle.be_rules.specs.Far.{IsAltered, event_in}
-use Rattle.be_rules.specs.Found.{CanAct, CannotAct, NeedsPart}
-use Rattle.be_rules.specs.Places.{IsPart, place_of}
+use Rattle.be_rules.specs.Far.{IsAltered, IsFar, event_in}
+use Rattle.be_rules.specs.Found.{CannotAct, NeedsPart}
+use Rattle.be_rules.specs.Places.{place_of}
 use Rattle.be_rules.specs.Rules.{IsSound}
 use Rattle.be_rules.specs.Slices as slices
 use Rattle.be_rules.specs.Slices.{Slice, desk_in, input_in, state_of}
-use Rattle.be_rules.specs.Sure.{IsAmong, Seen, delivery_parts, event_parts, find_in, in_hand, maybe, parts_by, post_parts, seen_in}
+use Rattle.be_rules.specs.Sure.{IsAmong, Seen, delivery_parts, event_parts, in_hand, maybe, parts_by, post_parts, seen_in}
 use Rattle.be_rules.proofs.Far.{needs_activated}
 use Rattle.be_rules.proofs.Lawfully.{back, state, whole}
-use Rattle.be_asking.specs.Deeds.{IsAsked}
+use Rattle.be_asking.specs.Deeds.{IsAsked, MayAct}
 use Rattle.be_asking.specs.declared.activity.Activity.{Activity}
 use Rattle.be_asking.specs.declared.want.Want.{Want}
-use Rattle.be_asking.specs.Finding.{IsMissing, IsReachable}
+use Rattle.be_asking.specs.Finding.{IsInHand, IsMissing, IsReachable}
 use Rattle.be_asking.specs.Stopping.{Tells}
-use Rattle.be_asking.specs.Using.{ArePostable, HasNoPort, IsFirst, IsNextAfter, IsNextEvent, IsPostable, IsSecond, LacksActive, LacksStirred}
-use Rattle.be_asking.proofs.Asked.{fits, here, missing, own, reach, s, sound, wanted}
-use Rattle.be_asking.proofs.InHand.{desk_read, input_read, is_held, not_held}
+use Rattle.be_asking.specs.Using.{ArePostable, HasActive, HasNoPort, HasPort, IsFirst, IsNextAfter, IsNextEvent, IsSecond, LacksActive, LacksStirred}
+use Rattle.be_asking.proofs.Asked.{fits, here, may, missing, own, reach, s, sound, wanted}
+use Rattle.be_asking.proofs.InHand.{desk_read, is_held, not_held}
+use Rattle.be_asking.proofs.FarEvents.{IsStirredPane, far_stirred}
 use Rattle.be_asking.proofs.SeenInHand.{desk_found}
 use Rattle.be_asking.proofs.Small.{small, small_events}
 use Rattle.be_asking.proofs.StopAnswered.{events_are}
@@ -215,13 +219,67 @@ module _ (d : Declared) (inhand : List (ℕ × parts.Part)) (a : ℕ) (ev : Even
 
     -- what happens
 
-    pub happens : (y : Kept) → part_at inhand (place_of d part.input) ≡ Some (kinds.Input y) → (n : ℕ) → option_map (λ (known : ℕ × Bool). known.0) (input_in y.slice) ≡ Some n
-        → (first second : Option (ℕ × Posted)) → IsFirst d inhand x first → IsSecond d inhand x second → CanAct d held a (act.Event (n + 1) first second)
-    happens y there n used first second one two all sound fits =
-        use_legal d (state_of d all) a next.line.now next.asked.number (next.asked.wanted all sound fits).0
-        ∙ event_happens d (state_of d all) next.line.now ev next.is
-        ∙ ap (λ z. Some (delivery_act (state_of d all) z)) (ap (λ t. delivery_of t ev) (back d all sound) ∙ delivery_is all sound fits)
-        ∙ (λ i. Some (act.Event (events_are d inhand (kinds.Input y) there all sound fits n used i + 1) (one all sound fits i) (two all sound fits i)))
+    pub event_acts : (y : Kept) → part_at inhand (place_of d part.input) ≡ Some (kinds.Input y) → (n : ℕ) → option_map (λ (known : ℕ × Bool). known.0) (input_in y.slice) ≡ Some n
+        → (first second : Option (ℕ × Posted)) → IsFirst d inhand x first → IsSecond d inhand x second → want_act d now (uses next.line.now) ≡ Some (act.Event (n + 1) first second)
+    unfolding want_act
+    event_acts y there n used first second one two =
+        let all : List Slice = next.asked.fitting.0 in
+        let so : IsSound d all = sound d inhand a _ _ next.asked in
+        let fit : Fits all held = fits d inhand a _ _ next.asked in
+        event_happens d now next.line.now ev next.is
+        ∙ ap (λ z. Some (delivery_act now z)) delivery_now
+        ∙ ap (λ t. Some (delivery_act t x)) (sym (back d all so))
+        ∙ (λ i. Some (act.Event (events_are d inhand (kinds.Input y) there all so fit n used i + 1) (one all so fit i) (two all so fit i)))
+
+    -- all that it touches is in hand
+
+    held_at : (p : part.Part) → IsInHand d inhand p → IsHeld held (place_of d p)
+    held_at p (y, there) = is_held inhand (place_of d p) y there
+
+    port_held : (o : Option sent.Post) (p : part.Part) → HasPort d inhand o → IsAmong p (post_parts (option_map seen_post o)) → IsHeld held (place_of d p)
+    port_held (Some post) p has (inl is) = subst (λ z. IsHeld held (place_of d z)) (sym is) (held_at (part.port post.window) has)
+    port_held (Some post) p has (inr nobody) = absurd nobody
+    port_held None p has nobody = absurd nobody
+
+    pane_held : (o : Option ℕ) (p : part.Part) → HasActive d inhand (desk_of known) o → IsAmong p (maybe part.pane o) → IsHeld held (place_of d p)
+    pane_held (Some w) p has (inl is) = subst (λ z. IsHeld held (place_of d z)) (sym is) (held_at (part.pane w) (has w (inl refl)))
+    pane_held (Some w) p has (inr nobody) = absurd nobody
+    pane_held None p has nobody = absurd nobody
+
+    module _ (input_there : IsInHand d inhand part.input) (first : HasPort d inhand delivery.first) (second : HasPort d inhand delivery.second) (panes : HasActive d inhand (desk_of known) delivery.activate) where
+      delivery_held : (p : part.Part) → IsAmong p (delivery_parts (Some x)) → IsHeld held (place_of d p)
+      delivery_held p (inl is) = subst (λ z. IsHeld held (place_of d z)) (sym is) (here d inhand a _ _ next.asked part.desk (kinds.Desk k) at)
+      delivery_held p (inr more) =
+          either p (post_parts x.first) _ (port_held delivery.first p first)
+          (either p (post_parts x.second) _ (port_held delivery.second p second) (pane_held delivery.activate p panes)) more
+        where
+          either : (p : part.Part) (xs ys : List part.Part) → (IsAmong p xs → IsHeld held (place_of d p)) → (IsAmong p ys → IsHeld held (place_of d p)) → IsAmong p (xs ++ ys) → IsHeld held (place_of d p)
+          either p [] ys f g h = g h
+          either p (z ∷ zs) ys f g (inl e) = f (inl e)
+          either p (z ∷ zs) ys f g (inr h) = either p zs ys (λ j. f (inr j)) g h
+
+      event_held : (p : part.Part) → IsAmong p (parts_by (seen_in now) (uses next.line.now)) → IsHeld held (place_of d p)
+      event_held p (inl is) = subst (λ z. IsHeld held (place_of d z)) (sym is) (held_at part.input input_there)
+      event_held p (inr more) = delivery_held p (subst (λ y. IsAmong p (delivery_parts (Some y))) delivery_now (subst (IsAmong p) (event_parts_are next.line.now ev next.is (seen_in now)) more))
+
+      module _ (made_act : Act) where
+        abbrev e : Entry
+        e = record { actor = a; act = made_act }
+
+        wants_it : IsWantOf d now e (uses next.line.now)
+        wants_it = ap (option_and_then (want_of d now)) next.asked.number ∙ wanted d inhand a _ _ next.asked
+
+        far_held : (p : part.Part) → IsFar now (step d now e) (uses next.line.now) p → IsHeld held (place_of d p)
+        far_held p far =
+            let all : List Slice = next.asked.fitting.0 in
+            let stirred : IsStirredPane now ev p = far_stirred d now e next.line.now ev next.is wants_it p far in
+            let active : delivery.activate ≡ Some stirred.active = sym (ap (λ (y : Delivery). y.activate) delivery_now) ∙ stirred.activates in
+            let has : HasActive d inhand (desk_of known) (Some stirred.active) = subst (HasActive d inhand (desk_of known)) active panes in
+            let altered : IsAltered (desk_of known) stirred.active Activate stirred.window = subst (λ (desk : Desk). IsAltered desk stirred.active Activate stirred.window) (desk_is all (sound d inhand a _ _ next.asked) (fits d inhand a _ _ next.asked)) stirred.altered in
+            subst (λ z. IsHeld held (place_of d z)) (sym stirred.pane_is) (held_at (part.pane stirred.window) (has stirred.window (inr altered)))
+
+        pub happens : want_act d now (uses next.line.now) ≡ Some made_act → MayAct d held a made_act
+        happens acts = may d inhand a _ _ next.asked made_act far_held event_held acts
 
 -- ---- a line that waits for an application's end
 
@@ -249,10 +307,27 @@ module _ (d : Declared) (inhand : List (ℕ × parts.Part)) (a m : ℕ) (next : 
       use_legal d (state_of d all) a next.line.now next.asked.number (next.asked.wanted all sound fits).0
       ∙ ap (event_act d (state_of d all)) next.is
 
-  pub goes_on : (y : Kept) → part_at inhand (place_of d part.input) ≡ Some (kinds.Input y) → (n : ℕ) → option_map (λ (known : ℕ × Bool). known.0) (input_in y.slice) ≡ Some n → Tells d inhand (λ t. has_ended d t m) true → CanAct d (meant meaning_of inhand) a (act.Event (n + 1) None None)
-  goes_on y there n used ended all sound fits =
-      after_legal all sound fits
-      ∙ (λ i. if ended all sound fits i then Some (act.Event (events_are d inhand (kinds.Input y) there all sound fits n used i + 1) None None) else None)
+  module _ (y : Kept) (there : part_at inhand (place_of d part.input) ≡ Some (kinds.Input y)) (n : ℕ) (used : option_map (λ (known : ℕ × Bool). known.0) (input_in y.slice) ≡ Some n) (ended : Tells d inhand (λ t. has_ended d t m) true) where
+    after_acts : want_act d at_end (uses next.line.now) ≡ Some (act.Event (n + 1) None None)
+    unfolding want_act
+    after_acts =
+        let all : List Slice = next.asked.fitting.0 in
+        let so : IsSound d all = sound d inhand a _ _ next.asked in
+        let fit : Fits all (meant meaning_of inhand) = fits d inhand a _ _ next.asked in
+        ap (event_act d at_end) next.is
+        ∙ ap (λ t. after_act d t m) (sym (back d all so))
+        ∙ (λ i. if ended all so fit i then Some (act.Event (events_are d inhand (kinds.Input y) there all so fit n used i + 1) None None) else None)
+
+    pub goes_on : IsInHand d inhand (part.cell m) → MayAct d (meant meaning_of inhand) a (act.Event (n + 1) None None)
+    goes_on cell =
+        may d inhand a _ _ next.asked (act.Event (n + 1) None None)
+        (λ p far. absurd (subst (λ it. IsFar at_end (step d at_end (record { actor = a; act = act.Event (n + 1) None None })) (uses it) p) next.is far))
+        (λ p among. held_by p (subst (λ it. IsAmong p (parts_by (seen_in at_end) (uses it))) next.is among)) after_acts
+      where
+        held_by : (p : part.Part) → IsAmong p (part.input ∷ part.cell m ∷ []) → IsHeld (meant meaning_of inhand) (place_of d p)
+        held_by p (inl is) = subst (λ z. IsHeld (meant meaning_of inhand) (place_of d z)) (sym is) (here d inhand a _ _ next.asked part.input (kinds.Input y) there)
+        held_by p (inr (inl is)) = subst (λ z. IsHeld (meant meaning_of inhand) (place_of d z)) (sym is) (is_held inhand (place_of d (part.cell m)) cell.0 cell.1)
+        held_by p (inr (inr nobody)) = absurd nobody
 
   pub waits_on : Tells d inhand (λ t. has_ended d t m) false → CannotAct d (meant meaning_of inhand) a
   waits_on ended all sound fits =

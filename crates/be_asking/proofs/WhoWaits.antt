@@ -22,11 +22,11 @@ use Rattle.be_parts.specs.Parts.{meaning_of}
 use Rattle.be_parts.specs.declared.part.Part as parts
 use Rattle.be_parts.specs.declared.part.Part.TheVariants as kinds
 use Rattle.be_rules.specs.Far.{IsFar}
-use Rattle.be_rules.specs.Found.{CanAct, CannotAct, NeedsPart}
+use Rattle.be_rules.specs.Found.{CannotAct, NeedsPart}
 use Rattle.be_rules.specs.Places.{place_of}
 use Rattle.be_rules.specs.Slices.{looper_in}
 use Rattle.be_rules.specs.Sure.{IsAmong, Seen, find_in, in_hand, looper_of, maybe, parts_by, seen_in, waiter_in}
-use Rattle.be_asking.specs.Deeds.{IsAsked}
+use Rattle.be_asking.specs.Deeds.{IsAsked, MayAct}
 use Rattle.be_asking.specs.Finding.{IsMissing, IsReachable}
 use Rattle.be_asking.specs.declared.activity.Activity.TheVariants as who
 use Rattle.be_asking.specs.declared.activity.Runner.TheVariants as by
@@ -109,10 +109,10 @@ module _ (d : Declared) (inhand : List (ℕ × parts.Part)) (a w : ℕ) (want : 
     pub no_hand : (wanted ≡ wants.stops → ⊥) → duty_in l.slice ≡ None → want_act d now wanted ≡ None → CannotAct d (meant meaning_of inhand) a
     no_hand still none nothing = waits d inhand a _ _ asked still (alone (ap (option_and_then waiter) none)) nothing
 
-    pub acts_alone : (act : Act) → ((p : part.Part) → IsFar now (step d now (record { actor = a; act = act })) wanted p → ⊥) → (duty : Duty) → duty_in l.slice ≡ Some duty → waiter duty ≡ None → want_act d now wanted ≡ Some act → CanAct d (meant meaning_of inhand) a act
+    pub acts_alone : (act : Act) → ((p : part.Part) → IsFar now (step d now (record { actor = a; act = act })) wanted p → ⊥) → (duty : Duty) → duty_in l.slice ≡ Some duty → waiter duty ≡ None → want_act d now wanted ≡ Some act → MayAct d (meant meaning_of inhand) a act
     acts_alone act near duty is nobody acts = may d inhand a _ _ asked act (λ p far. absurd (near p far)) (alone (ap (option_and_then waiter) is ∙ nobody)) acts
 
-    pub acts_told : (act : Act) → ((p : part.Part) → IsFar now (step d now (record { actor = a; act = act })) wanted p → ⊥) → (m : ℕ) → duty_in l.slice ≡ Some (Owed m) → (k : Kept) → part_at inhand (place_of d (part.cell m)) ≡ Some (kinds.Cell k) → want_act d now wanted ≡ Some act → CanAct d (meant meaning_of inhand) a act
+    pub acts_told : (act : Act) → ((p : part.Part) → IsFar now (step d now (record { actor = a; act = act })) wanted p → ⊥) → (m : ℕ) → duty_in l.slice ≡ Some (Owed m) → (k : Kept) → part_at inhand (place_of d (part.cell m)) ≡ Some (kinds.Cell k) → want_act d now wanted ≡ Some act → MayAct d (meant meaning_of inhand) a act
     acts_told act near m owed k cell acts =
         may d inhand a _ _ asked act (λ p far. absurd (near p far))
         (there (Some m) (ap (option_and_then waiter) owed) (λ n is. subst (λ x. IsHeld (meant meaning_of inhand) (place_of d (part.cell x))) (same_Some m n is) (here d inhand a _ _ asked (part.cell m) (kinds.Cell k) cell))) acts

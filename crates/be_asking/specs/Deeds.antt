@@ -1,13 +1,13 @@
 -- What an activity may do, told by the parts in hand.
 use Rattle.std.specs.Prelude.{◌≡◌, ℕ, List, Some}
-use Rattle.be_hall.specs.Machine.{HeldFit, SomeFits}
+use Rattle.be_hall.specs.Machine.{HeldFit, IsReady, SomeFits}
 use Rattle.be_hall.specs.Hands.{meant}
 use Rattle.be_machine.specs.Activities.{activity_of}
 use Rattle.be_machine.specs.declared.Act.{Act}
 use Rattle.be_machine.specs.declared.Act.TheVariants as act
 use Rattle.be_parts.specs.Parts.{meaning_of}
 use Rattle.be_parts.specs.declared.part.Part.{Part}
-use Rattle.be_rules.specs.Found.{CanAct, CannotAct, NeedsPart}
+use Rattle.be_rules.specs.Found.{CannotAct, NeedsPart}
 use Rattle.be_rules.specs.Rules.{SliceFits, world_machine}
 use Rattle.be_rules.specs.Slices.{Slice}
 use Rattle.be_script.specs.Limits.{IsWithinLimits}
@@ -25,9 +25,13 @@ abbrev pub act_in : Deed → Act
 act_in (deed.Notes text) = act.Note text.now
 act_in (deed.Makes made) = made
 
+-- in every sound list with these parts the act is the activity's, and touches no other part
+abbrev pub MayAct : Declared → List (ℕ × Slice) → ℕ → Act → Type 0
+MayAct d held a act = IsReady (world_machine d) held (record { actor = a; act = act })
+
 -- it holds in every sound list with these parts
 abbrev pub IsAnswer : Declared → List (ℕ × Slice) → ℕ → Answer → Type 0
-IsAnswer d held a (May deed) = CanAct d held a (act_in deed)
+IsAnswer d held a (May deed) = MayAct d held a (act_in deed)
 IsAnswer d held a NotYet = CannotAct d held a
 IsAnswer d held a (Needs p) = NeedsPart d held a p
 

@@ -94,9 +94,11 @@ fn may_happen<'a>(
         Ok(second) => second,
         Err(place) => return Ok(Answer::Needs(place)),
     };
-    if let Some(place) = missing_pane(alloc, script, held, known, delivery.activate)? {
-        return Ok(Answer::Needs(place));
+    match missing_pane(alloc, script, held, known, delivery.activate)? {
+        Some(place) => Ok(Answer::Needs(place)),
+        None => {
+            let act = Act::Event(input.used() + 1, first, second);
+            Ok(Answer::May(Deed::Makes(act)))
+        }
     }
-    let act = Act::Event(input.used() + 1, first, second);
-    Ok(Answer::May(Deed::Makes(act)))
 }

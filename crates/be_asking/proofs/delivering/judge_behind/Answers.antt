@@ -1,4 +1,4 @@
-use Rattle.std.proofs.Common.{◌≡◌, ◌+◌, ◌<◌, ◌≤◌, sym, ap, ◌∙◌, arith}
+use Rattle.std.proofs.Common.{◌≡◌, ◌+◌, ◌<◌, ◌≤◌, ap, arith}
 use Rattle.be_asking.proofs.PostedBehind.{free_behind, full_behind, refused_again}
 use Rattle.be_asking.proofs.delivering.judge_behind.Goals as goal
 

@@ -1,4 +1,4 @@
-use Rattle.std.proofs.Common.{◌<◌, arith}
+use Rattle.std.proofs.Common.{arith}
 use Rattle.std.proofs.lemmas.List.Elements.{Contains-get_or}
 use lib.ListN.{get_or}
 use Rattle.be_parts.specs.declared.part.Part.TheVariants as kinds

@@ -1,4 +1,4 @@
-use Rattle.std.proofs.Common.{◌≡◌, ℕ, ◌+◌, ◌<◌, ◌≤◌, length, true, false, ◌∙◌, sym, subst, arith, below_more}
+use Rattle.std.proofs.Common.{◌≡◌, ◌<◌, ◌≤◌, length, true, false, ◌∙◌, subst, arith, below_more}
 use Rattle.be_script.specs.Script.{declared_by}
 use Rattle.be_asking.specs.Stopping.{HasWindow, Tells, is_quiet}
 use Rattle.be_asking.proofs.Rests.{busy_told, quiet_told}

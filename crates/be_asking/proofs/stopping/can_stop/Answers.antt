@@ -1,5 +1,5 @@
-use Rattle.std.proofs.Common.{◌≡◌, Bool, true, false, Some, sym, ap, subst, ◌∙◌}
-use Rattle.std.specs.Prelude.{◌==◌, length, option_map}
+use Rattle.std.proofs.Common.{◌≡◌, true, Some, sym, ap, subst, ◌∙◌}
+use Rattle.std.specs.Prelude.{◌==◌, length}
 use Rattle.std.proofs.lemmas.Result.{IfOk-weaker, err_from_is_err_and}
 use Rattle.std.specs.List.{list_all, range_with_len}
 use Rattle.be_machine.specs.Closing.{all_quiet}
@@ -8,7 +8,6 @@ use Rattle.be_machine.proofs.Lists.{is_same_number}
 use Rattle.be_machine.proofs.ProgressPlaces.{other_place}
 use Rattle.be_machine.specs.Touched as part
 use Rattle.be_parts.specs.declared.part.Part.TheVariants as kinds
-use Rattle.be_rules.specs.Slices.{input_in}
 use Rattle.be_script.specs.Script.{declared_by}
 use Rattle.be_asking.specs.Stopping.{HasAll, HasWindows, Tells, can_stop}
 use Rattle.be_asking.proofs.StopAnswered.{all_told, going_on, has_all, has_stopped, not_used}

@@ -10,7 +10,7 @@ returns-in-Err c = stop_needs (declared_by c.args.script.now) c.args.held.now.pa
 pub returns-in-Ok-true : goal.returns-in-Ok-true
 returns-in-Ok-true c =
     stops_now (declared_by c.args.script.now) c.args.held.now.parts c.args.number c.requires.number
-    (subst (Tells (declared_by c.args.script.now) c.args.held.now.parts (can_stop (declared_by c.args.script.now))) c.in-Ok-true.field-0-test c.in-Ok-true.ensures.told)
+    (subst (Tells (declared_by c.args.script.now) c.args.held.now.parts (can_stop (declared_by c.args.script.now))) c.in-Ok-true.field-0-test c.in-Ok-true.ensures.told) (c.in-Ok-true.ensures.there c.in-Ok-true.field-0-test)
 
 pub returns-in-Ok-false : goal.returns-in-Ok-false
 returns-in-Ok-false c =

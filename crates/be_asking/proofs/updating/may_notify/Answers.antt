@@ -2,8 +2,8 @@ use Rattle.std.proofs.Common.{◌≤◌, ◌*◌, sym, subst, arith}
 use Rattle.be_hall.specs.Hands.{meant}
 use Rattle.be_machine.specs.declared.Act.TheVariants as act
 use Rattle.be_parts.specs.Parts.{meaning_of}
-use Rattle.be_rules.specs.Found.{CanAct}
 use Rattle.be_script.specs.Script.{declared_by}
+use Rattle.be_asking.specs.Deeds.{MayAct}
 use Rattle.be_asking.proofs.UpdatesAnswered.{few_letters, needs_pane, needs_port, notifies, reach_pane, reach_port}
 use Rattle.be_asking.proofs.updating.may_notify.Goals as goal
 
@@ -27,6 +27,6 @@ next_number-requires c =
 
 pub returns-in-Ok : goal.returns-in-Ok
 returns-in-Ok c =
-    subst (λ n. CanAct (declared_by c.args.script.now) (meant meaning_of c.args.held.now.parts) c.args.number (act.Notify n)) (sym c.next_number.ensures)
+    subst (λ n. MayAct (declared_by c.args.script.now) (meant meaning_of c.args.held.now.parts) c.args.number (act.Notify n)) (sym c.next_number.ensures)
     (notifies (declared_by c.args.script.now) c.args.held.now.parts c.args.number c.args.w c.requires c.in-Ok.port.now c.in-Ok.ensures.there c.port.result.now c.port.ensures c.in_default.field-0.now
     c.in_default.ensures.there)

@@ -22,7 +22,7 @@ overflow_add-result c =
 pub returns-in-Ok-true : goal.returns-in-Ok-true
 returns-in-Ok-true c =
     goes_on (declared_by c.args.script.now) c.args.held.now.parts c.args.number c.args.app c.requires c.in-Ok.input.now c.in-Ok.ensures.there c.used.result c.used.ensures
-    (subst (Tells (declared_by c.args.script.now) c.args.held.now.parts (λ s. has_ended (declared_by c.args.script.now) s c.args.app)) c.in-Ok-true.field-0-test c.in-Ok-true.ensures.told)
+    (subst (Tells (declared_by c.args.script.now) c.args.held.now.parts (λ s. has_ended (declared_by c.args.script.now) s c.args.app)) c.in-Ok-true.field-0-test c.in-Ok-true.ensures.told) c.in-Ok-true.ensures.there
 
 pub returns-in-Ok-false : goal.returns-in-Ok-false
 returns-in-Ok-false c =

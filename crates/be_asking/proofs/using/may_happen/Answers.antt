@@ -1,7 +1,9 @@
-use Rattle.std.proofs.Common.{◌≤◌, subst, arith}
-use Rattle.std.proofs.lemmas.Option.{MatchOption-at_some}
+use Rattle.std.proofs.Common.{◌+◌, ◌≤◌, arith}
+use Rattle.std.proofs.lemmas.Option.{MatchOption-at_none, MatchOption-at_some}
+use Rattle.be_machine.specs.declared.Act.TheVariants as act
+use Rattle.be_parts.specs.declared.part.Part.TheVariants as kinds
 use Rattle.be_script.specs.Script.{declared_by}
-use Rattle.be_asking.proofs.UsesAnswered.{active_is_there, event_needs_desk, event_needs_input, few_events, first_postable, happens, many_windows, needs_first, needs_second, needs_active, second_postable}
+use Rattle.be_asking.proofs.UsesAnswered.{active_is_there, event_acts, event_needs_desk, event_needs_input, few_events, first_postable, happens, many_windows, needs_first, needs_second, needs_active, second_postable}
 use Rattle.be_asking.proofs.using.may_happen.Goals as goal
 
 pub returns-in-Err : goal.returns-in-Err
@@ -49,4 +51,7 @@ overflow_add-act c =
 pub returns : goal.returns
 returns c =
     happens (declared_by c.args.script.now) c.args.held.now.parts c.args.number c.args.event.now c.requires c.in-Ok-find_desk.part.now c.in-Ok-find_desk.ensures.there c.desk-known.result.now c.desk-known.ensures.slice c.in_ok-delivery.delivery c.in_ok-delivery.ensures
-    c.in-Ok.input.now c.in-Ok.ensures.there c.used.result c.used.ensures c.in-Ok-first_answer.first c.in-Ok-second_answer.second c.in-Ok-first_answer.ensures.told c.in-Ok-second_answer.ensures.told
+    (kinds.Input c.in-Ok.input.now, c.in-Ok.ensures.there) c.in-Ok-first_answer.ensures.there c.in-Ok-second_answer.ensures.there (MatchOption-at_none _ _ c.in-None.is c.in_ok-place.ensures)
+    (act.Event (c.used.result + 1) c.in-Ok-first_answer.first c.in-Ok-second_answer.second)
+    (event_acts (declared_by c.args.script.now) c.args.held.now.parts c.args.number c.args.event.now c.requires c.in-Ok-find_desk.part.now c.in-Ok-find_desk.ensures.there c.desk-known.result.now c.desk-known.ensures.slice c.in_ok-delivery.delivery c.in_ok-delivery.ensures
+    c.in-Ok.input.now c.in-Ok.ensures.there c.used.result c.used.ensures c.in-Ok-first_answer.first c.in-Ok-second_answer.second c.in-Ok-first_answer.ensures.told c.in-Ok-second_answer.ensures.told)
