@@ -51,5 +51,5 @@ pub use places::{
 pub use requests::request;
 pub use stopping::may_stop;
 pub use updating::{may_begin, may_notify};
-pub use using::may_use;
+pub use using::{has_any_event, may_use};
 pub use want::{Request, Want, Wanted};
