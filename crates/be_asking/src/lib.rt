@@ -1,9 +1,11 @@
 //! What an activity wants, and whether it may have it, told by the parts in hand.
 //!
 //! Some sound list of slices has these parts, and there may be many: an answer holds in each of
-//! them. Asking takes no memory, and a few steps: a look at one instruction, and at the fronts of a
-//! port and of a link. An application that draws looks back through its program for its lock, and a
-//! looper looks for its body among the script's. No pixel is looked at.
+//! them. Asking takes a few steps: a look at one instruction, and at the fronts of a port and of a
+//! link. An application that draws looks back through its program for its lock, and a looper looks
+//! for its body among the script's. The closing activity looks at each part once. No pixel is looked
+//! at, and memory is taken by the input alone, for the messages of an event and the windows that it
+//! alters.
 #![tactic(auto)]
 
 mod activity;
