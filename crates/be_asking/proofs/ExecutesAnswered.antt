@@ -28,7 +28,7 @@ use Rattle.be_views.specs.Trees.{Tree}
 use Rattle.be_machine.specs.Commands.{effect_outcome, sight_at}
 use Rattle.be_machine.specs.declared.Act.{Act}
 use Rattle.be_machine.specs.declared.Act.TheVariants as act
-use Rattle.be_machine.specs.KeptLimits.{LinkedAreWithinLimits}
+use Rattle.be_machine.specs.KeptLimits.{IsOnItsWay, LinkedAreWithinLimits}
 use Rattle.be_machine.specs.Legal.{want_act}
 use Rattle.be_machine.specs.Lists.{with_both}
 use Rattle.be_machine.specs.State.{State}
@@ -151,7 +151,7 @@ module _ (d : Declared) (inhand : List (ℕ × parts.Part)) (a w : ℕ) (asked :
   abbrev so : IsSound d asked.fitting.0
   so = sound d inhand a _ _ asked
 
-  abbrev exec : machine.Pane → Numbered → Option Act
+  abbrev pub exec : machine.Pane → Numbered → Option Act
   exec pane c = Some (act.Exec c.number (effect_outcome d.pictures now w (effect_of c.command) pane))
 
   pub reach_link : IsReachable d inhand (part.link w)
@@ -161,10 +161,10 @@ module _ (d : Declared) (inhand : List (ℕ × parts.Part)) (a w : ℕ) (asked :
   needs_link place gone = missing d inhand a _ _ asked (part.link w) place gone (inl refl)
 
   module _ (q : Slice) (at_link : part_at inhand (place_of d (part.link w)) ≡ Some (kinds.Link q)) (l : List Numbered) (link : link_in q ≡ Some l) where
-    read : slice_get now.links w ≡ Some l
+    pub read : slice_get now.links w ≡ Some l
     read = link_is d inhand a _ _ asked w (kinds.Link q) reach_link.there at_link ∙ link
 
-    acts : want_act d now (wants.executes w) ≡ with_both exec (slice_get now.panes w) (slice_get l 0)
+    pub acts : want_act d now (wants.executes w) ≡ with_both exec (slice_get now.panes w) (slice_get l 0)
     unfolding want_act
     acts = ap (λ o. with_both exec (slice_get now.panes w) (option_and_then (λ (link : List Numbered). slice_get link 0) o)) read
 
@@ -180,38 +180,59 @@ module _ (d : Declared) (inhand : List (ℕ × parts.Part)) (a w : ℕ) (asked :
         waits d inhand a _ _ asked (λ stop. absurd (cc)) (link_alone (sym none))
         (acts ∙ ap (with_both exec (slice_get now.panes w)) (sym none) ∙ no_front exec (slice_get now.panes w))
 
-  module _ (n : ℕ) (c : Command) (oldest : IsOldest d inhand w n c) (plain : IsNoChange (effect_of c)) where
+  module _ (n : ℕ) (c : Command) (oldest : IsOldest d inhand w n c) where
     abbrev linked : (l : List Numbered) × (link_in oldest.link ≡ Some l) × (slice_get l 0 ≡ Some (numbered (n, c)))
     linked = linked_by (link_in oldest.link) (numbered (n, c)) oldest.oldest
+
+    linked_now : slice_get now.links w ≡ Some linked.0
+    linked_now = read oldest.link oldest.there linked.0 linked.1
 
     effect_is : effect_in linked.0 ≡ Some (effect_of c)
     effect_is = ap (option_map (λ (x : Numbered). effect_of x.command)) linked.2
 
-    oldest_now : (seen_in now).oldest w ≡ Some (effect_of c)
-    oldest_now = ap (option_and_then effect_in) (read oldest.link oldest.there linked.0 linked.1) ∙ effect_is
+    pub front_now : option_and_then (λ (l : List Numbered). slice_get l 0) (slice_get now.links w) ≡ Some (numbered (n, c))
+    front_now = ap (option_and_then (λ (l : List Numbered). slice_get l 0)) linked_now ∙ linked.2
 
-    oldest_in_hand : (in_hand d (meant meaning_of inhand)).oldest w ≡ Some (effect_of c)
+    pub oldest_now : (seen_in now).oldest w ≡ Some (effect_of c)
+    oldest_now = ap (option_and_then effect_in) linked_now ∙ effect_is
+
+    pub oldest_in_hand : (in_hand d (meant meaning_of inhand)).oldest w ≡ Some (effect_of c)
     oldest_in_hand =
         ap (option_and_then effect_in) (link_found d inhand asked.fitting.0 so (fits d inhand a _ _ asked) (kinds.Link oldest.link) w linked.0 reach_link.there oldest.there linked.1)
         ∙ effect_is
 
+    pub link_held : IsHeld (meant meaning_of inhand) (place_of d (part.link w))
+    link_held = here d inhand a _ _ asked (part.link w) (kinds.Link oldest.link) oldest.there
+
+    -- a script may say it for this window
+    pub on_its_way : LinkedAreWithinLimits → IsOnItsWay d w (numbered (n, c))
+    on_its_way law = law d so.history w 0 linked.0 (numbered (n, c)) so.limits so.legal linked_now linked.2
+
+    -- it is executed beside what is kept of the window
+    pub acts_by : (kept : machine.Pane) → slice_get now.panes w ≡ Some kept → want_act d now (wants.executes w) ≡ exec kept (numbered (n, c))
+    acts_by kept pane =
+        acts oldest.link oldest.there linked.0 linked.1
+        ∙ ap (with_both exec (slice_get now.panes w)) linked.2
+        ∙ ap (λ o. with_both exec o (Some (numbered (n, c)))) pane
+
+  module _ (n : ℕ) (c : Command) (oldest : IsOldest d inhand w n c) (plain : IsNoChange (effect_of c)) where
     shape : (x : Seen) → x.oldest w ≡ Some (effect_of c) → parts_by x (wants.executes w) ≡ part.link w ∷ part.pane w ∷ []
     shape x is = ap (λ o. part.link w ∷ effect_parts w o) is ∙ ap (λ (ps : List part.Part). part.link w ∷ ps) (a_pane w (effect_of c) plain)
 
     pub reach_pane : IsReachable d inhand (part.pane w)
-    reach_pane = reach d inhand a _ _ asked (part.pane w) (subst (IsAmong (part.pane w)) (sym (shape (seen_in now) oldest_now)) (inr (inl refl)))
+    reach_pane = reach d inhand a _ _ asked (part.pane w) (subst (IsAmong (part.pane w)) (sym (shape (seen_in now) (oldest_now n c oldest))) (inr (inl refl)))
 
     pub needs_pane : (place : ℕ) → IsMissing d inhand (part.pane w) place → NeedsPart d (meant meaning_of inhand) a place
-    needs_pane place gone = missing d inhand a _ _ asked (part.pane w) place gone (subst (IsAmong (part.pane w)) (sym (shape (in_hand d (meant meaning_of inhand)) oldest_in_hand)) (inr (inl refl)))
+    needs_pane place gone = missing d inhand a _ _ asked (part.pane w) place gone (subst (IsAmong (part.pane w)) (sym (shape (in_hand d (meant meaning_of inhand)) (oldest_in_hand n c oldest))) (inr (inl refl)))
 
     module _ (k : Kept) (at_pane : part_at inhand (place_of d (part.pane w)) ≡ Some (kinds.Pane k)) where
       among : (p : part.Part) → IsAmong p (part.link w ∷ part.pane w ∷ []) → IsHeld (meant meaning_of inhand) (place_of d p)
-      among p (inl is) = subst (λ x. IsHeld (meant meaning_of inhand) (place_of d x)) (sym is) (here d inhand a _ _ asked (part.link w) (kinds.Link oldest.link) oldest.there)
+      among p (inl is) = subst (λ x. IsHeld (meant meaning_of inhand) (place_of d x)) (sym is) (link_held n c oldest)
       among p (inr (inl is)) = subst (λ x. IsHeld (meant meaning_of inhand) (place_of d x)) (sym is) (here d inhand a _ _ asked (part.pane w) (kinds.Pane k) at_pane)
       among p (inr (inr nobody)) = absurd nobody
 
       there : (p : part.Part) → IsAmong p (parts_by (seen_in now) (wants.executes w)) → IsHeld (meant meaning_of inhand) (place_of d p)
-      there p told = among p (subst (IsAmong p) (shape (seen_in now) oldest_now) told)
+      there p told = among p (subst (IsAmong p) (shape (seen_in now) (oldest_now n c oldest)) told)
 
       module _ (p : panes.Pane) (stands : PaneIs k.slice p) where
         shows : PaneShows w (shown_of now w) p
@@ -231,11 +252,7 @@ module _ (d : Declared) (inhand : List (ℕ × parts.Part)) (a w : ℕ) (asked :
             → MayAct d (meant meaning_of inhand) a (act.Exec n outcome)
         executes law outcome judged =
             let later : State = step d now (record { actor = a; act = act.Exec n outcome }) in
-            let on_its_way = law d so.history w 0 linked.0 (numbered (n, c)) so.limits so.legal (read oldest.link oldest.there linked.0 linked.1) linked.2 in
             let comes : ComesOf d.pictures shows.corner shows.tree shows.kept (effect_of c) outcome =
-            judged d.pictures (pictured_there d w c on_its_way) w shows.corner shows.kept shows.tree (has_cell (shown_of now w)) (cell_of (shown_of now w)) shows.stands in
-            may d inhand a _ _ asked (act.Exec n outcome) (λ x far. absurd (near now later (effect_of c) x plain (subst (λ o. FarEffect now later o x) oldest_now far))) there
-            (acts oldest.link oldest.there linked.0 linked.1
-            ∙ ap (with_both exec (slice_get now.panes w)) linked.2
-            ∙ ap (λ o. with_both exec o (Some (numbered (n, c)))) shows.is_kept
-            ∙ ap (λ (o : Outcome). Some (act.Exec n o)) (comes_by (effect_of c) outcome plain comes))
+            judged d.pictures (pictured_there d w c (on_its_way n c oldest law)) w shows.corner shows.kept shows.tree (has_cell (shown_of now w)) (cell_of (shown_of now w)) shows.stands in
+            may d inhand a _ _ asked (act.Exec n outcome) (λ x far. absurd (near now later (effect_of c) x plain (subst (λ o. FarEffect now later o x) (oldest_now n c oldest) far))) there
+            (acts_by n c oldest shows.kept shows.is_kept ∙ ap (λ (o : Outcome). Some (act.Exec n o)) (comes_by (effect_of c) outcome plain comes))

@@ -37,3 +37,5 @@ pub mod DeliveriesAnswered
 pub mod UsesAnswered
 pub mod StirredAnswered
 pub mod FarEvents
+pub mod Missing
+pub mod ChangesAnswered

@@ -8,3 +8,4 @@ pub mod Acts
 pub mod Executing
 pub mod Stopping
 pub mod Using
+pub mod Changing

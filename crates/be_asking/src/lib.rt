@@ -6,6 +6,8 @@
 //! for its body among the script's. The closing activity looks at each part once. No pixel is looked
 //! at, and memory is taken by the input alone, for the messages of an event and the windows that it
 //! alters.
+//! for its body among the script's. A change of a window alone takes memory, for the windows that
+//! it alters. No pixel is looked at.
 #![tactic(auto)]
 
 mod activity;
@@ -15,6 +17,7 @@ mod apps;
 mod ask;
 mod asking;
 mod bodies;
+mod changing;
 mod commands;
 mod deed;
 mod delivering;
@@ -42,6 +45,7 @@ mod want;
 pub use activity::{Activity, Runner, activity_of};
 pub use ask::wanted;
 pub use asking::may_ask;
+pub use changing::may_change;
 pub use commands::{may_end_drawing, may_flush};
 pub use deed::{Answer, Deed};
 pub use ending::may_end;
