@@ -37,7 +37,7 @@ use Rattle.be_parts.specs.Parts.{meaning_of}
 use Rattle.be_parts.specs.declared.part.Part as parts
 use Rattle.be_parts.specs.declared.part.Part.TheVariants as kinds
 use Rattle.be_rules.specs.Far.{ChangesHands, FarEffect, IsAltered, windows_behind, windows_or}
-use Rattle.be_rules.specs.Found.{CanAct, NeedsPart}
+use Rattle.be_rules.specs.Found.{NeedsPart}
 use Rattle.be_rules.specs.Places.{place_of}
 use Rattle.be_rules.specs.Rules.{IsSound}
 use Rattle.be_rules.specs.Slices.{Slice, desk, desk_in}
@@ -55,7 +55,7 @@ use Rattle.be_stack.specs.Windows.{Windows}
 use Rattle.be_twin.specs.declared.Outcome.{Outcome}
 use Rattle.be_twin.specs.declared.Outcome.TheVariants.{Done}
 use Rattle.be_asking.specs.Changing.{IsRefusedWith, first_missing}
-use Rattle.be_asking.specs.Deeds.{IsAsked}
+use Rattle.be_asking.specs.Deeds.{IsAsked, MayAct}
 use Rattle.be_asking.specs.Executing.{IsOldest}
 use Rattle.be_asking.specs.Finding.{IsMissing, IsReachable}
 use Rattle.be_asking.specs.declared.activity.Activity.TheVariants as who
@@ -202,7 +202,7 @@ module _ (d : Declared) (inhand : List (ℕ × parts.Part)) (a w : ℕ) (asked :
   asks_for_it = ap (option_and_then (want_of d now)) asked.number ∙ wanted d inhand a _ _ asked
 
   -- it is executed, whatever comes of it
-  acts_now : want_act d now (wants.executes w) ≡ Some (act.Exec n (outcome_by (desk_after now.desk w change)))
+  pub acts_now : want_act d now (wants.executes w) ≡ Some (act.Exec n (outcome_by (desk_after now.desk w change)))
   acts_now =
       let pane = element now.panes w (subst (λ (k : ℕ). w < k) (sym (whole d asked.fitting.0 so).parts.panes) reach_pane.there) in
       acts_by d inhand a w asked n (command.Change change) oldest pane.0 pane.1
@@ -273,7 +273,7 @@ module _ (d : Declared) (inhand : List (ℕ × parts.Part)) (a w : ℕ) (asked :
           differs u (owner_in now x y) (owner_in (step d now e) x y) hands.4 hands.5
           (ap (λ (k : Desk). is_number u (owner_at k.windows x y)) desk_is ∙ same x y ∙ ap (λ (k : Windows). is_number u (owner_at k x y)) (sym (executed_windows e by)))
 
-      executes_with : (outcome : Outcome) → outcome_by (desk_after known w change) ≡ outcome → ((u : ℕ) → IsAltered known w change u → IsHeld held (place_of d (part.pane u))) → CanAct d held a (act.Exec n outcome)
+      executes_with : (outcome : Outcome) → outcome_by (desk_after known w change) ≡ outcome → ((u : ℕ) → IsAltered known w change u → IsHeld held (place_of d (part.pane u))) → MayAct d held a (act.Exec n outcome)
       executes_with outcome comes altered =
           let e : Entry = record { actor = a; act = act.Exec n outcome } in
           may d inhand a _ _ asked (act.Exec n outcome)
@@ -286,7 +286,7 @@ module _ (d : Declared) (inhand : List (ℕ × parts.Part)) (a w : ℕ) (asked :
               subst (λ (x : part.Part). IsHeld held (place_of d x)) (sym hands.1) (altered hands.0 (is_altered (record { actor = a; act = act.Exec n outcome }) refl p hands))
 
       -- the desk refuses it
-      pub refuses : (outcome : Outcome) → IsRefusedWith (desk_after known w change) outcome → CanAct d held a (act.Exec n outcome)
+      pub refuses : (outcome : Outcome) → IsRefusedWith (desk_after known w change) outcome → MayAct d held a (act.Exec n outcome)
       refuses outcome (fault, refused, comes) =
           executes_with outcome (ap outcome_by refused ∙ comes)
           (λ u other. absurd (other (subst (λ (r : Result Desk ChangeFault). OwnsTheSame known.windows (windows_or known.windows r) u) (sym refused) (λ x y. refl))))
@@ -310,7 +310,7 @@ module _ (d : Declared) (inhand : List (ℕ × parts.Part)) (a w : ℕ) (asked :
             let name = named_among names lacking.0 lacking.1 in
             by_name name.0 place ((affected.named name.0).0 name.2) (subst (λ (x : part.Part). IsMissing d inhand x place) name.1 lacking.2)
 
-        pub executes_taken : None ≡ first_missing d inhand (map part.pane names) → CanAct d held a (act.Exec n Done)
+        pub executes_taken : None ≡ first_missing d inhand (map part.pane names) → MayAct d held a (act.Exec n Done)
         executes_taken is =
             executes_with Done (ap outcome_by after.1)
             (λ u other. has_all d inhand (map part.pane names) is (part.pane u) (among_named names u ((affected.named u).1 (inr other))))

@@ -39,3 +39,5 @@ pub mod StirredAnswered
 pub mod FarEvents
 pub mod Missing
 pub mod ChangesAnswered
+pub mod Makers
+pub mod AllHeld

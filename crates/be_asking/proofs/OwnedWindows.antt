@@ -23,7 +23,7 @@ use Rattle.be_asking.specs.declared.activity.Runner.TheVariants as by
 use Rattle.be_asking.proofs.InHand.{cell_read}
 use Rattle.be_asking.proofs.SeenInHand.{app_found}
 
-at_place : (o : Option App) (p : Place) → option_map (λ (a : App). a.place) o ≡ Some p → (a : App) × (o ≡ Some a) × (a.place ≡ p)
+pub at_place : (o : Option App) (p : Place) → option_map (λ (a : App). a.place) o ≡ Some p → (a : App) × (o ≡ Some a) × (a.place ≡ p)
 at_place (Some a) p e = (a, refl, same_Some a.place p e)
 at_place None p e = absurd (cc)
 

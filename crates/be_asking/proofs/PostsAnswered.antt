@@ -82,7 +82,7 @@ module _ (r : machine.Runner) (now : Option Message) (w : ℕ) where
   posts_act request.SyncDone e t = absurd (cc)
   posts_act (request.Draw command) e t = absurd (cc)
 
-  posts_parts : (q : Request) → post_window q ≡ Some w → (x : Seen) → parts_for x r (wish_in now q) ≡ part.port w ∷ []
+  pub posts_parts : (q : Request) → post_window q ≡ Some w → (x : Seen) → parts_for x r (wish_in now q) ≡ part.port w ∷ []
   posts_parts (request.Post v target draft) e x = ap (λ n. part.port n ∷ []) (same_Some v w e)
   posts_parts (request.Send v target draft) e x = ap (λ n. part.port n ∷ []) (same_Some v w e)
   posts_parts (request.Forward v target) e x = ap (λ n. part.port n ∷ []) (same_Some v w e)

@@ -333,8 +333,3 @@ module _ (d : Declared) (inhand : List (ℕ × parts.Part)) (a m : ℕ) (next : 
   waits_on ended all sound fits =
       after_legal all sound fits
       ∙ ap (λ b. if b then Some (act.Event ((state_of d all).events + 1) None None) else None) (ended all sound fits)
-
--- ---- with all parts in hand
-
-pub never_missing : (d : Declared) (inhand : List (ℕ × parts.Part)) (x : part.Part) → IsInHand d inhand x → (place : ℕ) → IsMissing d inhand x place → ⊥
-never_missing d inhand x (y, at) place gone = let both : Some y ≡ None = sym at ∙ ap (part_at inhand) (sym gone.0) ∙ gone.1 in absurd (cc)

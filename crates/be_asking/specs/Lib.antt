@@ -9,3 +9,4 @@ pub mod Executing
 pub mod Stopping
 pub mod Using
 pub mod Changing
+pub mod Having

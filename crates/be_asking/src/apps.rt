@@ -23,7 +23,7 @@ use be_script::Script;
 /// instruction depends on how full the buffer is.
 pub(crate) fn wanted_by_app<'a>(
     script: &'a Script,
-    held: &'a Held<Part>,
+    held: &Held<Part>,
     number: u32,
     app: u16,
 ) -> Wanted<'a>

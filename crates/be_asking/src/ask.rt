@@ -23,7 +23,7 @@ use be_script::Script;
 /// lock, and a looper looks for its body among the script's.
 pub fn wanted<'a>(
     script: &'a Script,
-    held: &'a Held<Part>,
+    held: &Held<Part>,
     number: u32,
     who: Activity,
 ) -> Wanted<'a>

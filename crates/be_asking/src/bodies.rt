@@ -28,7 +28,7 @@ use be_script::Script;
 /// What the looper of a window wants, by itself and its buffer.
 pub(crate) fn wanted_by_looper<'a>(
     script: &'a Script,
-    held: &'a Held<Part>,
+    held: &Held<Part>,
     number: u32,
     window: u16,
 ) -> Wanted<'a>

@@ -14,7 +14,8 @@ use be_parts::{
 };
 use be_script::Script;
 
-pub(crate) fn find_desk<'a>(script: &Script, held: &'a Held<Part>) -> Result<&'a DeskPart, u32>
+/// The desk. Its place where it isn't in hand.
+pub fn find_desk<'a>(script: &Script, held: &'a Held<Part>) -> Result<&'a DeskPart, u32>
     requires { IsReachable (declared_by script.now) held.now.parts part.desk }
     ensures there { IfOk result (λ p. part_at held.now.parts
         (place_of (declared_by script.now) part.desk) ≡ Some (Part.Desk p.now)) }
@@ -25,7 +26,8 @@ pub(crate) fn find_desk<'a>(script: &Script, held: &'a Held<Part>) -> Result<&'a
     desk_in_hand(held, place).ok_or(place)
 }
 
-pub(crate) fn find_input<'a>(script: &Script, held: &'a Held<Part>) -> Result<&'a InputPart, u32>
+/// The input. Its place where it isn't in hand.
+pub fn find_input<'a>(script: &Script, held: &'a Held<Part>) -> Result<&'a InputPart, u32>
     requires { IsReachable (declared_by script.now) held.now.parts part.input }
     ensures there { IfOk result (λ p. part_at held.now.parts
         (place_of (declared_by script.now) part.input) ≡ Some (Part.Input p.now)) }
@@ -36,7 +38,8 @@ pub(crate) fn find_input<'a>(script: &Script, held: &'a Held<Part>) -> Result<&'
     input_in_hand(held, place).ok_or(place)
 }
 
-pub(crate) fn find_cell<'a>(
+/// An application's part. Its place where it isn't in hand.
+pub fn find_cell<'a>(
     script: &Script,
     held: &'a Held<Part>,
     m: u16,
@@ -51,7 +54,8 @@ pub(crate) fn find_cell<'a>(
     cell_in_hand(held, place).ok_or(place)
 }
 
-pub(crate) fn find_looper<'a>(
+/// The looper of a window. Its place where it isn't in hand.
+pub fn find_looper<'a>(
     script: &Script,
     held: &'a Held<Part>,
     w: u16,
@@ -66,7 +70,8 @@ pub(crate) fn find_looper<'a>(
     looper_in_hand(held, place).ok_or(place)
 }
 
-pub(crate) fn find_port<'a>(
+/// The port of a window. Its place where it isn't in hand.
+pub fn find_port<'a>(
     script: &Script,
     held: &'a Held<Part>,
     w: u16,
@@ -81,7 +86,8 @@ pub(crate) fn find_port<'a>(
     port_in_hand(held, place).ok_or(place)
 }
 
-pub(crate) fn find_link<'a>(
+/// The link of a window. Its place where it isn't in hand.
+pub fn find_link<'a>(
     script: &Script,
     held: &'a Held<Part>,
     w: u16,
@@ -96,7 +102,8 @@ pub(crate) fn find_link<'a>(
     link_in_hand(held, place).ok_or(place)
 }
 
-pub(crate) fn find_pane<'a>(
+/// The pane of a window. Its place where it isn't in hand.
+pub fn find_pane<'a>(
     script: &Script,
     held: &'a Held<Part>,
     w: u16,

@@ -4,15 +4,14 @@
 //! them. Asking takes a few steps: a look at one instruction, and at the fronts of a port and of a
 //! link. An application that draws looks back through its program for its lock, and a looper looks
 //! for its body among the script's. The closing activity looks at each part once. No pixel is looked
-//! at, and memory is taken by the input alone, for the messages of an event and the windows that it
-//! alters.
-//! for its body among the script's. A change of a window alone takes memory, for the windows that
-//! it alters. No pixel is looked at.
+//! at. Memory is taken for the windows that a change or an event alters and for the messages of an
+//! event, and for nothing else.
 #![tactic(auto)]
 
 mod activity;
 mod acts;
 mod answered;
+mod answering;
 mod apps;
 mod ask;
 mod asking;
@@ -25,6 +24,7 @@ mod ended;
 mod ending;
 mod executing;
 mod finding;
+mod having;
 mod letters;
 mod locking;
 mod owned;
@@ -43,6 +43,7 @@ mod using;
 mod want;
 
 pub use activity::{Activity, Runner, activity_of};
+pub use answering::may;
 pub use ask::wanted;
 pub use asking::may_ask;
 pub use changing::may_change;
@@ -50,12 +51,18 @@ pub use commands::{may_end_drawing, may_flush};
 pub use deed::{Answer, Deed};
 pub use ending::may_end;
 pub use executing::{Execution, may_execute};
+pub use finding::{
+    find_cell, find_desk, find_input, find_link, find_looper, find_pane, find_port,
+};
+pub use having::has_any;
 pub use letters::may_take;
+pub use owned::owned_window;
 pub use places::{
     cell_place, desk_place, input_place, link_place, looper_place, pane_place, port_place,
 };
+pub use programs::{app_steps, body_step, step_at, update_step};
 pub use requests::request;
 pub use stopping::may_stop;
 pub use updating::{may_begin, may_notify};
-pub use using::{has_any_event, may_use};
+pub use using::may_use;
 pub use want::{Request, Want, Wanted};

@@ -14,7 +14,7 @@ use be_script::Script;
 
 /// The window whose looper a runner owns: of an application the one that it has locked. The place
 /// of its cell, where that isn't in hand.
-pub(crate) fn owned_window(
+pub fn owned_window(
     script: &Script,
     held: &Held<Part>,
     runner: Runner,

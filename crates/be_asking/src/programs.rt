@@ -13,7 +13,7 @@ use be_message::Target;
 use be_script::{BodyLine, DrawLine, Script};
 
 /// The program of an application that is there.
-pub(crate) fn app_steps(script: &Script, app: u16) -> &Program
+pub fn app_steps(script: &Script, app: u16) -> &Program
     requires { app < length (declared_by script.now).apps }
     ensures { result.now ≡ app_program (declared_by script.now) app }
 {
@@ -21,7 +21,7 @@ pub(crate) fn app_steps(script: &Script, app: u16) -> &Program
 }
 
 /// The instruction of a program at this step. None behind the last.
-pub(crate) fn step_at(program: &Program, step: u32) -> Option<&Instruction>
+pub fn step_at(program: &Program, step: u32) -> Option<&Instruction>
     ensures { option_map (λ step. step.now) result ≡ slice_get program.now step }
 {
     program.steps.get(step as usize)
@@ -68,7 +68,7 @@ fn body_of(script: &Script, window: u16, what: u32, route: Route) -> Option<&Pro
 }
 
 /// The instruction of that body at this step. None behind the last.
-pub(crate) fn body_step(
+pub fn body_step(
     script: &Script,
     window: u16,
     what: u32,
@@ -123,7 +123,7 @@ fn is_draw_in(line: &DrawLine, window: u16, view: u16) -> bool
 
 /// The instruction at this step of the Draw bodies of these views, one after the other. None behind
 /// the last.
-pub(crate) fn update_step<'a>(
+pub fn update_step<'a>(
     script: &'a Script,
     window: u16,
     views: &[(u16, Rect)],

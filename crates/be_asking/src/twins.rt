@@ -20,7 +20,7 @@ use be_update::{a_notice_is_owed_in_the_window, waiting_pixels_are_listed};
 /// command.
 pub(crate) fn wanted_by_twin<'a>(
     script: &'a Script,
-    held: &'a Held<Part>,
+    held: &Held<Part>,
     number: u32,
     window: u16,
 ) -> Wanted<'a>
@@ -47,7 +47,7 @@ pub(crate) fn wanted_by_twin<'a>(
 /// What the input wants: its next line.
 pub(crate) fn wanted_by_input<'a>(
     script: &'a Script,
-    held: &'a Held<Part>,
+    held: &Held<Part>,
     number: u32,
 ) -> Wanted<'a>
     requires number { machine.activity_of (declared_by script.now) number ≡ Some machine.input }
@@ -77,7 +77,7 @@ fn line_at(script: &Script, number: u64) -> Option<&InputLine>
 /// What the closing activity wants: to stop.
 pub(crate) fn wanted_by_closing<'a>(
     script: &Script,
-    held: &'a Held<Part>,
+    held: &Held<Part>,
     number: u32,
 ) -> Wanted<'a>
     requires number { machine.activity_of (declared_by script.now) number ≡ Some machine.closing }

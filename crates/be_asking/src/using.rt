@@ -1,12 +1,10 @@
 //! What the input does next.
-ghost use Rattle.std.specs.Prelude.{ℕ, IfOk, is_some};
+ghost use Rattle.std.specs.Prelude.{IfOk};
 ghost use Rattle.be_asking.specs.Deeds.{IsAnswer, IsAsked};
-ghost use Rattle.be_asking.specs.Stopping.{HasAll, Tells};
 ghost use Rattle.be_asking.specs.Using.{IsNextAfter, IsNextEvent};
 ghost use Rattle.be_asking.specs.declared.activity.Activity.TheVariants as who;
 ghost use Rattle.be_asking.specs.declared.want.Want.TheVariants as want;
 ghost use Rattle.be_hall.specs.Hands.{meant};
-ghost use Rattle.be_machine.specs.Input.{event_act};
 ghost use Rattle.be_parts.specs.Parts.{meaning_of};
 ghost use Rattle.be_script.specs.Script.{declared_by};
 
@@ -47,24 +45,6 @@ pub fn may_use<'a>(
         InputLine::Key(key) => Event::Key(key),
     };
     may_happen(alloc, script, held, number, &event)
-}
-
-/// Whether the input's next line may be used now, where all parts are in hand. It takes no memory.
-pub fn has_any_event(script: &Script, held: &Held<Part>, line: &InputLine) -> bool
-    requires asked { (a : ℕ) × IsAsked (declared_by script.now) held.now.parts a who.Input
-        (want.Uses line) }
-    requires all { HasAll (declared_by script.now) held.now.parts }
-    ensures { Tells (declared_by script.now) held.now.parts
-        (λ s. is_some (event_act (declared_by script.now) s line.now)) result }
-{
-    match *line {
-        InputLine::Press(_) | InputLine::Release(_) | InputLine::Move(_) | InputLine::Key(_) =>
-            true,
-        InputLine::After(app) => match has_ended(script, held, app) {
-            Ok(ended) => ended,
-            Err(_) => unreachable!(),
-        },
-    }
 }
 
 // A line that waits for the end of an application.

@@ -1,11 +1,13 @@
 -- Who has a looper, as the machine has it.
-use Rattle.std.specs.Prelude.{Option, Some, None}
+use Rattle.std.specs.Prelude.{◌≤◌, length, Option, Some, None}
 use Rattle.be_looper.specs.Loopers.{Handled, Looper}
 use Rattle.be_looper.specs.declared.Owner.{Owner}
 use Rattle.be_looper.specs.declared.Owner.TheVariants.{Free, Own, App}
 use Rattle.be_machine.specs.State as machine
 use Rattle.be_parts.specs.declared.looper.Handling.{Handling}
 use Rattle.be_parts.specs.Stages.{hand_of, stage_of}
+use Rattle.be_parts.specs.declared.stage.Stage.{Stage}
+use Rattle.be_parts.specs.declared.stage.Stage.TheVariants.{InBody, Beginning, InUpdate, Ending}
 
 -- with a message in hand it is its own
 abbrev pub holder_in : Owner → Option Handled → Option Handling → machine.Looper
@@ -31,5 +33,16 @@ AreOne (App m) (Some hand) handling = ⊥
 AreOne Own None handling = ⊥
 AreOne Own (Some hand) None = ⊥
 
+-- an update is of at most 32 views, as many as a window has
+abbrev pub HasFewViews : Stage → Type 0
+HasFewViews (InUpdate views place) = length views.items ≤ 32
+HasFewViews (InBody place) = Unit {0}
+HasFewViews Beginning = Unit {0}
+HasFewViews Ending = Unit {0}
+
+abbrev pub DrawsFew : Option Handling → Type 0
+DrawsFew (Some handling) = HasFewViews handling.stage
+DrawsFew None = Unit {0}
+
 abbrev pub IsHeldWell : Looper → Option Handling → Type 0
-IsHeldWell l handling = AreOne l.owner l.hand handling
+IsHeldWell l handling = AreOne l.owner l.hand handling × DrawsFew handling

@@ -1,4 +1,5 @@
-ghost use Rattle.std.specs.Prelude.{◌≡◌, ◌<◌, ◌-◌, ◌^◌, [], Some, true, false, is_some, map, option_copied, option_map, IfOk};
+ghost use Rattle.std.specs.Prelude.{◌≡◌, ◌<◌, ◌≤◌, ◌-◌, ◌^◌, [], Some, true, false, is_some, length, map};
+ghost use Rattle.std.specs.Prelude.{option_copied, option_map, IfOk, IfSome};
 ghost use Rattle.be_actor.specs.Wishes.{first_place};
 ghost use Rattle.be_link.specs.Queues.{empty_buffer, is_full, numbered, with_command, without_oldest};
 ghost use Rattle.be_looper.specs.Duties.{duty_after_forward, duty_after_reply};
@@ -8,6 +9,7 @@ ghost use Rattle.be_machine.specs.State.{ending, free, in_update, locked};
 ghost use Rattle.be_machine.specs.Update.{at_stage};
 ghost use Rattle.be_parts.specs.Effects.{buffer_with, looper_with};
 ghost use Rattle.be_parts.specs.Loopers.{at_place, begun_with, buffer_of, duty_in, hand_of, oldest_of, owner_of, stage_in};
+ghost use Rattle.be_parts.specs.Holding.{HasFewViews};
 ghost use Rattle.be_parts.specs.Stages.{stage_of};
 ghost use Rattle.be_rules.specs.Slices.{buffer_in, looper, looper_in};
 
@@ -114,7 +116,9 @@ impl LooperPart {
 
     /// How far it is with the message in hand.
     pub fn stage(&self) -> Option<&Stage>
-        ensures { option_map (λ stage. stage_of stage.now) result ≡ stage_in self.now.slice }
+        ensures stage { option_map (λ stage. stage_of stage.now) result
+            ≡ stage_in self.now.slice }
+        ensures few { IfSome result (λ stage. HasFewViews stage.now) }
     {
         match &self.handling {
             None => None,
@@ -229,6 +233,7 @@ impl LooperPart {
 
     /// Draws these views now, one after the other. Without a message nothing changes.
     pub fn draw(&mut self, views: Vec<(u16, Rect)>)
+        requires few { length views.items ≤ 32 }
         ensures slice { self.new.slice
             ≡ looper_with (at_stage (in_update (map (λ v. v.0) views.items) first_place))
             self.old.slice }

@@ -14,9 +14,9 @@ use Rattle.be_asking.proofs.bodies.looper_want.Goals as goal
 pub returns-in-InBody : goal.returns-in-InBody
 returns-in-InBody c =
     subst (λ n. IsTold (declared_by c.args.script.now) c.args.window (looper_in c.args.looper.now.slice) n c.step_want.result) (c.len-buffered.ensures.len ∙ ap (λ (o : Option Buffer). length (unwrap_or o empty_buffer).commands) (sym c.buffer.ensures))
-    (body_told (declared_by c.args.script.now) c.args.window c.len-buffered.result (looper_in c.args.looper.now.slice) c.in-InBody.place c.in-Some-Some-Some.message.now c.in-Some-Some-Some.route (option_map (λ step. step.now) c.body_step-step.result) c.step_want.result c.end_want.result (sym c.in-Some-Some-Some.ensures ∙ ap (λ s. Some (stage_of s)) c.in-InBody.is) (sym c.in-Some-Some-Some.ensures') (sym c.in-Some-Some-Some.ensures'') (c.body_step-step.ensures ∙ ap (λ k. slice_get (body_program (declared_by c.args.script.now) c.args.window k c.in-Some-Some-Some.route) c.in-InBody.place.step) c.what.ensures.what) c.step_want.ensures c.end_want.ensures)
+    (body_told (declared_by c.args.script.now) c.args.window c.len-buffered.result (looper_in c.args.looper.now.slice) c.in-InBody.place c.in-Some-Some-Some.message.now c.in-Some-Some-Some.route (option_map (λ step. step.now) c.body_step-step.result) c.step_want.result c.end_want.result (sym c.in-Some-Some-Some.ensures.stage ∙ ap (λ s. Some (stage_of s)) c.in-InBody.is) (sym c.in-Some-Some-Some.ensures') (sym c.in-Some-Some-Some.ensures'') (c.body_step-step.ensures ∙ ap (λ k. slice_get (body_program (declared_by c.args.script.now) c.args.window k c.in-Some-Some-Some.route) c.in-InBody.place.step) c.what.ensures.what) c.step_want.ensures c.end_want.ensures)
 
 pub returns-in-InUpdate : goal.returns-in-InUpdate
 returns-in-InUpdate c =
     subst (λ n. IsTold (declared_by c.args.script.now) c.args.window (looper_in c.args.looper.now.slice) n c.step_want-in-InUpdate.result) (c.len-buffered.ensures.len ∙ ap (λ (o : Option Buffer). length (unwrap_or o empty_buffer).commands) (sym c.buffer.ensures))
-    (update_told (declared_by c.args.script.now) c.args.window c.len-buffered.result (looper_in c.args.looper.now.slice) (map (λ v. v.0) c.in-InUpdate.views.items) c.in-InUpdate.place (option_map (λ step. step.now) c.update_step-step.result) c.step_want-in-InUpdate.result c.draw_end_want.result (sym c.in-Some-Some-Some.ensures ∙ ap (λ s. Some (stage_of s)) c.in-InUpdate.is) (c.update_step-step.ensures ∙ ap (λ (l : List (ℕ × Rect)). slice_get (update_program (declared_by c.args.script.now) c.args.window (map (λ v. v.0) l)) c.in-InUpdate.place.step) c.deref.ensures.value) c.step_want-in-InUpdate.ensures c.draw_end_want.ensures)
+    (update_told (declared_by c.args.script.now) c.args.window c.len-buffered.result (looper_in c.args.looper.now.slice) (map (λ v. v.0) c.in-InUpdate.views.items) c.in-InUpdate.place (option_map (λ step. step.now) c.update_step-step.result) c.step_want-in-InUpdate.result c.draw_end_want.result (sym c.in-Some-Some-Some.ensures.stage ∙ ap (λ s. Some (stage_of s)) c.in-InUpdate.is) (c.update_step-step.ensures ∙ ap (λ (l : List (ℕ × Rect)). slice_get (update_program (declared_by c.args.script.now) c.args.window (map (λ v. v.0) l)) c.in-InUpdate.place.step) c.deref.ensures.value) c.step_want-in-InUpdate.ensures c.draw_end_want.ensures)
