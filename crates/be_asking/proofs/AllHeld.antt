@@ -56,7 +56,7 @@ module _ (d : Declared) (a : ℕ) (who : Activity) (number : activity_of d a ≡
   touched_below t e p by (inr touched) = there_in (all_parts d) p touched.part touched.there
 
   pub tells : (held : List (ℕ × Slice)) → AreAllHeld d held → (answer : Answer) → IsAnswer d held a answer → TellsAct d held a (is_may answer)
-  tells held each (May deed) can all sound fits = sym (ap is_some (can all sound fits))
+  tells held each (May deed) can all sound fits = sym (ap is_some (can all sound fits).0)
   tells held each NotYet cannot all sound fits = sym (ap is_some (cannot all sound fits))
   tells held each (Needs p) needs all sound fits =
       let e : Entry = record { actor = a; act = Stop } in
