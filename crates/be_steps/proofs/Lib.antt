@@ -1,0 +1,12 @@
+pub mod Making
+pub mod Leaving
+pub mod Apart
+pub mod Short
+pub mod Moved
+pub mod LooperPast
+pub mod Owned
+pub mod Posted
+pub mod Gone
+pub mod Noted
+pub mod PostDone
+pub mod Idle
