@@ -1,5 +1,5 @@
 -- Different parts lie at different places.
-use Rattle.std.proofs.Common.{◌≡◌, ℕ, sym, ap, ◌∙◌}
+use Rattle.std.proofs.Common.{◌≡◌, sym, ap, ◌∙◌}
 use lib.ListN.{get_elem?}
 use Rattle.be_machine.specs.Touched.{Part}
 use Rattle.be_rules.proofs.ListLemmas.{same_elements}

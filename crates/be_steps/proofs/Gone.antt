@@ -1,5 +1,5 @@
 -- A runner's part that was changed, and is at another place of its program.
-use Rattle.std.proofs.Common.{◌≡◌, ℕ, Bool, List, [], ◌∷◌, Option, Some, inl, inr, refl, sym, ap, ◌∙◌, subst}
+use Rattle.std.proofs.Common.{◌≡◌, ℕ, List, [], ◌∷◌, Option, Some, inl, refl, sym, ap, ◌∙◌}
 use Rattle.be_actor.specs.declared.Place.{Place}
 use Rattle.be_asking.specs.Wants.{runner_in}
 use Rattle.be_asking.specs.declared.activity.Activity.TheVariants as who
@@ -7,21 +7,19 @@ use Rattle.be_asking.specs.declared.activity.Runner.{Runner}
 use Rattle.be_asking.specs.declared.activity.Runner.TheVariants.{App, Looper}
 use Rattle.be_asking.specs.declared.want.Request.{Request}
 use Rattle.be_asking.specs.declared.want.Want.TheVariants as want
-use Rattle.be_hall.specs.Hands.{Hand, part_at, with_part}
-use Rattle.be_machine.specs.Step.{granted, is_accepted_wish}
+use Rattle.be_hall.specs.Hands.{Hand, part_at}
 use Rattle.be_machine.specs.Touched.{own_part}
 use Rattle.be_parts.specs.Kept.{Kept, Logged}
-use Rattle.be_parts.specs.Parts.{hand_with, logged_of, meaning_of}
+use Rattle.be_parts.specs.Parts.{logged_of, meaning_of}
 use Rattle.be_parts.specs.declared.part.Part.{Part}
-use Rattle.be_rules.specs.Places.{IsPart, place_of}
+use Rattle.be_rules.specs.Places.{place_of}
 use Rattle.be_rules.specs.Slices.{Slice, input, slice_of}
 use Rattle.std.specs.Option.{option_map_or}
 use Rattle.std.specs.Prelude.{false}
 use Rattle.be_script.specs.Script.{Declared}
-use Rattle.be_steps.proofs.Making.{now, read, then_is, there}
-use Rattle.be_steps.proofs.Moved.{asks, grant, own_right}
-use Rattle.be_steps.specs.Going.{HasGoneFrom, HasOwn, IsPast, gone_to, own_kind}
-use Rattle.be_steps.specs.Made.{AreIn, AreMade}
+use Rattle.be_steps.proofs.Making.{now, read, there}
+use Rattle.be_steps.specs.Going.{HasGoneFrom, own_kind}
+use Rattle.be_steps.specs.Made.{AreMade}
 use Rattle.be_steps.specs.Steps.{IsAllowed}
 use Rattle.be_steps.specs.There.{IsThere}
 

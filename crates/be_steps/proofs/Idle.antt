@@ -1,35 +1,28 @@
 -- An application that sends waits for nothing.
-use Rattle.std.proofs.Common.{◌≡◌, ℕ, Bool, true, false, List, Option, Some, None, refl, sym, ap, ◌∙◌, subst}
+use Rattle.std.proofs.Common.{◌≡◌, ℕ, false, List, Option, Some, None, refl, sym, ap, ◌∙◌}
 use Rattle.std.specs.Borrow.{Bor}
 use Rattle.std.specs.Option.{option_map_or}
 use Rattle.std.specs.Prelude.{option_map, slice_get}
 use Rattle.be_actor.specs.Drafts.{DraftWords, filled}
-use Rattle.be_asking.specs.Wants.{activity_in, message_of, runner_in}
+use Rattle.be_asking.specs.Wants.{runner_in}
 use Rattle.be_asking.specs.declared.activity.Activity.TheVariants as who
 use Rattle.be_asking.specs.declared.activity.Runner.{Runner}
 use Rattle.be_asking.specs.declared.activity.Runner.TheVariants.{App, Looper}
 use Rattle.be_asking.specs.declared.want.Request.{Request}
 use Rattle.be_asking.specs.declared.want.Request.TheVariants as request
 use Rattle.be_asking.specs.declared.want.Want.TheVariants as want
-use Rattle.be_hall.specs.Hands.{part_at}
-use Rattle.be_machine.proofs.Lists.{there}
 use Rattle.be_machine.specs.KeptLimits.{CellsAreIdleAtSends}
-use Rattle.be_machine.specs.Looper.{cell_of}
-use Rattle.be_machine.specs.Activities as machine
 use Rattle.be_machine.specs.State.{App as Application, State}
 use Rattle.be_machine.specs.Touched.{own_part}
 use Rattle.be_message.specs.declared.target.Target.{Target}
 use Rattle.be_parts.specs.Cells.{is_waiting}
-use Rattle.be_parts.specs.Kept.{Kept}
 use Rattle.be_parts.specs.declared.part.Part.{Part}
 use Rattle.be_reply.specs.Cells as reply
-use Rattle.be_rules.specs.Places.{place_of}
-use Rattle.be_rules.specs.Slices.{Slice, cell, looper, slice_of}
+use Rattle.be_rules.specs.Slices.{cell, slice_of}
 use Rattle.be_script.specs.Script.{Declared}
 use Rattle.be_steps.proofs.Gone.{own_is}
 use Rattle.be_steps.proofs.Making.{now, so, wanted_now}
-use Rattle.be_steps.specs.Going.{own_kind}
-use Rattle.be_steps.specs.Idle.{IsIdle, IsIdleAtSend}
+use Rattle.be_steps.specs.Idle.{IsIdleAtSend}
 use Rattle.be_steps.specs.Steps.{IsAllowed}
 
 not_waiting : (m : ℕ) (o : Option Application) → option_map (λ (a : Application). a.cell) o ≡ Some reply.idle → is_waiting (cell m o) ≡ false

@@ -1,8 +1,5 @@
 -- What a part in hand means once a step is made.
-use Rattle.std.proofs.Common.{◌≡◌, ℕ, List, [], ◌∷◌, refl, sym, ap, ◌∙◌, subst}
-use Rattle.std.specs.Prelude.{Some}
-use mathlib.Core.Option.{some}
-use lib.ListN.{get_elem?}
+use Rattle.std.proofs.Common.{◌≡◌, ℕ, List, sym, ◌∙◌, subst}
 use Rattle.be_asking.specs.declared.activity.Activity.{Activity}
 use Rattle.be_asking.specs.declared.want.Want.{Want}
 use Rattle.be_hall.specs.Hands.{Hand, meant}

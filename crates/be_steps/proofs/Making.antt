@@ -1,5 +1,5 @@
 -- Parts in hand of which those that an entry touches were changed to what they are after it.
-use Rattle.std.proofs.Common.{◌≡◌, ◌≢◌, ℕ, ◌+◌, ◌<◌, Bool, true, false, List, [], ◌∷◌, map, Option, Some, None, ◌⊎◌, inl, inr, ⊎_elim, refl, sym, ap, ◌∙◌, subst, arith}
+use Rattle.std.proofs.Common.{◌≡◌, ℕ, ◌+◌, ◌<◌, Bool, true, false, List, [], ◌∷◌, map, Option, Some, ◌⊎◌, inl, inr, ⊎_elim, refl, sym, ap, ◌∙◌, subst, arith}
 use Rattle.std.specs.Prelude.{◌==◌, ◌&&◌, nat_lt, option_and_then, if◌then◌else◌}
 use Rattle.std.specs.Option.{option_map_or}
 use Rattle.std.proofs.lemmas.Bool.Decides.{nat_tests}
@@ -17,7 +17,7 @@ use Rattle.be_asking.specs.declared.want.Want.{Want}
 use Rattle.be_machine.proofs.Lists.{other_number, same_number}
 use Rattle.be_hall.proofs.Holding.{fits_at, meant_with, same_places, with_here, with_other}
 use Rattle.be_hall.specs.Hands.{Hand, meant, part_at, places_of, rises_from, with_part}
-use Rattle.be_hall.specs.Machine.{Fits, IsHeld, IsReady}
+use Rattle.be_hall.specs.Machine.{Fits, IsHeld}
 use Rattle.be_machine.specs.Activities.{activity_of}
 use Rattle.be_machine.specs.Activities as machine
 use Rattle.be_machine.proofs.Histories.{in_range}
@@ -36,11 +36,11 @@ use Rattle.be_parts.specs.Parts.{log_of, logged_of, meaning_of, spare_of}
 use Rattle.be_parts.specs.declared.part.Part.{Part}
 use Rattle.be_rules.proofs.Keepers.{own_of, kept_there, kept_touched}
 use Rattle.be_rules.proofs.Known.{leaves_at}
-use Rattle.be_rules.proofs.Lawfully.{back, state, world_lawful}
+use Rattle.be_rules.proofs.Lawfully.{back, world_lawful}
 use Rattle.be_rules.proofs.ListLemmas.{cons_not_nil, elem_map, first_same, rest_same}
 use Rattle.be_rules.proofs.Local.{at_place}
 use Rattle.be_rules.specs.Places.{IsPart, place_of}
-use Rattle.be_rules.specs.Rules.{IsSound, TouchesAt, TouchesPlace, kept_at, world_machine}
+use Rattle.be_rules.specs.Rules.{IsSound, TouchesAt, TouchesPlace, kept_at}
 use Rattle.be_rules.specs.Slices.{Slice, all_parts, slice_of, slices, state_of}
 use Rattle.be_rules.proofs.SureParts.{sure}
 use Rattle.be_rules.specs.Sure.{IsAmong, parts_by, seen_in}
@@ -51,7 +51,7 @@ use Rattle.be_steps.specs.There.{IsThere}
 
 -- ---- lists
 
-by_place_test : (Q : Bool → Type 0) (a b : ℕ) → (a ≡ b → Q true) → ((a ≡ b → ⊥) → Q false) → Q (a == b)
+pub by_place_test : (Q : Bool → Type 0) (a b : ℕ) → (a ≡ b → Q true) → ((a ≡ b → ⊥) → Q false) → Q (a == b)
 by_place_test Q a b same other = by (a == b) refl
   where
     by : (c : Bool) → (a == b) ≡ c → Q c
@@ -67,7 +67,7 @@ key_or : (d : Declared) (changes : List (part.Part × Part)) (p : ℕ) → IsKey
 key_or d [] p = inr (λ h. h)
 key_or d (made ∷ rest) p = dite (ℕ_discrete p (place_of d made.0)) (λ is. inl (inl is)) (λ other. ⊎_elim (λ later. inl (inr later)) (λ never. inr (λ h. ⊎_elim (λ is. other is) (λ later. never later) h)) (key_or d rest p))
 
-made_key : (d : Declared) (changes : List (part.Part × Part)) (x : part.Part) (p : ℕ) → p ≡ place_of d x → IsMade x changes → IsKey d changes p
+pub made_key : (d : Declared) (changes : List (part.Part × Part)) (x : part.Part) (p : ℕ) → p ≡ place_of d x → IsMade x changes → IsKey d changes p
 made_key d [] x p at h = h
 made_key d (made ∷ rest) x p at (inl is) = inl (at ∙ ap (place_of d) is)
 made_key d (made ∷ rest) x p at (inr later) = inr (made_key d rest x p at later)
@@ -242,9 +242,9 @@ module _ (d : Declared) (inhand : List (ℕ × Part)) (who : Activity) (want : W
   pub read : (x : part.Part) (y : Part) → IsPart d x → part_at inhand (place_of d x) ≡ Some y → slice_of now x ≡ meaning_of y
   read x y is_part at = slice_read d inhand all so fits_now y x is_part at
 
-  -- where the parts that the want touches were made what they are when it is met
-  pub done : (old new : Hand Part) (changes : List (part.Part × Part)) → old.parts ≡ inhand → new.room ≡ old.room → AreMade d changes inhand new.parts → AreIn d then_is changes → ((x : part.Part) → Touches now then_is meets x → IsMade x changes) → IsDone d who old new
-  done old new changes is room made right covers = record {
+  -- where the parts that were made are what they are when the want is met, and so are the others in hand
+  pub done_as : (old new : Hand Part) (changes : List (part.Part × Part)) → old.parts ≡ inhand → new.room ≡ old.room → AreMade d changes inhand new.parts → AreIn d then_is changes → Mixed d (slices d then_is) changes inhand → IsDone d who old new
+  done_as old new changes is room made right start = record {
     room = room;
     places = places ∙ ap places_of (sym is);
     after = λ e number other sound' fits'.
@@ -261,6 +261,13 @@ module _ (d : Declared) (inhand : List (ℕ × Part)) (who : Activity) (want : W
       map_map [] = refl
       map_map (x ∷ xs) = ap (λ l. x.0 ∷ l) (map_map xs)
 
+      fitted : Fits (slices d then_is) (meant meaning_of new.parts)
+      fitted = fits_each d (slices d then_is) 0 new.parts (ap (rises_from 0) places ∙ allowed.ascending) (λ p y at. ⊎_elim (λ good. good) (λ nobody. absurd nobody) (all_made d (slices d then_is) changes then_is inhand new.parts refl made right start p y at))
+
+  -- where the parts that the want touches were made what they are when it is met
+  pub done : (old new : Hand Part) (changes : List (part.Part × Part)) → old.parts ≡ inhand → new.room ≡ old.room → AreMade d changes inhand new.parts → AreIn d then_is changes → ((x : part.Part) → Touches now then_is meets x → IsMade x changes) → IsDone d who old new
+  done old new changes is room made right covers = done_as old new changes is room made right start
+    where
       in_state : (p : ℕ) → (IsKey d changes p → ⊥) → TouchesPlace d now mine p → ⊥
       in_state p never t =
           let same : t.want ≡ meets = same_Some t.want meets (sym t.wanted ∙ asked_now) in
@@ -283,6 +290,3 @@ module _ (d : Declared) (inhand : List (ℕ × Part)) (who : Activity) (want : W
           (λ key. inr key)
           (λ never. inl (ap (λ l. get_elem? l p) (sym leaves_mine) ∙ (world_lawful d).elsewhere all mine p so legal (untouched p never) ∙ fits_at meaning_of all p inhand y at fits_now))
           (key_or d changes p)
-
-      fitted : Fits (slices d then_is) (meant meaning_of new.parts)
-      fitted = fits_each d (slices d then_is) 0 new.parts (ap (rises_from 0) places ∙ allowed.ascending) (λ p y at. ⊎_elim (λ good. good) (λ nobody. absurd nobody) (all_made d (slices d then_is) changes then_is inhand new.parts refl made right start p y at))

@@ -1,19 +1,16 @@
 -- What a runner's part is once the runner is past what it was granted.
-use Rattle.std.proofs.Common.{◌≡◌, ℕ, Bool, true, false, List, Option, Some, None, refl, sym, ap, ◌∙◌, subst}
+use Rattle.std.proofs.Common.{◌≡◌, ℕ, Bool, true, false, List, Option, Some, None, refl, sym, ap, ◌∙◌}
 use Rattle.std.specs.Prelude.{option_map, slice_get}
 use Rattle.std.specs.Option.{option_map_or}
 use Rattle.std.proofs.lemmas.Option.{same_Some}
 use Rattle.be_actor.specs.declared.Place.{Place}
 use Rattle.be_actor.specs.declared.Wish.{Wish}
-use Rattle.be_asking.proofs.Asked.{s}
-use Rattle.be_asking.proofs.InHand.{slice_read}
 use Rattle.be_asking.specs.Wants.{message_of, activity_in, runner_in, wish_in}
 use Rattle.be_asking.specs.declared.activity.Activity.TheVariants as who
 use Rattle.be_asking.specs.declared.activity.Runner.{Runner}
 use Rattle.be_asking.specs.declared.activity.Runner.TheVariants.{App, Looper}
 use Rattle.be_asking.specs.declared.want.Request.{Request}
 use Rattle.be_asking.specs.declared.want.Want.TheVariants as want
-use Rattle.be_hall.specs.Hands.{part_at}
 use Rattle.std.specs.Borrow.{Bor}
 use Rattle.be_actor.specs.Wishes.{first_place, place_after}
 use Rattle.be_actor.specs.declared.Instruction.{Instruction}
@@ -27,23 +24,19 @@ use Rattle.be_machine.specs.Lists.{at}
 use Rattle.be_machine.specs.Program.{app_gone_on, app_program, gone_on, looper_gone_on, moved_on, stage_gone_on}
 use Rattle.be_machine.specs.State.{State, free, locked, handling, Stage, beginning}
 use Rattle.be_machine.specs.Step.{granted, is_accepted_wish, met}
-use Rattle.be_machine.specs.Touched as part
 use Rattle.be_machine.specs.Touched.{own_part}
 use Rattle.be_message.specs.Messages.{Message}
 use Rattle.be_parts.specs.Effects.{app_at, app_told, app_with, buffer_with, looper_with}
-use Rattle.be_parts.specs.Kept.{Kept}
 use Rattle.be_parts.specs.Loopers.{at_place, hand_of, stage_in}
-use Rattle.be_parts.specs.Parts.{meaning_of}
 use Rattle.be_parts.specs.Stages.{stage_at}
 use Rattle.be_parts.specs.declared.part.Part as parts
-use Rattle.be_rules.specs.Places.{IsPart, place_of}
 use Rattle.be_rules.specs.Slices.{Slice, app_in, looper_in, slice_of}
 use Rattle.be_rules.specs.Slices as sl
 use Rattle.be_script.specs.Script.{Declared}
 use Rattle.be_steps.proofs.Making.{now, then_is}
 use Rattle.be_looper.specs.Duties.{duty_after_forward}
 use Rattle.be_asking.specs.declared.want.Request.TheVariants as request
-use Rattle.be_steps.specs.Going.{IsPast, gone_past, gone_to, own_kind, settled_in}
+use Rattle.be_steps.specs.Going.{IsPast, gone_past, gone_to, settled_in}
 use Rattle.be_steps.specs.Steps.{IsAllowed}
 
 -- ---- lists

@@ -1,5 +1,5 @@
 -- A note that a runner makes.
-use Rattle.std.proofs.Common.{◌≡◌, ℕ, List, [], ◌∷◌, Option, Some, false, inl, inr, refl, sym, ap, ◌∙◌, ⊎_elim}
+use Rattle.std.proofs.Common.{◌≡◌, [], ◌∷◌, Option, Some, false, inl, inr, refl, sym, ap, ◌∙◌, ⊎_elim}
 use Rattle.std.specs.Borrow.{Bor}
 use Rattle.be_actor.specs.declared.Place.{Place}
 use Rattle.be_asking.specs.Wants.{activity_in, message_of, runner_in, wish_in}
@@ -19,7 +19,7 @@ use Rattle.be_rules.specs.Slices.{slice_of}
 use Rattle.be_script.specs.Script.{Declared}
 use Rattle.be_steps.proofs.Gone.{own_is, own_made, own_means, own_there}
 use Rattle.be_steps.proofs.Making.{done, now}
-use Rattle.be_steps.proofs.Moved.{asks, grant, own_right}
+use Rattle.be_steps.proofs.Moved.{grant, own_right}
 use Rattle.be_steps.specs.Going.{HasGone, IsPast, own_kind}
 use Rattle.be_steps.specs.Steps.{IsAllowed, IsDone}
 

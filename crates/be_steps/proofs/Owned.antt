@@ -1,6 +1,5 @@
 -- A runner's own part among those in hand.
-use Rattle.std.proofs.Common.{◌≡◌, ℕ, ◌+◌, false, List, Option, Some, None, refl, sym, ap, ◌∙◌, subst}
-use Rattle.std.specs.Prelude.{length}
+use Rattle.std.proofs.Common.{◌≡◌, ℕ, false, List, Option, Some, None, sym, ap, ◌∙◌, subst}
 use Rattle.be_actor.specs.declared.Place.{Place}
 use Rattle.be_asking.proofs.InHand.{not_held}
 use Rattle.be_asking.specs.Finding.{IsMissing}

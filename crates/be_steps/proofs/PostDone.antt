@@ -1,5 +1,5 @@
 -- A post as a step.
-use Rattle.std.proofs.Common.{◌≡◌, ℕ, ◌*◌, ◌<◌, ◌≤◌, length, arith, Bool, true, false, List, [], ◌∷◌, Option, Some, None, ◌⊎◌, inl, inr, ⊎_elim, refl, sym, ap, ◌∙◌, subst}
+use Rattle.std.proofs.Common.{◌≡◌, ℕ, ◌*◌, ◌<◌, ◌≤◌, length, arith, Bool, false, List, [], ◌∷◌, Option, Some, inl, inr, ⊎_elim, refl, sym, ap, ◌∙◌, subst}
 use Rattle.std.specs.Prelude.{Result, Ok, Err, is_ok, option_map, slice_get}
 use Rattle.std.specs.Option.{option_map_or}
 use Rattle.std.proofs.lemmas.Option.{same_Some}
@@ -18,7 +18,6 @@ use Rattle.be_hall.proofs.Holding.{with_other}
 use Rattle.be_hall.specs.Hands.{Hand, part_at, with_part}
 use Rattle.be_machine.proofs.Lists as lists
 use Rattle.be_machine.specs.Activities as machine
-use Rattle.be_machine.specs.Port.{is_accepted_at}
 use Rattle.be_machine.specs.Program.{hop_of, moved_on}
 use Rattle.be_machine.specs.State.{State}
 use Rattle.be_machine.specs.Step.{granted, is_accepted_wish, met}
@@ -26,7 +25,7 @@ use Rattle.be_machine.specs.Touched.{TouchesBy, own_part}
 use Rattle.be_machine.specs.Touched as part
 use Rattle.be_message.specs.Messages.{Message}
 use Rattle.be_parts.specs.Kept.{Kept}
-use Rattle.be_parts.specs.Parts.{hand_with, meaning_of}
+use Rattle.be_parts.specs.Parts.{hand_with}
 use Rattle.be_parts.specs.Ports.{HasPosted, IsAnswered, letters_of}
 use Rattle.be_parts.specs.declared.part.Part.{Part}
 use Rattle.be_parts.specs.declared.part.Part.TheVariants as kinds
@@ -36,15 +35,15 @@ use Rattle.be_port.specs.declared.fault.PostFault.{PostFault}
 use Rattle.be_port.specs.declared.fault.PostFault.TheVariants as post
 use Rattle.be_port.specs.declared.letter.Letter as held
 use Rattle.be_rules.proofs.Lawfully.{back}
-use Rattle.be_rules.specs.Places.{IsPart, place_of}
+use Rattle.be_rules.specs.Places.{place_of}
 use Rattle.be_rules.specs.Slices.{Slice, port, slice_of}
-use Rattle.be_rules.specs.Sure.{IsAmong, parts_by, seen_in}
+use Rattle.be_rules.specs.Sure.{IsAmong, seen_in}
 use Rattle.be_script.specs.Script.{Declared}
 use Rattle.be_steps.proofs.Apart.{apart}
 use Rattle.be_steps.proofs.Gone.{own_is, own_made, own_means, own_there}
 use Rattle.be_steps.proofs.Leaving.{left_is}
-use Rattle.be_steps.proofs.Making.{all, done, fits_now, meets, now, read, settled_now, so, then_is, there}
-use Rattle.be_steps.proofs.Moved.{asks, grant, own_right, settled_past}
+use Rattle.be_steps.proofs.Making.{all, done, fits_now, now, read, settled_now, so, then_is, there}
+use Rattle.be_steps.proofs.Moved.{asks, own_right, settled_past}
 use Rattle.be_steps.proofs.Posted.{accepts, granted_own, granted_port, same_judged, same_posted, wished_is}
 use Rattle.be_asking.proofs.Small.{small}
 use Rattle.be_rules.specs.Rules.{SliceFits}

@@ -1,10 +1,9 @@
 -- A letter that a runner posts.
-use Rattle.std.proofs.Common.{◌≡◌, ℕ, ◌+◌, ◌≤◌, Bool, true, false, List, [], ◌∷◌, Option, Some, None, ◌⊎◌, inl, inr, refl, sym, ap, ◌∙◌, subst, arith}
+use Rattle.std.proofs.Common.{◌≡◌, ℕ, ◌≤◌, Bool, true, false, List, Option, Some, None, inl, inr, refl, sym, ap, ◌∙◌, arith}
 use Rattle.std.specs.Prelude.{nat_le, option_map, slice_get, if◌then◌else◌}
 use Rattle.std.specs.Option.{option_map_or}
 use Rattle.std.proofs.lemmas.Bool.Decides.{nat_tests}
 use Rattle.std.proofs.lemmas.Option.{same_Some}
-use Rattle.be_actor.specs.declared.Wish.{Wish}
 use Rattle.be_asking.specs.Acts.{IsSameHop, post_window}
 use Rattle.be_asking.specs.Wants.{runner_in, wish_in}
 use Rattle.be_asking.specs.declared.activity.Runner.{Runner}
@@ -17,7 +16,7 @@ use Rattle.be_machine.specs.Activities as machine
 use Rattle.be_machine.specs.Activities.{sender_of}
 use Rattle.be_machine.specs.Looper.{sent_duty, with_waiting}
 use Rattle.be_machine.specs.Port.{is_accepted_at, letter, with_post}
-use Rattle.be_machine.specs.Program.{hand_of, hop_of, moved_on}
+use Rattle.be_machine.specs.Program.{hand_of, hop_of}
 use Rattle.be_machine.specs.State.{State}
 use Rattle.be_machine.specs.Step.{granted, is_accepted_wish}
 use Rattle.be_machine.specs.Looper.{with_duty, forwarded_hand}
@@ -26,7 +25,7 @@ use Rattle.be_message.specs.declared.target.Target.{Target}
 use Rattle.be_port.specs.declared.Duty.{Duty}
 use Rattle.be_port.specs.declared.Duty.TheVariants.{Free}
 use Rattle.be_port.specs.declared.Posted.TheVariants as posts
-use Rattle.be_port.specs.Ports.{Letter, Port, is_accepted, judged, posted, with_letter}
+use Rattle.be_port.specs.Ports.{Letter, Port, is_accepted, judged, posted}
 use Rattle.be_steps.proofs.Moved.{at_map}
 use Rattle.be_steps.specs.Going.{handed_on_in, settled_in, waiting_in}
 use Rattle.be_steps.specs.Letters.{wished_letter}

@@ -4,3 +4,11 @@ pub mod There
 pub mod Going
 pub mod Idle
 pub mod Letters
+pub mod Taking
+pub mod Waiters
+pub mod Ending
+pub mod Commands
+pub mod Using
+pub mod Notices
+pub mod Executing
+pub mod Surveyed

@@ -5,11 +5,34 @@
 //! state has them.
 #![tactic(auto)]
 
+mod commands;
+mod drawing;
+mod ending;
+mod executing;
 mod going;
+mod input;
 mod left;
+mod locking;
 mod noting;
+mod own_window;
 mod posting;
+mod replying;
+mod shown;
+mod stopping;
+mod taking;
 mod there;
+mod updating;
+mod waiters;
 
+pub use commands::{flush, flush_asked, sync};
+pub use drawing::{draw, put_end};
+pub use ending::end;
+pub use executing::execute;
+pub use input::use_up;
+pub use locking::{claim, lock, unlock};
 pub use noting::note;
 pub use posting::post;
+pub use replying::reply;
+pub use stopping::stop;
+pub use taking::take;
+pub use updating::{begin, notify};

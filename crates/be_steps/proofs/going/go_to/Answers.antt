@@ -1,5 +1,5 @@
 use Rattle.be_script.specs.Script.{declared_by}
-use Rattle.be_steps.proofs.Owned.{gone_cell, gone_looper, own_cell, own_looper}
+use Rattle.be_steps.proofs.Owned.{gone_cell, gone_looper, own_cell}
 use Rattle.be_steps.proofs.going.go_to.Goals as goal
 
 pub cell_to_change-requires : goal.cell_to_change-requires

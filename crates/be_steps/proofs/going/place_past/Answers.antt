@@ -2,7 +2,7 @@ use Rattle.std.specs.Prelude.{Option}
 use Rattle.be_asking.specs.Wants.{wish_in}
 use Rattle.be_message.specs.Messages.{Message}
 use Rattle.be_script.specs.Script.{declared_by}
-use Rattle.be_steps.proofs.Owned.{as_cell, as_looper, own_cell, own_looper}
+use Rattle.be_steps.proofs.Owned.{as_cell, as_looper, own_cell}
 use Rattle.be_steps.specs.Going.{IsPast}
 use Rattle.be_steps.proofs.going.place_past.Goals as goal
 

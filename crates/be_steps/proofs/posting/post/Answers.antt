@@ -1,5 +1,4 @@
-use Rattle.std.proofs.Common.{◌≡◌, sym, ap, subst}
-use Rattle.be_asking.specs.declared.activity.Activity.TheVariants as who
+use Rattle.std.proofs.Common.{sym, subst}
 use Rattle.be_hall.specs.Hands.{Hand, meant}
 use Rattle.be_hall.specs.Machine.{IsHeld}
 use Rattle.be_machine.specs.Touched as part
