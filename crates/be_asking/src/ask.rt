@@ -21,12 +21,7 @@ use be_script::Script;
 ///
 /// It looks at one instruction. An application that draws looks back through its program for its
 /// lock, and a looper looks for its body among the script's.
-pub fn wanted<'a>(
-    script: &'a Script,
-    held: &Held<Part>,
-    number: u32,
-    who: Activity,
-) -> Wanted<'a>
+pub fn wanted<'a>(script: &'a Script, held: &Held<Part>, number: u32, who: Activity) -> Wanted<'a>
     requires limits { IsWithinLimits (declared_by script.now) }
     requires number { machine.activity_of (declared_by script.now) number ≡ Some (activity_in who) }
     requires fitting { SomeFits (world_machine (declared_by script.now))

@@ -39,11 +39,7 @@ pub fn find_input<'a>(script: &Script, held: &'a Held<Part>) -> Result<&'a Input
 }
 
 /// An application's part. Its place where it isn't in hand.
-pub fn find_cell<'a>(
-    script: &Script,
-    held: &'a Held<Part>,
-    m: u16,
-) -> Result<&'a CellPart, u32>
+pub fn find_cell<'a>(script: &Script, held: &'a Held<Part>, m: u16) -> Result<&'a CellPart, u32>
     requires { IsReachable (declared_by script.now) held.now.parts (part.cell m) }
     ensures there { IfOk result (λ p. part_at held.now.parts
         (place_of (declared_by script.now) (part.cell m)) ≡ Some (Part.Cell p.now)) }
@@ -55,11 +51,7 @@ pub fn find_cell<'a>(
 }
 
 /// The looper of a window. Its place where it isn't in hand.
-pub fn find_looper<'a>(
-    script: &Script,
-    held: &'a Held<Part>,
-    w: u16,
-) -> Result<&'a LooperPart, u32>
+pub fn find_looper<'a>(script: &Script, held: &'a Held<Part>, w: u16) -> Result<&'a LooperPart, u32>
     requires { IsReachable (declared_by script.now) held.now.parts (part.looper w) }
     ensures there { IfOk result (λ p. part_at held.now.parts
         (place_of (declared_by script.now) (part.looper w)) ≡ Some (Part.Looper p.now)) }
@@ -71,11 +63,7 @@ pub fn find_looper<'a>(
 }
 
 /// The port of a window. Its place where it isn't in hand.
-pub fn find_port<'a>(
-    script: &Script,
-    held: &'a Held<Part>,
-    w: u16,
-) -> Result<&'a PortPart, u32>
+pub fn find_port<'a>(script: &Script, held: &'a Held<Part>, w: u16) -> Result<&'a PortPart, u32>
     requires { IsReachable (declared_by script.now) held.now.parts (part.port w) }
     ensures there { IfOk result (λ p. part_at held.now.parts
         (place_of (declared_by script.now) (part.port w)) ≡ Some (Part.Port p.now)) }
@@ -87,11 +75,7 @@ pub fn find_port<'a>(
 }
 
 /// The link of a window. Its place where it isn't in hand.
-pub fn find_link<'a>(
-    script: &Script,
-    held: &'a Held<Part>,
-    w: u16,
-) -> Result<&'a LinkPart, u32>
+pub fn find_link<'a>(script: &Script, held: &'a Held<Part>, w: u16) -> Result<&'a LinkPart, u32>
     requires { IsReachable (declared_by script.now) held.now.parts (part.link w) }
     ensures there { IfOk result (λ p. part_at held.now.parts
         (place_of (declared_by script.now) (part.link w)) ≡ Some (Part.Link p.now)) }
@@ -103,11 +87,7 @@ pub fn find_link<'a>(
 }
 
 /// The pane of a window. Its place where it isn't in hand.
-pub fn find_pane<'a>(
-    script: &Script,
-    held: &'a Held<Part>,
-    w: u16,
-) -> Result<&'a PanePart, u32>
+pub fn find_pane<'a>(script: &Script, held: &'a Held<Part>, w: u16) -> Result<&'a PanePart, u32>
     requires { IsReachable (declared_by script.now) held.now.parts (part.pane w) }
     ensures there { IfOk result (λ p. part_at held.now.parts
         (place_of (declared_by script.now) (part.pane w)) ≡ Some (Part.Pane p.now)) }

@@ -51,9 +51,7 @@ pub use commands::{may_end_drawing, may_flush};
 pub use deed::{Answer, Deed};
 pub use ending::may_end;
 pub use executing::{Execution, may_execute};
-pub use finding::{
-    find_cell, find_desk, find_input, find_link, find_looper, find_pane, find_port,
-};
+pub use finding::{find_cell, find_desk, find_input, find_link, find_looper, find_pane, find_port};
 pub use having::has_any;
 pub use letters::may_take;
 pub use owned::owned_window;

@@ -14,11 +14,7 @@ use be_script::Script;
 
 /// The window whose looper a runner owns: of an application the one that it has locked. The place
 /// of its cell, where that isn't in hand.
-pub fn owned_window(
-    script: &Script,
-    held: &Held<Part>,
-    runner: Runner,
-) -> Result<Option<u16>, u32>
+pub fn owned_window(script: &Script, held: &Held<Part>, runner: Runner) -> Result<Option<u16>, u32>
     requires { IsReachable (declared_by script.now) held.now.parts (own_part (runner_in runner)) }
     ensures owns { IfOk result (OwnsWindow (declared_by script.now) held.now.parts runner) }
     ensures missing { IfErr result (IsMissing (declared_by script.now) held.now.parts

@@ -45,11 +45,7 @@ pub(crate) fn wanted_by_twin<'a>(
 }
 
 /// What the input wants: its next line.
-pub(crate) fn wanted_by_input<'a>(
-    script: &'a Script,
-    held: &Held<Part>,
-    number: u32,
-) -> Wanted<'a>
+pub(crate) fn wanted_by_input<'a>(script: &'a Script, held: &Held<Part>, number: u32) -> Wanted<'a>
     requires number { machine.activity_of (declared_by script.now) number ≡ Some machine.input }
     requires fitting { SomeFits (world_machine (declared_by script.now))
         (meant meaning_of held.now.parts) }
@@ -75,11 +71,7 @@ fn line_at(script: &Script, number: u64) -> Option<&InputLine>
 }
 
 /// What the closing activity wants: to stop.
-pub(crate) fn wanted_by_closing<'a>(
-    script: &Script,
-    held: &Held<Part>,
-    number: u32,
-) -> Wanted<'a>
+pub(crate) fn wanted_by_closing<'a>(script: &Script, held: &Held<Part>, number: u32) -> Wanted<'a>
     requires number { machine.activity_of (declared_by script.now) number ≡ Some machine.closing }
     requires fitting { SomeFits (world_machine (declared_by script.now))
         (meant meaning_of held.now.parts) }
