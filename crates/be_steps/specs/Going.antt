@@ -31,9 +31,11 @@ own_kind (Looper w) = kinds.Looper
 -- it is in hand
 abbrev pub HasOwn : Declared → List (ℕ × Part) → Runner → Type 0
 HasOwn d parts runner =
-    (k : Kept) × (part_at parts (place_of d (own_part (runner_in runner))) ≡ Some (own_kind runner k))
+    (k : Kept)
+    × (part_at parts (place_of d (own_part (runner_in runner))) ≡ Some (own_kind runner k))
 
--- the runner is at this place of its program
+-- the runner is at this place of its program, which the code computes before the part is lent to be
+-- changed
 abbrev pub gone_to : Runner → Place → Slice → Slice
 gone_to (App m) place = app_at place
 gone_to (Looper w) place = looper_with (at_place place)
@@ -48,7 +50,8 @@ abbrev pub IsPast : Declared → Runner → Slice → Bool → Wish → Place �
 IsPast d runner slice accepted wish place =
     gone_to runner place slice ≡ gone_past d runner accepted wish slice
 
--- The runner's part was changed so, and then is at this place of its program. All else is as it was.
+-- The runner's part was changed so, and then is at this place of its program. All else is as it
+-- was.
 abbrev pub HasGoneFrom :
     Declared → Runner → (Slice → Slice) → Place → Hand Part → Hand Part → Type 0
 HasGoneFrom d runner f place old new =
@@ -70,7 +73,8 @@ abbrev pub handed_on_in : Runner → Slice → Slice
 handed_on_in (App m) = λ slice. slice
 handed_on_in (Looper w) = looper_with (with_duty_by duty_after_forward)
 
--- what a post makes of its runner's part before that goes on, where the port took the letter or didn't
+-- what a post makes of its runner's part before that goes on, where the port took the letter or
+-- didn't
 abbrev pub settled_in : Request → Bool → Runner → Slice → Slice
 settled_in (request.Send w target draft) true runner = waiting_in runner
 settled_in (request.Send w target draft) false runner = λ slice. slice

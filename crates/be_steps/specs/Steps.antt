@@ -28,7 +28,8 @@ pub record IsAllowed
   pub ascending : rises_from 0 (places_of parts) ≡ true
 
 -- Whatever the other parts are, an entry of the activity leaves the parts in hand with the new
--- meanings. Logs and places stay.
+-- meanings. That is said of each entry of the activity, whatever its act, since a step goes by who
+-- makes it: the act is what the history keeps of it. Room, places, logs and their spare room stay.
 pub record IsDone (d : Declared) (who : Activity) (old new : Hand Part) : Type 0 where
   pub room : new.room ≡ old.room
   pub places : places_of new.parts ≡ places_of old.parts

@@ -39,7 +39,8 @@ pub(crate) fn place_past(
         → part_at held.now.parts (place_of (declared_by script.now) (own_part (runner_in runner)))
         ≡ Some (own_kind runner k)
         → (now : Option messages.Message)
-        → IsPast (declared_by script.now) runner k.slice accepted (wish_in now request.entry) result }
+        → IsPast (declared_by script.now) runner k.slice accepted (wish_in now request.entry)
+        result }
 {
     match runner {
         Runner::App(m) => {
@@ -57,8 +58,8 @@ fn app_past(script: &Script, cell: &CellPart, m: u16, request: Request, accepted
     requires limits { IsWithinLimits (declared_by script.now) }
     requires there { m < length (declared_by script.now).apps }
     ensures { (now : Option messages.Message)
-        → IsPast (declared_by script.now) (by.App m) cell.now.slice accepted (wish_in now request.entry)
-        result }
+        → IsPast (declared_by script.now) (by.App m) cell.now.slice accepted
+        (wish_in now request.entry) result }
 {
     let place = cell.place();
     step_past(
@@ -107,8 +108,8 @@ fn looper_past(
 fn step_past(step: Option<&Instruction>, place: Place, request: Request, accepted: bool) -> Place
     requires { IfSome step (λ _. place.step < 2 ^ 32 - 1) }
     ensures { (now : Option messages.Message)
-        → result ≡ option_map_or (λ at. place_after at.now place accepted (wish_in now request.entry))
-        step.entry place }
+        → result ≡ option_map_or
+        (λ at. place_after at.now place accepted (wish_in now request.entry)) step.entry place }
 {
     match step {
         Some(at) => instruction_past(at, place, request, accepted),

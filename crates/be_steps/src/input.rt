@@ -16,7 +16,7 @@ use be_parts::{Part, input_to_change};
 use be_script::Script;
 
 /// The input's part is stored as one.
-pub(crate) fn input_is_there(script: &Script, held: &Held<Part>)
+pub fn input_is_there(script: &Script, held: &Held<Part>)
     requires { IsThere (declared_by script.now) held.now.parts part.input }
     ensures { (k : Kept) × (part_at held.now.parts (place_of (declared_by script.now) part.input)
         ≡ Some (Part.Input k)) }

@@ -28,7 +28,7 @@ pub(crate) struct About {
 
 /// What the part at this place means after the activity's step, by the parts in hand before it. It
 /// costs nothing.
-pub(crate) fn left_at(
+pub fn left_at(
     script: &Script,
     before: &Snapshot<Held<Part>>,
     who: Activity,

@@ -23,8 +23,8 @@ use be_script::Script;
 use std::snapshot::Snapshot;
 
 /// A letter is posted to window `w`, a message that is sent or forwarded among them, and the runner
-/// goes on. Who sent what the port accepts waits for the reply, and what is forwarded takes its duty
-/// along.
+/// goes on. Who sent what the port accepts waits for the reply, and what is forwarded takes its
+/// duty along.
 pub fn post(
     script: &Script,
     held: &mut Held<Part>,

@@ -44,7 +44,8 @@ pub(crate) fn looper_is_there(script: &Script, held: &Held<Part>, w: u16)
 /// A port's part is stored as one.
 pub(crate) fn port_is_there(script: &Script, held: &Held<Part>, w: u16)
     requires { IsThere (declared_by script.now) held.now.parts (part.port w) }
-    ensures { (k : Slice) × (part_at held.now.parts (place_of (declared_by script.now) (part.port w))
+    ensures { (k : Slice)
+        × (part_at held.now.parts (place_of (declared_by script.now) (part.port w))
         ≡ Some (Part.Port k)) }
 {
     match find_port(script, held, w) {
@@ -56,7 +57,8 @@ pub(crate) fn port_is_there(script: &Script, held: &Held<Part>, w: u16)
 /// A link's part is stored as one.
 pub(crate) fn link_is_there(script: &Script, held: &Held<Part>, w: u16)
     requires { IsThere (declared_by script.now) held.now.parts (part.link w) }
-    ensures { (k : Slice) × (part_at held.now.parts (place_of (declared_by script.now) (part.link w))
+    ensures { (k : Slice)
+        × (part_at held.now.parts (place_of (declared_by script.now) (part.link w))
         ≡ Some (Part.Link k)) }
 {
     match find_link(script, held, w) {
