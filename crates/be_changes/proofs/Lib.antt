@@ -1,0 +1,14 @@
+pub mod MadeLists
+pub mod PartLists
+pub mod PanesChanged
+pub mod PlanTold
+pub mod ChangeTold
+pub mod PlannedPanes
+pub mod ChangeDone
+pub mod RefuseDone
+pub mod Remembered
+pub mod PortClosed
+pub mod PostTold
+pub mod ActivateDone
+pub mod PortsPosted
+pub mod DeliverDone
