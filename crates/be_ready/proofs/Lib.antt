@@ -1,0 +1,11 @@
+pub mod ChangeReady
+pub mod Closed
+pub mod EventReady
+pub mod Fronts
+pub mod Grown
+pub mod LentPanes
+pub mod Needed
+pub mod PlanReady
+pub mod DraftsThere
+pub mod Made
+pub mod Posted

@@ -1,0 +1,8 @@
+use Rattle.std.proofs.Common.{◌≡◌}
+use Rattle.be_script.specs.Routable.{handlers_before}
+use Rattle.be_script.specs.Script.{declared_by}
+use Rattle.be_script.specs.Windows.{chain_of}
+use Rattle.be_ready.proofs.chains.add_plains.Given as goal
+
+abbrev pub invariant-loop-line : goal.invariant-loop-line
+invariant-loop-line l = l.chain ≡ chain_of (handlers_before (declared_by l.script) l.line-index) l.w

@@ -1,0 +1,5 @@
+pub mod Happening
+pub mod Lent
+pub mod Plannable
+pub mod Planning
+pub mod Letters
