@@ -5,6 +5,8 @@
 
 mod running;
 mod shown;
+#[cfg(test)]
+mod tests;
 
 use be_reader::ScriptFault;
 use running::{Fault, history_of};
