@@ -17,7 +17,8 @@ use Rattle.be_script.specs.Script.{Declared}
 -- the desk in hand is one for which the change was planned
 abbrev pub HasPlanFor : Declared → List (ℕ × Part) → Planned → Type 0
 HasPlanFor d now plan =
-    (was : Slice) × (part_at now (place_of d part.desk) ≡ Some (kinds.Desk was)) × IsPlanFor plan was
+    (was : Slice) × (part_at now (place_of d part.desk) ≡ Some (kinds.Desk was))
+    × IsPlanFor plan was
 
 -- the panes and the desk are ready, where a window is activated
 abbrev pub IsToActivate :

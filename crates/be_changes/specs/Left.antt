@@ -10,8 +10,8 @@ use Rattle.be_script.specs.Script.{Declared}
 use Rattle.be_steps.specs.Made.{AreMade, IsMade}
 use Rattle.be_steps.specs.Steps.{LeavesAt}
 
--- each means what the step leaves at its place, where it began with these parts in hand, but for those
--- that are made once more
+-- each means what the step leaves at its place, where it began with these parts in hand, but for
+-- those that are made once more
 abbrev pub AreLeft : Declared → List (ℕ × Part) → Activity → List (part.Part × Part) → Type 0
 AreLeft d parts who [] = Unit {0}
 AreLeft d parts who (made ∷ rest) =

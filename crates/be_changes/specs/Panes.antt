@@ -44,7 +44,8 @@ abbrev pub AreToChange :
 AreToChange d parts now who plan windows from =
     (k u : ℕ) → from ≤ k → slice_get windows k ≡ Some u → IsToChange d parts now who plan k u
 
--- the panes at these places are those of some windows, each of which stands once and is to be changed
+-- the panes at these places are those of some windows, each of which stands once and is to be
+-- changed
 abbrev pub PanesAreToChange :
     Declared → List (ℕ × Part) → List (ℕ × Part) → Activity → Planned → List ℕ → Type 0
 PanesAreToChange d parts now who plan places =

@@ -20,8 +20,8 @@ abbrev pub MeansPort : List (ℕ × Part) → ℕ → Type 0
 MeansPort parts place =
     (y : Part) × (part_at parts place ≡ Some y) × (kind_of (meaning_of y) ≡ of_port)
 
--- The part is a port in hand, and what the step leaves there is the port closed. The parts are those
--- with which the step began.
+-- The part is a port in hand, and what the step leaves there is the port closed. The parts are
+-- those with which the step began.
 pub record IsToClose
     (d : Declared) (parts now : List (ℕ × Part)) (who : Activity) (x : part.Part)
     : Type 0 where

@@ -17,8 +17,8 @@ use be_script::Script;
 use std::snapshot::Snapshot;
 
 /// The twin of window `w` executes the oldest command, a change of the window that was planned with
-/// the panes at these places: it leaves the link, the panes and then the desk are changed. Where the
-/// window is closed, its port is closed too.
+/// the panes at these places: it leaves the link, the panes and then the desk are changed. Where
+/// the window is closed, its port is closed too.
 pub fn change(script: &Script, held: &mut Held<Part>, w: u16, mut plan: Plan, places: &[u32])
     requires allowed { IsAllowed (declared_by script.now) held.old.parts (who.Twin w)
         (want.Executes w) }
@@ -39,8 +39,8 @@ pub fn change(script: &Script, held: &mut Held<Part>, w: u16, mut plan: Plan, pl
     desk_to_change(held, desk_place()).change(plan);
 }
 
-/// The twin of window `w` executes the oldest command, a change of the window that the desk refuses:
-/// it leaves the link, and nothing else happens.
+/// The twin of window `w` executes the oldest command, a change of the window that the desk
+/// refuses: it leaves the link, and nothing else happens.
 pub fn refuse(script: &Script, held: &mut Held<Part>, w: u16)
     requires allowed { IsAllowed (declared_by script.now) held.old.parts (who.Twin w)
         (want.Executes w) }

@@ -1,8 +1,8 @@
 //! What a change of a window, and an event of the input, make of the parts in hand.
 //!
-//! A change was planned before, with the panes of the windows that it alters. It is carried out pane
-//! by pane, each in its part, and on the desk last. It takes no memory: the pixels that a pane had go
-//! with the plan.
+//! A change was planned before, with the panes of the windows that it alters. It is carried out
+//! pane by pane, each in its part, and on the desk last. It takes no memory: the pixels that a pane
+//! had go with the plan.
 #![tactic(auto)]
 
 mod changing;
