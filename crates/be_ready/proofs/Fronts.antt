@@ -1,7 +1,8 @@
 -- The letter in front of a port, and the machine's.
-use Rattle.std.proofs.Common.{◌≡◌, ℕ, ◌+◌, List, Option, Some, None, inl, inr, refl, sym, ap, ◌∙◌, subst}
+use Rattle.std.proofs.Common.{◌≡◌, ℕ, ◌+◌, ◌<◌, List, length, Option, Some, None, get_or, inl, inr, refl, sym, ap, ◌∙◌, subst, arith}
 use Rattle.std.specs.Borrow.{Bor}
-use Rattle.std.specs.Prelude.{IsSome, option_copied, option_map, option_and_then, slice_get, if◌then◌else◌}
+use Rattle.std.specs.Prelude.{IsSome, option_copied, option_map, option_and_then, slice_get, slice_index_or, if◌then◌else◌}
+use Rattle.std.proofs.lemmas.List.FromFn.{get_or-map-range_with_len, length-map-range_with_len}
 use Rattle.std.proofs.lemmas.Option.{same_Some}
 use Rattle.be_asking.proofs.InHand.{port_read}
 use Rattle.be_asking.specs.declared.activity.Activity.TheVariants as who
@@ -10,7 +11,7 @@ use Rattle.be_asking.specs.declared.want.Want.TheVariants as want
 use Rattle.be_flat.specs.Grammar.{Spells}
 use Rattle.be_hall.specs.Hands.{meant, part_at}
 use Rattle.be_hall.specs.Machine.{Fits}
-use Rattle.be_handler.specs.Routes.{route_of}
+use Rattle.be_handler.specs.Routes.{Chain, route_of}
 use Rattle.be_handler.specs.declared.Route.{Route}
 use Rattle.be_handler.specs.declared.Route.TheVariants.{Handler}
 use Rattle.be_machine.specs.declared.Act.{Act}
@@ -31,6 +32,7 @@ use Rattle.be_port.specs.Ports.{Letter, Port, front}
 use Rattle.be_port.specs.Queues.{Queue}
 use Rattle.be_port.specs.StandsFor.{LetterStandsFor, PortStandsFor}
 use Rattle.be_port.specs.declared.letter.Letter as held
+use Rattle.be_ready.specs.Chains.{chains_of}
 use Rattle.be_rules.proofs.Lawfully.{back, state}
 use Rattle.be_rules.specs.Places.{place_of}
 use Rattle.be_rules.specs.Rules.{IsSound}
@@ -73,6 +75,16 @@ port_of (looper w l b) q stands = absurd stands
 port_of (link w l) q stands = absurd stands
 port_of (pane w x) q stands = absurd stands
 
+-- a window's chain among those of all
+module _ (d : Declared) (chains : List Chain) (are : chains ≡ chains_of d) (w : ℕ) (there : w < length d.windows) where
+  pub chain_there : w < length chains
+  chain_there = subst (λ n. w < n) (sym (ap length are ∙ length-map-range_with_len (chain_of d) 0 (length d.windows))) there
+
+  pub chain_is : (chain : Chain) → chain ≡ slice_index_or chains w chain → chain ≡ chain_of d w
+  chain_is chain e =
+      let at : 0 + w ≡ w = omega arith in
+      e ∙ ap (λ l. get_or l w chain) are ∙ get_or-map-range_with_len (chain_of d) 0 (length d.windows) w w chain there at
+
 -- a letter that stands for another one has its way
 way_by : (d : Declared) (w what : ℕ) (l : held.Letter) (m : Letter Message) → LetterStandsFor l m → what ≡ m.body.what
     → (if l.notice then Handler Window else route_of (chain_of d w) what l.target) ≡ letter_route d w m
@@ -84,6 +96,9 @@ module _ (d : Declared) (parts : List (ℕ × Part)) (w : ℕ) (allowed : IsAllo
 
   pub port_there : IsThere d parts (part.port w)
   port_there = there d parts (who.Runner (by.Looper w)) (want.Takes w) allowed (part.port w) (inr (inl refl))
+
+  pub window_there : w < length d.windows
+  window_there = port_there.reachable.there
 
   not_empty : option_and_then front (slice_get s.ports w) ≡ None → ⊥
   unfolding want_act

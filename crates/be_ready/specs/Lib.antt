@@ -1,3 +1,4 @@
+pub mod Chains
 pub mod Happening
 pub mod Lent
 pub mod Plannable

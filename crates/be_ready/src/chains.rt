@@ -1,8 +1,9 @@
-//! How messages find their handlers in a window of the script.
+//! How messages find their handlers in the windows of the script.
 ghost use Rattle.std.specs.Prelude.{◌≡◌, true, Some, None, IsOk, IfOk, OnOk, IfErr, ◌↔◌};
 ghost use Rattle.be_handler.specs.Growth.{empty_chain, with_filter, with_new_body};
 ghost use Rattle.be_handler.specs.Growth.{with_plain, with_view};
 ghost use Rattle.be_handler.specs.declared.fault.ChainFault.{ChainFault};
+ghost use Rattle.be_ready.specs.Chains.{chains_of};
 ghost use Rattle.be_script.specs.Limits.{IsWithinLimits};
 ghost use Rattle.be_script.specs.Routable.{IsRoutable, bodies_before, filters_before};
 ghost use Rattle.be_script.specs.Routable.{can_add_body, can_add_filter, can_add_plain};
@@ -16,8 +17,22 @@ use be_message::Target;
 use be_script::{BodyLine, FilterLine, Script, limits_make_routable};
 use std::alloc::Global;
 
-/// The handlers, filters and bodies of window `w`. It looks at each of the script's once.
-pub(crate) fn chain_in(alloc: Global, script: &Script, w: u16) -> Result<Chain, NoMemory>
+/// The handlers, filters and bodies of each window, in order: what `message_in_front` finds its way
+/// by. For each window it looks at each view, handler, filter and body of the script once.
+pub fn chains_of(alloc: Global, script: &Script) -> Result<Vec<Chain>, NoMemory>
+    requires { IsWithinLimits (declared_by script.now) }
+    ensures { IfOk result (λ chains. chains.items ≡ chains_of (declared_by script.now)) }
+{
+    let windows = script.windows.len();
+    let mut chains = Vec::with_capacity(alloc, windows)?;
+    for w in 0..windows as u16 {
+        chains.push(chain_in(alloc, script, w)?)?;
+    }
+    Ok(chains)
+}
+
+/// The handlers, filters and bodies of window `w`.
+fn chain_in(alloc: Global, script: &Script, w: u16) -> Result<Chain, NoMemory>
     requires { IsWithinLimits (declared_by script.now) }
     ensures { IfOk result (λ chain. chain ≡ chain_of (declared_by script.now) w) }
 {

@@ -68,7 +68,8 @@ fn addressed(alloc: Global, post: &Option<Post>) -> Result<Option<Addressed>, No
     }))
 }
 
-/// The plan for a window that an event activates. None where it activates none, or the desk refuses.
+/// The plan for a window that an event activates. None where it activates none, or the desk
+/// refuses.
 fn activation(
     alloc: Global,
     script: &Script,

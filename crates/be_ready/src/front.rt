@@ -8,34 +8,35 @@ ghost use Rattle.be_handler.specs.Routes.{route_of};
 ghost use Rattle.be_handler.specs.declared.Route.TheVariants.{Handler};
 ghost use Rattle.be_message.specs.Messages as messages;
 ghost use Rattle.be_message.specs.declared.target.Target.TheVariants.{Window};
-ghost use Rattle.be_script.specs.Limits.{IsWithinLimits};
+ghost use Rattle.be_ready.specs.Chains.{chains_of};
 ghost use Rattle.be_script.specs.Script.{declared_by};
-ghost use Rattle.be_script.specs.Windows.{chain_of};
 ghost use Rattle.be_steps.specs.Steps.{IsAllowed};
 ghost use Rattle.be_steps.specs.Taking.{IsFrontMessage};
 
-use crate::chains::chain_in;
 use crate::there::port_there;
 use be_flat::{Bytes, FlatError, unflatten};
 use be_geom::NoMemory;
 use be_hall::Held;
-use be_handler::Route;
+use be_handler::{Chain, Route};
 use be_message::{Message, Target};
 use be_parts::Part;
 use be_port::{Letter, queues_are_ports};
 use be_script::Script;
 use std::alloc::Global;
 
-/// The message that the letter in front of window `w`'s port spells, and where it goes. It looks at
-/// each view, handler, filter and body of the script once, and at none for a notice.
+/// The message that the letter in front of window `w`'s port spells, and where it goes by the
+/// chain of its window, of those that `chains_of` gives. It takes memory for the message, and steps
+/// for each byte of it, for each filter of the window and for each handler on the way.
 pub fn message_in_front(
     alloc: Global,
     script: &Script,
+    chains: &[Chain],
     held: &Held<Part>,
     w: u16,
 ) -> Result<(Message, Route), NoMemory>
-    requires { IsAllowed (declared_by script.now) held.now.parts (who.Runner (by.Looper w))
+    requires allowed { IsAllowed (declared_by script.now) held.now.parts (who.Runner (by.Looper w))
         (want.Takes w) }
+    requires chains { chains.now ≡ chains_of (declared_by script.now) }
     ensures { IfOk result (λ front.
         IsFrontMessage (declared_by script.now) held.now.parts w front.0 front.1) }
 {
@@ -43,7 +44,8 @@ pub fn message_in_front(
     queues_are_ports();
     let letter = part.port().front().unwrap();
     let message = message_of(alloc, &letter.bytes)?;
-    let route = way_of(alloc, script, w, letter, message.what())?;
+    let chain = &chains[w as usize];
+    let route = way_of(chain, letter, message.what());
     Ok((message, route))
 }
 
@@ -61,21 +63,14 @@ fn message_of(alloc: Global, bytes: &Bytes) -> Result<Message, NoMemory>
     }
 }
 
-/// Where a letter of this word goes in window `w`. No filter sees a notice: the window handles it.
-fn way_of(
-    alloc: Global,
-    script: &Script,
-    w: u16,
-    letter: &Letter,
-    what: u32,
-) -> Result<Route, NoMemory>
-    requires { IsWithinLimits (declared_by script.now) }
-    ensures { IfOk result (λ route. route ≡ (if letter.now.notice then Handler Window
-        else route_of (chain_of (declared_by script.now) w) what letter.now.target)) }
+/// Where a letter of this word goes in the window of this chain. No filter sees a notice: the
+/// window handles it.
+fn way_of(chain: &Chain, letter: &Letter, what: u32) -> Route
+    ensures { result ≡ (if letter.now.notice then Handler Window
+        else route_of chain.now what letter.now.target) }
 {
     if letter.notice {
-        return Ok(Route::Handler(Target::Window));
+        return Route::Handler(Target::Window);
     }
-    let chain = chain_in(alloc, script, w)?;
-    Ok(chain.route(what, letter.target))
+    chain.route(what, letter.target)
 }

@@ -1,8 +1,8 @@
 //! What an entry needs is made before it, with the memory that it takes.
 //!
-//! Each call here looks at the parts in hand, which tell what an activity wants, and changes none of
-//! them. What it makes is what a step takes, whatever the other parts are, so that the step itself
-//! can't fail.
+//! Each call here looks at the parts in hand, which tell what an activity wants, and changes none
+//! of them. What it makes is what a step takes, whatever the other parts are, so that the step
+//! itself can't fail.
 #![tactic(auto)]
 
 mod chains;
@@ -17,6 +17,7 @@ mod replies;
 mod surveys;
 mod there;
 
+pub use chains::chains_of;
 pub use events::delivered;
 pub use front::message_in_front;
 pub use letters::letter;

@@ -3,6 +3,7 @@ ghost use Rattle.std.specs.Prelude.{◌≡◌, ℕ, IfOk};
 ghost use Rattle.be_asking.specs.Executing.{IsOldest};
 ghost use Rattle.be_asking.specs.declared.activity.Activity.TheVariants as who;
 ghost use Rattle.be_asking.specs.declared.want.Want.TheVariants as want;
+ghost use Rattle.be_ready.specs.Chains.{chains_of};
 ghost use Rattle.be_rules.specs.Far.{event_in};
 ghost use Rattle.be_script.specs.Script.{declared_by};
 ghost use Rattle.be_steps.specs.Steps.{IsAllowed};
@@ -13,6 +14,7 @@ use be_asking::{Activity, Request, Runner, Want, find_link};
 use be_command::Command;
 use be_geom::NoMemory;
 use be_hall::Held;
+use be_handler::Chain;
 use be_input::Event;
 use be_parts::Part;
 use be_ready::{
@@ -21,22 +23,25 @@ use be_ready::{
 use be_script::{InputLine, Script};
 use std::alloc::Global;
 
-/// What the activity's entry needs, with all the memory that this takes.
+/// What the activity's entry needs, with all the memory that this takes. The chains are those of
+/// the script's windows.
 pub(crate) fn make(
     alloc: Global,
     script: &Script,
+    chains: &[Chain],
     held: &Held<Part>,
     who: Activity,
     want: Want,
 ) -> Result<Work, NoMemory>
-    requires { IsAllowed (declared_by script.now) held.now.parts who want }
+    requires allowed { IsAllowed (declared_by script.now) held.now.parts who want }
+    requires chains { chains.now ≡ chains_of (declared_by script.now) }
     ensures { IfOk result (IsSuited (declared_by script.now) held.now.parts who want.entry) }
 {
     let _who = who;
     match want {
         Want::Asks(runner, request) => make_asked(alloc, script, held, runner, request),
         Want::Takes(w) => {
-            let (message, route) = message_in_front(alloc, script, held, w)?;
+            let (message, route) = message_in_front(alloc, script, chains, held, w)?;
             Ok(Work::Taken(message, route))
         }
         Want::Begins(w) => Ok(Work::Survey(surveyed(alloc, script, held, w)?)),

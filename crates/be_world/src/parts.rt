@@ -49,7 +49,7 @@ impl Parts for World {
         held: &mut Held<Part>,
         entry: &Entry,
     ) -> Result<Verdict<ReadyEntry>, NoMemory> {
-        prepare_entry(self.alloc, &self.script, held, entry)
+        prepare_entry(self.alloc, &self.script, &self.chains, held, entry)
     }
 
     fn perform(&self, held: &mut Held<Part>, ready: ReadyEntry, number: u64) {

@@ -5,6 +5,7 @@ ghost use Rattle.be_hall.specs.Hands.{meant, part_at};
 ghost use Rattle.be_hall.specs.Machine.{IsAskable, SomeFits};
 ghost use Rattle.be_machine.specs.Activities.{activity_of};
 ghost use Rattle.be_parts.specs.Parts.{log_of, meaning_of};
+ghost use Rattle.be_ready.specs.Chains.{chains_of};
 ghost use Rattle.be_rules.specs.Rules.{kept_at, world_machine};
 ghost use Rattle.be_script.specs.Limits.{IsWithinLimits};
 ghost use Rattle.be_script.specs.Script.{declared_by};
@@ -18,6 +19,7 @@ use crate::work::Work;
 use be_asking::{Activity, activity_of};
 use be_geom::NoMemory;
 use be_hall::{Held, Verdict};
+use be_handler::Chain;
 use be_machine::Entry;
 use be_parts::Part;
 use be_script::Script;
@@ -32,15 +34,17 @@ pub struct ReadyEntry {
     pub(crate) seen: Snapshot<Held<Part>>,
 }
 
-/// What becomes of the entry with these parts. The log that keeps it gets room, whatever the
-/// answer.
+/// What becomes of the entry with these parts. The chains are those of the script's windows. The
+/// log that keeps the entry gets room, whatever the answer.
 pub(crate) fn prepare_entry(
     alloc: Global,
     script: &Script,
+    chains: &[Chain],
     held: &mut Held<Part>,
     entry: &Entry,
 ) -> Result<Verdict<ReadyEntry>, NoMemory>
     requires limits { IsWithinLimits (declared_by script.now) }
+    requires chains { chains.now ≡ chains_of (declared_by script.now) }
     requires askable { IsAskable (world_machine (declared_by script.now))
         (meant meaning_of held.old.parts) }
     ensures room { held.new.room ≡ held.old.room }
@@ -56,7 +60,7 @@ pub(crate) fn prepare_entry(
         return Ok(Verdict::Needs(place));
     }
     make_room_at(held, place)?;
-    match judge(alloc, script, held, who, entry)? {
+    match judge(alloc, script, chains, held, who, entry)? {
         Verdict::NotLegal => Ok(Verdict::NotLegal),
         Verdict::Needs(part) => Ok(Verdict::Needs(part)),
         Verdict::Ready((entry, made)) => {

@@ -5,6 +5,8 @@ ghost use Rattle.be_script.specs.Script.{declared_by};
 use crate::bitmaps::bitmaps_of;
 use be_bitmap::Bitmap;
 use be_geom::NoMemory;
+use be_handler::Chain;
+use be_ready::chains_of;
 use be_script::Script;
 use std::alloc::Global;
 use std::marker::Model;
@@ -16,6 +18,8 @@ pub struct World {
     pub(crate) script: Script,
     // The script's, one beside the other, as a twin draws them.
     pub(crate) bitmaps: Vec<Bitmap>,
+    // How messages find their handlers in each window.
+    pub(crate) chains: Vec<Chain>,
 }
 
 impl Model for World {
@@ -30,20 +34,23 @@ impl Model for World {
 
     ghost view = { λ w. declared_by w.script };
 
-    ghost invariant = { λ w. IsWorld (declared_by w.script) w.bitmaps.items };
+    ghost invariant = { λ w. IsWorld (declared_by w.script) w.bitmaps.items w.chains.items };
 }
 
 impl World {
-    /// The rules of a run of this script. Its bitmaps are copied once.
+    /// The rules of a run of this script. Its bitmaps are copied once, and the handlers, filters
+    /// and bodies of each window are put together once.
     pub fn new(alloc: Global, script: Script) -> Result<World, NoMemory>
         requires { IsWithinLimits (declared_by script) }
         ensures { IfOk result (λ world. world ≡ declared_by script) }
     {
         let bitmaps = bitmaps_of(alloc, &script.bitmaps)?;
+        let chains = chains_of(alloc, &script)?;
         Ok(World {
             alloc,
             script,
             bitmaps,
+            chains,
         })
     }
 

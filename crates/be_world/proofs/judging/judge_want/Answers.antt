@@ -14,8 +14,9 @@ pub make-requires : goal.make-requires
 make-requires c =
     let d = declared_by c.args.script.now in
     let parts = c.args.held.now.parts in
-    may_make d parts c.args.entry.now c.args.who c.args.want (act_in c.in-May.deed) c.requires
-    (subst (λ (x : Answer). IsAnswer d (meant meaning_of parts) c.args.entry.now.actor x) c.in-May.is
+    may_make d parts c.args.entry.now c.args.who c.args.want (act_in c.in-May.deed) c.requires.asked
+    (subst (λ (x : Answer). IsAnswer d (meant meaning_of parts) c.args.entry.now.actor x)
+    c.in-May.is
     c.in_ok-may.ensures) c.ascends.ensures
 
 pub returns : goal.returns
@@ -33,5 +34,6 @@ returns c =
       subst (λ (x : Entry). IsReady (world_machine d) (meant meaning_of parts) x)
           (sym c.in_ok-own.ensures ∙ same) may,
       prepared_by d parts c.args.who c.args.want (may_make d parts e c.args.who c.args.want (act_in
-          c.in-May.deed) c.requires may c.ascends.ensures) c.in_ok-made.made c.in_ok-made.ensures,
+          c.in-May.deed) c.requires.asked may c.ascends.ensures) c.in_ok-made.made
+          c.in_ok-made.ensures,
     )

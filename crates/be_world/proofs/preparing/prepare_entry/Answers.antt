@@ -105,7 +105,8 @@ returns-in-Ready-clause-answer c =
     let parts = c.make_room_at.new.held.parts in
     let e = c.args.entry.now in
     let judged =
-    subst (λ (v : Verdict (Entry × Work)). IsJudged d parts e v) c.in-Ready.is c.in_ok-judge.ensures in
+    subst (λ (v : Verdict (Entry × Work)). IsJudged d parts e v) c.in-Ready.is
+    c.in_ok-judge.ensures in
     let kept = c.keeper-place.ensures ∙ ap (kept_at d) c.in-Some.ensures in (
       judged.0,
       ap (λ h. meant meaning_of h.parts) c.of-seen.ensures,
