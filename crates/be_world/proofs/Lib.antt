@@ -7,3 +7,8 @@ pub mod Suiting
 pub mod Keeping
 pub mod Performed
 pub mod WorkMade
+mod Having
+mod Marked
+mod Marking
+mod Stirred
+mod Untouched

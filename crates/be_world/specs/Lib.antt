@@ -6,3 +6,5 @@ pub mod Performing
 pub mod Judging
 pub mod Preparing
 pub mod TurnLaws
+pub mod Marks
+pub mod Stirring

@@ -102,7 +102,8 @@ module _ (d : Declared) (all : List Slice) where
       (none e.actor (omega arith))) legal)
 
 pub world_closing : (d : Declared)
-    → NeverStuck (world_machine d) (legal_entry d) (λ e. is_last e.act) (activities d) (has_stopped d)
+    → NeverStuck (world_machine d) (legal_entry d) (λ e. is_last e.act) (activities d)
+    (has_stopped d)
 world_closing d = record {
   stuck = λ all sound none. nobody_stuck d all sound (nobody d all none);
   closing = λ all e sound legal stopped. ap is_last (stop_stops d all e sound legal stopped);

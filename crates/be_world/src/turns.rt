@@ -1,5 +1,6 @@
 //! The activities of a script's run.
 use crate::owning::{activities, is_own};
+use crate::stirring::mark_stirred;
 use crate::turning::{has_turn, next_turn};
 use crate::world::World;
 use be_geom::NoMemory;
@@ -49,4 +50,10 @@ impl Closing for World {
     ghost closed = { λ it all. has_stopped it all };
 
     ghost never_stuck = { λ it. world_closing it };
+
+    /// It takes a step for each application, for a command one for each window, and for an entry of
+    /// the input one for each activity.
+    fn stir(&self, entry: &Entry, stale: &mut [bool]) {
+        mark_stirred(&self.script, entry, stale);
+    }
 }
