@@ -1,5 +1,6 @@
 -- The parts of the opening fit the start of a run.
-use Rattle.std.proofs.Common.{◌≡◌, ℕ, zero, suc, ◌<◌, ◌≤◌, false, List, [], ◌∷◌, length, map, replicate, sym, ap, ◌∙◌, subst, arith}
+use Rattle.std.proofs.Common.{◌≡◌, ℕ, zero, suc, ◌<◌, ◌≤◌, false, List, [], ◌∷◌, length, map}
+use Rattle.std.proofs.Common.{replicate, sym, ap, ◌∙◌, subst, arith}
 use Rattle.std.proofs.lemmas.List.{length-map}
 use Rattle.std.specs.Prelude.{slice_get}
 use Rattle.be_hall.specs.Machine.{AllFit}
@@ -29,7 +30,8 @@ buffer_fits zero w = tt
 buffer_fits (suc n) zero = omega arith
 buffer_fits (suc n) (suc w) = buffer_fits n w
 
-port_fits : (lines : List WindowLine) (w : ℕ) → PortFits 0 (slice_get (map (λ line. empty_port line.port) lines) w)
+port_fits : (lines : List WindowLine) (w : ℕ)
+    → PortFits 0 (slice_get (map (λ line. empty_port line.port) lines) w)
 port_fits [] w = tt
 port_fits (line ∷ lines) zero = omega arith
 port_fits (line ∷ lines) (suc w) = port_fits lines w
@@ -57,14 +59,17 @@ whole_first d limits = whole_after d [] limits tt
 
 -- ---- by what they mean
 
-module _ (d : Declared) (limits : IsWithinLimits d) (parts : List held.Part) (mean : map meaning_of parts ≡ slices d (opening_state d)) where
+module _ (d : Declared) (limits : IsWithinLimits d) (parts : List held.Part)
+    (mean : map meaning_of parts ≡ slices d (opening_state d)) where
   pub few : length parts < 4294967296
   few =
       let counts = limits.counts in
-      let many : length parts ≡ length (all_parts d) = sym (length-map parts meaning_of) ∙ ap length mean ∙ length-map (all_parts d) (slice_of (opening_state d)) in
+      let many : length parts ≡ length (all_parts d) = sym (length-map parts meaning_of)
+      ∙ ap length mean ∙ length-map (all_parts d) (slice_of (opening_state d)) in
       omega (arith, many_parts d)
 
-  pub within_work : total (share d) (slices d (opening_state d)) ≤ work_of d → total (share d) (map meaning_of parts) ≤ work_of d
+  pub within_work : total (share d) (slices d (opening_state d)) ≤ work_of d
+      → total (share d) (map meaning_of parts) ≤ work_of d
   within_work le = subst (λ (l : List Slice). total (share d) l ≤ work_of d) (sym mean) le
 
   pub fit : AllFit SliceFits 0 (map meaning_of parts)
@@ -73,4 +78,5 @@ module _ (d : Declared) (limits : IsWithinLimits d) (parts : List held.Part) (me
   -- the run goes on
   pub unclosed : has_stopped d (map meaning_of parts) ≡ false
   unfolding opening_state
-  unclosed = ap (has_stopped d) mean ∙ ap (λ (s : State). s.stopped) (put_together d (opening_state d) (whole_first d limits))
+  unclosed = ap (has_stopped d) mean
+      ∙ ap (λ (s : State). s.stopped) (put_together d (opening_state d) (whole_first d limits))

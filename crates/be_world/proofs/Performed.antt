@@ -1,5 +1,6 @@
 -- An entry that was carried out and entered.
-use Rattle.std.proofs.Common.{◌≡◌, ℕ, ◌+◌, ◌-◌, true, List, [], ◌∷◌, map, Some, refl, sym, ap, subst, ◌∙◌, arith}
+use Rattle.std.proofs.Common.{◌≡◌, ℕ, ◌+◌, ◌-◌, true, List, [], ◌∷◌, map, Some, refl, sym, ap}
+use Rattle.std.proofs.Common.{subst, ◌∙◌, arith}
 use Rattle.be_asking.specs.Wants.{activity_in}
 use Rattle.be_asking.specs.declared.activity.Activity.{Activity}
 use Rattle.be_hall.proofs.Holding.{fit_after}
@@ -28,19 +29,24 @@ same_places : (parts : List (ℕ × Part)) → map (λ x. x.0) (meant meaning_of
 same_places [] = refl
 same_places (x ∷ xs) = ap (λ l. x.0 ∷ l) (same_places xs)
 
-module _ (d : Declared) (e : Entry) (made : Work) (n : ℕ) (old : Hand Part) (may : MayPerform d old.parts e made n) (who : Activity) (number : activity_of d e.actor ≡ Some (activity_in who)) (rises : rises_from 0 (places_of old.parts) ≡ true) where
+module _ (d : Declared) (e : Entry) (made : Work) (n : ℕ) (old : Hand Part)
+    (may : MayPerform d old.parts e made n) (who : Activity)
+    (number : activity_of d e.actor ≡ Some (activity_in who))
+    (rises : rises_from 0 (places_of old.parts) ≡ true) where
   pub may_step : MayStep d old.parts e.actor who
   may_step = record {
     limits = may.limits;
     is = number;
     fitting = may.fitting;
-    small = fit_after meaning_of SliceFits (n - 1) 4611686018427387904 old.parts (λ m f. (world_lawful d).fits_more (n - 1) 4611686018427387904 m (omega arith) f) may.fits;
+    small = fit_after meaning_of SliceFits (n - 1) 4611686018427387904 old.parts
+        (λ m f. (world_lawful d).fits_more (n - 1) 4611686018427387904 m (omega arith) f) may.fits;
     act = e.act;
     ready = may.ready;
     ascending = rises;
   }
 
-  module _ (place : ℕ) (kept : place ≡ kept_at d (Some (activity_in who))) (mid : Hand Part) (done : IsDone d who old mid) where
+  module _ (place : ℕ) (kept : place ≡ kept_at d (Some (activity_in who))) (mid : Hand Part)
+      (done : IsDone d who old mid) where
     rises_still : rises_from 0 (places_of mid.parts) ≡ true
     rises_still = ap (rises_from 0) done.places ∙ rises
 
@@ -50,12 +56,16 @@ module _ (d : Declared) (e : Entry) (made : Work) (n : ℕ) (old : Hand Part) (m
     pub room_is : TakesEntry mid.parts place
     room_is =
         takes_entry mid.parts place rises_still
-        (subst (λ s. HasSpare place s) (sym done.spare) (subst (λ (p : ℕ). HasSpare p (meant spare_of old.parts)) (sym kept_here) may.spare))
+        (subst (λ s. HasSpare place s) (sym done.spare)
+        (subst (λ (p : ℕ). HasSpare p (meant spare_of old.parts)) (sym kept_here) may.spare))
 
-    module _ (new : Hand Part) (room : new.room ≡ mid.room) (entered : HasEntered place n e mid.parts new.parts) where
-      after : (all : List Slice) → IsSound d all → Fits all (meant meaning_of old.parts) → Fits (slices d (step d (state_of d all) e)) (meant meaning_of new.parts)
+    module _ (new : Hand Part) (room : new.room ≡ mid.room)
+        (entered : HasEntered place n e mid.parts new.parts) where
+      after : (all : List Slice) → IsSound d all → Fits all (meant meaning_of old.parts)
+          → Fits (slices d (step d (state_of d all) e)) (meant meaning_of new.parts)
       after all sound fits =
-          subst (λ h. Fits (slices d (step d (state_of d all) e)) h) (sym (entered_means place n e mid.parts new.parts entered))
+          subst (λ h. Fits (slices d (step d (state_of d all) e)) h)
+          (sym (entered_means place n e mid.parts new.parts entered))
           (done.after e number all sound fits)
 
       places : places_of new.parts ≡ places_of old.parts
@@ -68,7 +78,8 @@ module _ (d : Declared) (e : Entry) (made : Work) (n : ℕ) (old : Hand Part) (m
       fits =
           let again : n - 1 + 1 ≡ n = (let pos = may.number.0 in omega arith) in
           subst (λ (k : ℕ). HeldFit SliceFits k (meant meaning_of new.parts)) again
-          (held_fits d (n - 1) e (meant meaning_of old.parts) (meant meaning_of new.parts) may.fitting.0 may.fitting.1 may.fitting.2 may.ready next may.fits)
+          (held_fits d (n - 1) e (meant meaning_of old.parts) (meant meaning_of new.parts)
+          may.fitting.0 may.fitting.1 may.fitting.2 may.ready next may.fits)
 
       pub performed : HasPerformed d e n old new
       performed = record {

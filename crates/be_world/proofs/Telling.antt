@@ -32,37 +32,54 @@ module _ (d : Declared) (a : ℕ) where
   -- of an activity that isn't there
   pub nobody : activity_of d a ≡ None → (all : List Slice) → legal_entry d all a ≡ None
   unfolding legal_act
-  nobody none all = ap (λ o. option_map (entry_by a) (option_and_then (want_act d (state_of d all)) (option_and_then (want_of d (state_of d all)) o))) none
+  nobody none all = ap (λ o. option_map (entry_by a)
+      (option_and_then (want_act d (state_of d all))
+      (option_and_then (want_of d (state_of d all)) o))) none
 
   module _ (held : List (ℕ × Slice)) where
-    pub may_act : (act : Act) → MayAct d held a act → (all : List Slice) → IsSound d all → Fits all held → legal_entry d all a ≡ Some (entry_by a act)
+    pub may_act : (act : Act) → MayAct d held a act → (all : List Slice) → IsSound d all
+        → Fits all held → legal_entry d all a ≡ Some (entry_by a act)
     may_act act may all sound fits = ap (option_map (entry_by a)) (may all sound fits).0
 
-    pub may_not : CannotAct d held a → (all : List Slice) → IsSound d all → Fits all held → legal_entry d all a ≡ None
+    pub may_not : CannotAct d held a → (all : List Slice) → IsSound d all → Fits all held
+        → legal_entry d all a ≡ None
     may_not cannot all sound fits = ap (option_map (entry_by a)) (cannot all sound fits)
 
     pub has_entry : (has : Bool) → TellsAct d held a has → HasEntry d held a has
-    has_entry has tells all sound fits = tells all sound fits ∙ same_some a (legal_act d (state_of d all) a)
+    has_entry has tells all sound fits = tells all sound fits
+        ∙ same_some a (legal_act d (state_of d all) a)
 
     module _ (who : Activity) (number : activity_of d a ≡ Some who) where
       -- it wants nothing any more
-      pub ended : IsWanted d held a who Nothing → (all : List Slice) → IsSound d all → Fits all held → legal_entry d all a ≡ None
+      pub ended : IsWanted d held a who Nothing → (all : List Slice) → IsSound d all
+          → Fits all held → legal_entry d all a ≡ None
       unfolding legal_act
       ended nothing all sound fits =
-          ap (λ o. option_map (entry_by a) (option_and_then (want_act d (state_of d all)) (option_and_then (want_of d (state_of d all)) o))) number
-          ∙ ap (λ o. option_map (entry_by a) (option_and_then (want_act d (state_of d all)) o)) (nothing all sound fits).0
+          ap (λ o. option_map (entry_by a)
+          (option_and_then (want_act d (state_of d all))
+          (option_and_then (want_of d (state_of d all)) o))) number
+          ∙ ap (λ o. option_map (entry_by a) (option_and_then (want_act d (state_of d all)) o))
+          (nothing all sound fits).0
 
       -- the part that is needed is one of the script's
-      pub needs : (p : ℕ) → SomeFits (world_machine d) held → NeedsPart d held a p → (p < length (all_parts d)) × (IsHeld held p → ⊥)
+      pub needs : (p : ℕ) → SomeFits (world_machine d) held → NeedsPart d held a p
+          → (p < length (all_parts d)) × (IsHeld held p → ⊥)
       needs p some_list need =
-          let e : Entry = entry_by a Stop in
-          (touched_below d a who number (state_of d some_list.0) e p refl (need.1 e refl some_list.0 some_list.1 some_list.2), need.0)
+          let e : Entry = entry_by a Stop in (
+            touched_below d a who number (state_of d some_list.0) e p refl
+                (need.1 e refl some_list.0 some_list.1 some_list.2),
+            need.0,
+          )
 
 -- none is needed where all are in hand
-pub none_needed : (d : Declared) (a p : ℕ) (who : Activity) (parts : List (ℕ × Part)) → activity_of d a ≡ Some who → SomeFits (world_machine d) (meant meaning_of parts) → places_of parts ≡ up_from 0 (length (all_parts d)) → NeedsPart d (meant meaning_of parts) a p → ⊥
+pub none_needed : (d : Declared) (a p : ℕ) (who : Activity) (parts : List (ℕ × Part))
+    → activity_of d a ≡ Some who → SomeFits (world_machine d) (meant meaning_of parts)
+    → places_of parts ≡ up_from 0 (length (all_parts d))
+    → NeedsPart d (meant meaning_of parts) a p → ⊥
 none_needed d a p who parts number some_list places need =
     let n = needs d a (meant meaning_of parts) who number p some_list need in
     n.1 (all_in_hand meaning_of parts (length (all_parts d)) p places n.0)
 
-pub all_held : (d : Declared) (parts : List (ℕ × Part)) → places_of parts ≡ up_from 0 (length (all_parts d)) → AreAllHeld d (meant meaning_of parts)
+pub all_held : (d : Declared) (parts : List (ℕ × Part))
+    → places_of parts ≡ up_from 0 (length (all_parts d)) → AreAllHeld d (meant meaning_of parts)
 all_held d parts places p below = all_in_hand meaning_of parts (length (all_parts d)) p places below

@@ -43,15 +43,18 @@ use Rattle.be_world.proofs.Allowed.{prepared}
 
 -- ---- the command that a twin executes
 
-module _ (d : Declared) (parts : List (ℕ × Part)) (w : ℕ) (allowed : IsAllowed d parts (who.Twin w) (want.Executes w)) where
+module _ (d : Declared) (parts : List (ℕ × Part)) (w : ℕ)
+    (allowed : IsAllowed d parts (who.Twin w) (want.Executes w)) where
   pub link_there : IsThere d parts (part.link w)
   link_there = there d parts (who.Twin w) (want.Executes w) allowed (part.link w) (inl refl)
 
   -- its link isn't empty
-  pub link_has : (l : Slice) → part_at parts (place_of d (part.link w)) ≡ Some (kinds.Link l) → (commands : List Numbered) → link_in l ≡ Some commands → None ≡ slice_get commands 0 → ⊥
+  pub link_has : (l : Slice) → part_at parts (place_of d (part.link w)) ≡ Some (kinds.Link l)
+      → (commands : List Numbered) → link_in l ≡ Some commands → None ≡ slice_get commands 0 → ⊥
   link_has l at commands are none =
       let all : List Slice = allowed.asked.fitting.0 in
-      let cannot = nothing_linked d parts allowed.number w allowed.asked l at commands are none all allowed.asked.fitting.1 allowed.asked.fitting.2 in
+      let cannot = nothing_linked d parts allowed.number w allowed.asked l at commands are none all
+      allowed.asked.fitting.1 allowed.asked.fitting.2 in
       let can = (allowed.ready all allowed.asked.fitting.1 allowed.asked.fitting.2).0 in
       let no : None ≡ Some allowed.act = sym cannot ∙ can in
       absurd (cc)
@@ -60,7 +63,9 @@ module _ (d : Declared) (parts : List (ℕ × Part)) (w : ℕ) (allowed : IsAllo
 
 module _ (d : Declared) (parts : List (ℕ × Part)) (e : Entry) where
   -- nothing that its activity may make
-  pub not_wanted : (it : Activity) → activity_of d e.actor ≡ Some (activity_in it) → IsWanted d (meant meaning_of parts) e.actor (activity_in it) Nothing → (all : List Slice) → IsSound d all → Fits all (meant meaning_of parts) → IsLegal d (state_of d all) e → ⊥
+  pub not_wanted : (it : Activity) → activity_of d e.actor ≡ Some (activity_in it)
+      → IsWanted d (meant meaning_of parts) e.actor (activity_in it) Nothing → (all : List Slice)
+      → IsSound d all → Fits all (meant meaning_of parts) → IsLegal d (state_of d all) e → ⊥
   unfolding legal_act
   not_wanted it is nothing all sound fits legal =
       let s : State = state_of d all in
@@ -70,14 +75,20 @@ module _ (d : Declared) (parts : List (ℕ × Part)) (e : Entry) where
       let no : None ≡ Some e.act = sym none ∙ legal in
       absurd (cc)
 
-  abbrev pub may_make : (it : Activity) (asks : Want) (act : Act) → IsAsked d parts e.actor it asks → MayAct d (meant meaning_of parts) e.actor act → rises_from 0 (places_of parts) ≡ true → IsAllowed d parts it asks
-  may_make it asks act asked may rises = record { number = e.actor; asked = asked; act = act; ready = may; ascending = rises }
+  abbrev pub may_make : (it : Activity) (asks : Want) (act : Act) → IsAsked d parts e.actor it asks
+      → MayAct d (meant meaning_of parts) e.actor act → rises_from 0 (places_of parts) ≡ true
+      → IsAllowed d parts it asks
+  may_make it asks act asked may rises =
+      record { number = e.actor; asked = asked; act = act; ready = may; ascending = rises }
 
-  pub same_entry : (own : Entry) (act : Act) → own ≡ entry_by e.actor act → e.act ≡ own.act → own ≡ e
-  same_entry own act is same = is ∙ ap (entry_by e.actor) (ap (λ (x : Entry). x.act) (sym is) ∙ sym same)
+  pub same_entry : (own : Entry) (act : Act) → own ≡ entry_by e.actor act → e.act ≡ own.act
+      → own ≡ e
+  same_entry own act is same = is
+      ∙ ap (entry_by e.actor) (ap (λ (x : Entry). x.act) (sym is) ∙ sym same)
 
 -- what suits this want suits whatever the activity wants
-module _ (d : Declared) (parts : List (ℕ × Part)) (it : Activity) (asks : Want) (allowed : IsAllowed d parts it asks) where
+module _ (d : Declared) (parts : List (ℕ × Part)) (it : Activity) (asks : Want)
+    (allowed : IsAllowed d parts it asks) where
   may_step : MayStep d parts allowed.number it
   may_step = record {
     limits = allowed.asked.limits;
@@ -89,8 +100,10 @@ module _ (d : Declared) (parts : List (ℕ × Part)) (it : Activity) (asks : Wan
     ascending = allowed.ascending;
   }
 
-  pub prepared_by : (made : Work) → IsSuited d parts it asks made → IsPrepared d parts allowed.number made
-  prepared_by made suits = prepared d parts allowed.number it may_step asks allowed.asked.wanted made suits
+  pub prepared_by : (made : Work) → IsSuited d parts it asks made
+      → IsPrepared d parts allowed.number made
+  prepared_by made suits = prepared d parts allowed.number it may_step asks allowed.asked.wanted
+      made suits
 
 -- ---- what the input uses
 
@@ -103,9 +116,12 @@ module _ (d : Declared) (parts : List (ℕ × Part)) where
   waits_suit (line.Move at) made none = absurd (cc)
   waits_suit (line.Key key) made none = absurd (cc)
 
-  pub event_suits : (it : InputLine) (event : Event) (made : Delivered) → Some event ≡ event_in it → DeliversIn d parts event made → SuitsLine d parts it (work.Event made)
-  event_suits (line.Press at) event made is delivers = (made, refl, delivers (line.Press at) (sym is))
-  event_suits (line.Release at) event made is delivers = (made, refl, delivers (line.Release at) (sym is))
+  pub event_suits : (it : InputLine) (event : Event) (made : Delivered) → Some event ≡ event_in it
+      → DeliversIn d parts event made → SuitsLine d parts it (work.Event made)
+  event_suits (line.Press at) event made is delivers =
+      (made, refl, delivers (line.Press at) (sym is))
+  event_suits (line.Release at) event made is delivers =
+      (made, refl, delivers (line.Release at) (sym is))
   event_suits (line.Move at) event made is delivers = (made, refl, delivers (line.Move at) (sym is))
   event_suits (line.Key key) event made is delivers = (made, refl, delivers (line.Key key) (sym is))
   event_suits (line.After m) event made is delivers = absurd (cc)

@@ -11,7 +11,8 @@ loop-row-preserved c =
     let inside : c.loop-row.row < p.height = omega (arith, c.height-height.ensures.height) in
     c.in_ok-extend_from_slice.ensures.items
     ∙ next_row p c.loop-row.row c.row_from.result.now inside
-    (λ k. subst (λ r. slice_get c.row_from.result.now k ≡ bitmap_pixel p (pos (0 + k)) (pos r)) c.from.ensures (c.row_from.ensures.pixels k))
+    (λ k. subst (λ r. slice_get c.row_from.result.now k ≡ bitmap_pixel p (pos (0 + k)) (pos r))
+    c.from.ensures (c.row_from.ensures.pixels k))
     c.loop-row.pixels.items c.width-width.ensures.picture c.loop-row.invariant
 
 pub unreachable-requires : goal.unreachable-requires
@@ -21,5 +22,7 @@ unreachable-requires c =
     not_refused p c.in-Err.field-0 c.loop-row.pixels.items c.width-width.ensures.picture
     (all_rows p c.loop-row.pixels.items c.width-width.ensures.picture
     (c.loop-row.invariant ∙ (λ i. take (all i * p.width) p.colors)))
-    (subst (λ w. IsRefused c.in-Err.field-0 w p.height c.loop-row.pixels.items) c.width-width.ensures.width
-    (subst (λ h. IsRefused c.in-Err.field-0 c.width-width.result h c.loop-row.pixels.items) c.height-height.ensures.height c.in-Err.ensures.refused))
+    (subst (λ w. IsRefused c.in-Err.field-0 w p.height c.loop-row.pixels.items)
+    c.width-width.ensures.width
+    (subst (λ h. IsRefused c.in-Err.field-0 c.width-width.result h c.loop-row.pixels.items)
+    c.height-height.ensures.height c.in-Err.ensures.refused))

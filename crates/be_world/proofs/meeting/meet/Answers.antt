@@ -15,12 +15,14 @@ give-requires-clause-allowed c =
 pub give-requires-clause-suits : goal.give-requires-clause-suits
 give-requires-clause-suits c =
     suited_by (declared_by c.args.script.now) c.args.held.now.parts c.args.who c.args.want
-    c.requires.allowed (want.Asks c.in-Asks.runner c.in-Asks.request) c.in-Asks.is c.args.made c.requires.suits
+    c.requires.allowed (want.Asks c.in-Asks.runner c.in-Asks.request) c.in-Asks.is c.args.made
+    c.requires.suits
 
 pub returns-in-Asks : goal.returns-in-Asks
 returns-in-Asks c =
     done_by (declared_by c.args.script.now) c.args.held.now.parts c.args.who c.args.want
-    c.requires.allowed (want.Asks c.in-Asks.runner c.in-Asks.request) c.in-Asks.is c.args.held.now c.give.new.held c.give.ensures
+    c.requires.allowed (want.Asks c.in-Asks.runner c.in-Asks.request) c.in-Asks.is c.args.held.now
+    c.give.new.held c.give.ensures
 
 -- ---- take
 
@@ -49,7 +51,8 @@ take-requires-clause-front c =
 pub returns-in-Takes : goal.returns-in-Takes
 returns-in-Takes c =
     done_by (declared_by c.args.script.now) c.args.held.now.parts c.args.who c.args.want
-    c.requires.allowed (want.Takes c.in-Takes.w) c.in-Takes.is c.args.held.now c.take.new.held c.take.ensures
+    c.requires.allowed (want.Takes c.in-Takes.w) c.in-Takes.is c.args.held.now c.take.new.held
+    c.take.ensures
 
 -- ---- begin
 
@@ -78,7 +81,8 @@ begin-requires-clause-survey c =
 pub returns-in-Begins : goal.returns-in-Begins
 returns-in-Begins c =
     done_by (declared_by c.args.script.now) c.args.held.now.parts c.args.who c.args.want
-    c.requires.allowed (want.Begins c.in-Begins.w) c.in-Begins.is c.args.held.now c.begin.new.held c.begin.ensures
+    c.requires.allowed (want.Begins c.in-Begins.w) c.in-Begins.is c.args.held.now c.begin.new.held
+    c.begin.ensures
 
 -- ---- flush
 
@@ -90,7 +94,8 @@ flush-requires c =
 pub returns-in-Flushes : goal.returns-in-Flushes
 returns-in-Flushes c =
     done_by (declared_by c.args.script.now) c.args.held.now.parts c.args.who c.args.want
-    c.requires.allowed (want.Flushes c.in-Flushes.w) c.in-Flushes.is c.args.held.now c.flush.new.held c.flush.ensures
+    c.requires.allowed (want.Flushes c.in-Flushes.w) c.in-Flushes.is c.args.held.now
+    c.flush.new.held c.flush.ensures
 
 -- ---- put_end
 
@@ -102,7 +107,8 @@ put_end-requires c =
 pub returns-in-DrawsEnd : goal.returns-in-DrawsEnd
 returns-in-DrawsEnd c =
     done_by (declared_by c.args.script.now) c.args.held.now.parts c.args.who c.args.want
-    c.requires.allowed (want.DrawsEnd c.in-DrawsEnd.w) c.in-DrawsEnd.is c.args.held.now c.put_end.new.held c.put_end.ensures
+    c.requires.allowed (want.DrawsEnd c.in-DrawsEnd.w) c.in-DrawsEnd.is c.args.held.now
+    c.put_end.new.held c.put_end.ensures
 
 -- ---- end
 
@@ -114,7 +120,8 @@ end-requires c =
 pub returns-in-Ends : goal.returns-in-Ends
 returns-in-Ends c =
     done_by (declared_by c.args.script.now) c.args.held.now.parts c.args.who c.args.want
-    c.requires.allowed (want.Ends c.in-Ends.w) c.in-Ends.is c.args.held.now c.end.new.held c.end.ensures
+    c.requires.allowed (want.Ends c.in-Ends.w) c.in-Ends.is c.args.held.now c.end.new.held
+    c.end.ensures
 
 -- ---- notify
 
@@ -129,7 +136,8 @@ into_letter-requires c =
     (allowed_by (declared_by c.args.script.now) c.args.held.now.parts c.args.who c.args.want
     c.requires.allowed (want.Notifies c.in-Notifies.w) c.in-Notifies.is)
     (suited_by (declared_by c.args.script.now) c.args.held.now.parts c.args.who c.args.want
-    c.requires.allowed (want.Notifies c.in-Notifies.w) c.in-Notifies.is c.args.made c.requires.suits)
+    c.requires.allowed (want.Notifies c.in-Notifies.w) c.in-Notifies.is c.args.made
+    c.requires.suits)
 
 pub notify-requires-clause-letter : goal.notify-requires-clause-letter
 notify-requires-clause-letter c =
@@ -137,13 +145,15 @@ notify-requires-clause-letter c =
     (allowed_by (declared_by c.args.script.now) c.args.held.now.parts c.args.who c.args.want
     c.requires.allowed (want.Notifies c.in-Notifies.w) c.in-Notifies.is)
     (suited_by (declared_by c.args.script.now) c.args.held.now.parts c.args.who c.args.want
-    c.requires.allowed (want.Notifies c.in-Notifies.w) c.in-Notifies.is c.args.made c.requires.suits)
+    c.requires.allowed (want.Notifies c.in-Notifies.w) c.in-Notifies.is c.args.made
+    c.requires.suits)
     c.into_letter.result c.into_letter.ensures
 
 pub returns-in-Notifies : goal.returns-in-Notifies
 returns-in-Notifies c =
     done_by (declared_by c.args.script.now) c.args.held.now.parts c.args.who c.args.want
-    c.requires.allowed (want.Notifies c.in-Notifies.w) c.in-Notifies.is c.args.held.now c.notify.new.held c.notify.ensures
+    c.requires.allowed (want.Notifies c.in-Notifies.w) c.in-Notifies.is c.args.held.now
+    c.notify.new.held c.notify.ensures
 
 -- ---- run
 
@@ -160,7 +170,8 @@ run-requires-clause-suits c =
 pub returns-in-Executes : goal.returns-in-Executes
 returns-in-Executes c =
     done_by (declared_by c.args.script.now) c.args.held.now.parts c.args.who c.args.want
-    c.requires.allowed (want.Executes c.in-Executes.w) c.in-Executes.is c.args.held.now c.run.new.held c.run.ensures
+    c.requires.allowed (want.Executes c.in-Executes.w) c.in-Executes.is c.args.held.now
+    c.run.new.held c.run.ensures
 
 -- ---- use_line
 
@@ -177,7 +188,8 @@ use_line-requires-clause-suits c =
 pub returns-in-Uses : goal.returns-in-Uses
 returns-in-Uses c =
     done_by (declared_by c.args.script.now) c.args.held.now.parts c.args.who c.args.want
-    c.requires.allowed (want.Uses c.in-Uses.line) c.in-Uses.is c.args.held.now c.use_line.new.held c.use_line.ensures
+    c.requires.allowed (want.Uses c.in-Uses.line) c.in-Uses.is c.args.held.now c.use_line.new.held
+    c.use_line.ensures
 
 -- ---- stop
 

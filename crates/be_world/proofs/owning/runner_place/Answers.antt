@@ -9,4 +9,5 @@ use Rattle.be_world.proofs.owning.runner_place.Goals as goal
 pub returns-in-App : goal.returns-in-App
 returns-in-App c =
     let d = declared_by c.args.script.now in
-    c.cell_place.ensures d ∙ ap (λ (r : Runner). place_of d (own_part (runner_in r))) (sym c.in-App.is)
+    c.cell_place.ensures d ∙ ap (λ (r : Runner). place_of d (own_part (runner_in r)))
+    (sym c.in-App.is)
