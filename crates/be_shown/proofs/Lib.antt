@@ -1,0 +1,5 @@
+pub mod Panes
+pub mod Owners
+pub mod Rows
+pub mod Told
+pub mod After
