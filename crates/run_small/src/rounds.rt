@@ -23,7 +23,7 @@ pub fn run_rounds(
     };
     let mut made = 0u64;
     for _round in 0..rounds {
-        let parts = world.opening(alloc, each)?;
+        let parts = world.opening(alloc, each, 0)?;
         let ran = run_serial(alloc, world, parts, 1 << 62, seed)?;
         made = made.saturating_add(ran.history.len() as u64);
     }

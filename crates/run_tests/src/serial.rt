@@ -24,7 +24,7 @@ fn run(
         producers,
         consumers,
     };
-    let parts = world.opening(alloc, each)?;
+    let parts = world.opening(alloc, each, 0)?;
     Ok(Some(run_serial(alloc, world, parts, 1 << 62, seed)?))
 }
 

@@ -1,7 +1,7 @@
 //! Runs the small world on a thread for each activity, or on one thread alone, so many times, and
 //! writes how many steps that made: so many producers, so many consumers, so many units for each
-//! producer, and so many rounds of work for each step, as the words on the command line say.
-//! `bench/workers` times it.
+//! producer, so many that the first consumer has at the start, and so many rounds of work for each
+//! step, as the words on the command line say. `bench/workers` times it.
 #![tactic(auto)]
 
 mod runs;
@@ -13,7 +13,7 @@ use std::process::ExitCode;
 use std::{env, io};
 use words::read_words;
 
-const USAGE: &str = "usage: run_workers threads|one PRODUCERS CONSUMERS UNITS WORK RUNS";
+const USAGE: &str = "usage: run_workers threads|one PRODUCERS CONSUMERS UNITS STORED WORK RUNS";
 
 /// The first two numbers are of 16 bits and the others of 32. Other words end with status 2, as do
 /// no consumers and more than 128 activities, and want of memory with 1.

@@ -26,6 +26,8 @@ pub struct Orders {
     pub world: World,
     /// Units for each producer.
     pub each: u32,
+    /// Units that the first consumer has at the start.
+    pub stored: u32,
     /// Rounds of work for each step.
     pub work: u32,
     pub runs: u32,
@@ -55,14 +57,14 @@ fn run_threads<R: Threads + Wait + Sync>(
     orders: Orders,
     gate: &Stirs,
 ) -> Result<u64, NoMemory> {
-    let parts = orders.world.opening(alloc, orders.each)?;
+    let parts = orders.world.opening(alloc, orders.each, orders.stored)?;
     let closed = run_on_threads(rt, alloc, orders.world, parts, gate)?;
     Ok(closed.history.len() as u64)
 }
 
 // The work of all steps comes behind the run, which asks no gate.
 fn run_one(alloc: Global, orders: Orders, gate: &Stirs) -> Result<u64, NoMemory> {
-    let parts = orders.world.opening(alloc, orders.each)?;
+    let parts = orders.world.opening(alloc, orders.each, orders.stored)?;
     let ran = run_serial(alloc, orders.world, parts, 1 << 62, 0)?;
     for step in ran.history.iter() {
         gate.at(Spot::Inside, orders.world.actor_of(*step));

@@ -8,7 +8,7 @@ const MOST_ACTIVITIES: u32 = 128;
 
 /// What the words ask for. None where they are others.
 pub fn read_words(words: &[String<Global>]) -> Option<Orders> {
-    let [driver, producers, consumers, each, work, runs] = words else {
+    let [driver, producers, consumers, each, stored, work, runs] = words else {
         return None;
     };
     let driver = match driver.as_str() {
@@ -23,6 +23,7 @@ pub fn read_words(words: &[String<Global>]) -> Option<Orders> {
             consumers.parse::<u16>().ok()?,
         )?,
         each: each.parse::<u32>().ok()?,
+        stored: stored.parse::<u32>().ok()?,
         work: work.parse::<u32>().ok()?,
         runs: runs.parse::<u32>().ok()?,
     })

@@ -72,7 +72,7 @@ module _ (part : Count → ℕ) where
 
 -- a counter has at most so many units, and one
 abbrev pub Fit : ℕ → Count → Type 0
-Fit n c = c.units ≤ n + 1
+Fit n c = c.units ≤ n + 4294967296
 
 module _ (n k : ℕ) (more : (c : Count) → Fit n c → Fit k c) where
   all_more : (l : List Count) → AllFit Fit n l → AllFit Fit k l

@@ -131,5 +131,5 @@ module _ (w : World) where
     touches = Touches;
     budget = λ c. 2 * c.left + c.units;
     keeper = actor_of;
-    fits = λ n c. c.units ≤ n + 1;
+    fits = λ n c. c.units ≤ n + 4294967296;
   }

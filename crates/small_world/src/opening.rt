@@ -13,10 +13,12 @@ use be_geom::NoMemory;
 use std::alloc::Global;
 
 impl World {
-    /// All counters at the start, where each producer has so many units to give. They make two
-    /// steps for each of these units, and the closing one.
-    pub fn opening(&self, alloc: Global, each: u32) -> Result<Vec<Counter>, NoMemory>
-        ensures counts { IfOk result (λ v. map count_of v.items ≡ opening_counts self.now each) }
+    /// All counters at the start, where each producer has so many units to give, and the first
+    /// consumer so many stored. They make two steps for each unit that is given, one for each that
+    /// is stored, and the closing one.
+    pub fn opening(&self, alloc: Global, each: u32, stored: u32) -> Result<Vec<Counter>, NoMemory>
+        ensures counts { IfOk result
+            (λ v. map count_of v.items ≡ opening_counts self.now each stored) }
         ensures few { IfOk result (λ v. vec_len v < 2 ^ 32) }
 
         // A run may begin with them.
@@ -31,20 +33,26 @@ impl World {
         let places = self.closing() + 1;
         let mut parts = Vec::with_capacity(alloc, places as usize)?;
         for activity in 0..places {
-            parts.push_reserved(Counter::new(alloc, self.opening_count(activity, each)));
+            parts.push_reserved(Counter::new(alloc, self.opening_count(activity, each, stored)));
         }
         Ok(parts)
     }
 
-    fn opening_count(&self, activity: u32, each: u32) -> Count
-        ensures { result ≡ opening_count self.now each activity }
+    fn opening_count(&self, activity: u32, each: u32, stored: u32) -> Count
+        ensures { result ≡ opening_count self.now each stored activity }
     {
         let left = if activity < u32::from(self.producers) {
             u64::from(each)
         } else {
             0
         };
-        let units = if activity < self.closing() { 0 } else { 1 };
+        let units = if activity >= self.closing() {
+            1
+        } else if activity == u32::from(self.producers) {
+            u64::from(stored)
+        } else {
+            0
+        };
         Count { left, units }
     }
 }

@@ -62,7 +62,7 @@ pub(crate) fn run<R: Threads + Wait + Sync, G: Gate + Sync>(
         producers: size.producers,
         consumers: size.consumers,
     };
-    let parts = world.opening(alloc, size.each)?;
+    let parts = world.opening(alloc, size.each, 0)?;
     let (history, parts) = match driver {
         Driver::Threads => {
             let closed = run_on_threads(rt, alloc, world, parts, gate)?;

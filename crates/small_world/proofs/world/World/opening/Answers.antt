@@ -13,10 +13,10 @@ use Rattle.small_world.proofs.world.World.opening.Goals.{After-loop-activity}
 
 -- all of them are there
 whole : (c : After-loop-activity) →
-    map count_of c.loop-activity.parts.items ≡ opening_counts c.args.self.now c.args.each
+    map count_of c.loop-activity.parts.items ≡ opening_counts c.args.self.now c.args.each c.args.stored
 whole c =
     let many : c.loop-activity.activity ≡ closing_place c.args.self.now + 1 = omega arith in
-    c.loop-activity.invariant.0 ∙ ap (opening_below c.args.self.now c.args.each) many
+    c.loop-activity.invariant.0 ∙ ap (opening_below c.args.self.now c.args.each c.args.stored) many
 
 pub loop-activity-preserved : goal.loop-activity-preserved
 loop-activity-preserved c =
@@ -25,7 +25,7 @@ loop-activity-preserved c =
     let items = c.loop-activity.parts.items in
     let new = c.new.result in
     let grown = c.push_reserved.ensures.items in
-    let next = opening_next w c.args.each c.loop-activity.activity in
+    let next = opening_next w c.args.each c.args.stored c.loop-activity.activity in
     let count = c.new.ensures.count ∙ c.opening_count.ensures in (
       ap (map count_of) grown ∙ (map_snoc count_of items new
           ∙ ((λ k. i.0 k ++ count k ∷ []) ∙ sym next)),
@@ -38,20 +38,20 @@ loop-activity-preserved c =
 pub returns-clause-sound : goal.returns-clause-sound
 returns-clause-sound c =
     let w = c.args.self.now in
-    subst (IsSound w) (sym (whole c)) (sound_at_start w c.args.each)
+    subst (IsSound w) (sym (whole c)) (sound_at_start w c.args.each c.args.stored)
 
 pub returns-clause-unclosed : goal.returns-clause-unclosed
 returns-clause-unclosed c =
     let w = c.args.self.now in
-    subst (λ l. is_closed w l ≡ false) (sym (whole c)) (open_at_start w c.args.each)
+    subst (λ l. is_closed w l ≡ false) (sym (whole c)) (open_at_start w c.args.each c.args.stored)
 
 pub returns-clause-budgets : goal.returns-clause-budgets
 returns-clause-budgets c =
     let w = c.args.self.now in
     subst (λ l. total (passing w).budget l ≤ 4611686018427387904) (sym (whole c))
-    (cost_at_start w c.args.each (omega arith) (omega arith))
+    (cost_at_start w c.args.each c.args.stored (omega arith) (omega arith) (omega arith))
 
 pub returns-clause-fits : goal.returns-clause-fits
 returns-clause-fits c =
     let w = c.args.self.now in
-    subst (AllFit Fit 0) (sym (whole c)) (fit_at_start w c.args.each)
+    subst (AllFit Fit 0) (sym (whole c)) (fit_at_start w c.args.each c.args.stored (omega arith))
