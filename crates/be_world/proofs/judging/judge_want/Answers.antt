@@ -10,8 +10,8 @@ use Rattle.be_script.specs.Script.{declared_by}
 use Rattle.be_world.proofs.WorkMade.{may_make, prepared_by, same_entry}
 use Rattle.be_world.proofs.judging.judge_want.Goals as goal
 
-pub make-requires : goal.make-requires
-make-requires c =
+pub make-requires-clause-allowed : goal.make-requires-clause-allowed
+make-requires-clause-allowed c =
     let d = declared_by c.args.script.now in
     let parts = c.args.held.now.parts in
     may_make d parts c.args.entry.now c.args.who c.args.want (act_in c.in-May.deed) c.requires.asked

@@ -11,8 +11,8 @@ make_asked-requires c =
     allowed_by (declared_by c.args.script.now) c.args.held.now.parts c.args.who c.args.want
     c.requires.allowed (want.Asks c.in-Asks.runner c.in-Asks.request) c.in-Asks.is
 
-pub message_in_front-requires : goal.message_in_front-requires
-message_in_front-requires c =
+pub message_in_front-requires-clause-allowed : goal.message_in_front-requires-clause-allowed
+message_in_front-requires-clause-allowed c =
     allowed_by (declared_by c.args.script.now) c.args.held.now.parts c.args.who c.args.want
     c.requires.allowed (want.Takes c.in-Takes.w) c.in-Takes.is
 
