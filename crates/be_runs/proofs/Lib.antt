@@ -1,0 +1,3 @@
+mod Listed
+pub mod Follows
+mod Scheduling
