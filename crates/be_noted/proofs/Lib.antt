@@ -1,0 +1,9 @@
+pub mod Whole
+pub mod Following
+pub mod Makers
+pub mod Traces
+pub mod Letters
+pub mod Updates
+pub mod Memos
+pub mod Foretelling
+pub mod Kept

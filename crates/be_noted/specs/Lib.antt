@@ -1,0 +1,3 @@
+pub mod Memos
+pub mod Foretold
+pub mod Following
