@@ -1,9 +1,2 @@
-pub mod Pieces
-pub mod Rows
-pub mod ToldNumbers
-pub mod ToldWords
-pub mod Told
-pub mod ToldLegal
-pub mod ToldScripts
-pub mod Served
-pub mod Checked
+mod Lines
+mod Writing

@@ -1,14 +1,15 @@
 -- What `check` writes of a script.
-use Rattle.std.specs.Prelude.{ℕ, ◌+◌, ◌*◌, List, ◌++◌, length, codes}
+use Rattle.std.specs.Prelude.{ℕ, List, [], ◌∷◌, ◌++◌, codes}
 use Rattle.std.specs.Fmt.{decimal}
+use Rattle.be_machine.specs.Activities.{activities}
 use Rattle.be_script.specs.Script.{Declared}
 use Rattle.be_script.specs.Work.{work_of}
-use Rattle.app_server.specs.EntryText.{line_of}
+use Rattle.be_written.specs.Lines.{line_of}
 
--- each application, the looper and the twin of each window, input, and what closes the run
-abbrev pub activities_of : Declared → ℕ
-activities_of d = length d.apps + 2 * length d.windows + 2
+-- a word and a number
+abbrev pub count_line : List ℕ → ℕ → List ℕ
+count_line word n = line_of (word ∷ decimal n ∷ [])
 
--- a line of each
 abbrev pub check_text : Declared → List ℕ
-check_text d = line_of (codes "work " ++ decimal (work_of d)) ++ line_of (codes "activities " ++ decimal (activities_of d))
+check_text d =
+    count_line (codes "work") (work_of d) ++ count_line (codes "activities") (activities d)

@@ -1,11 +1,16 @@
 -- The commands that the words on the command line spell.
-use Rattle.std.specs.Prelude.{ℕ, List, [], ◌∷◌, ◌&&◌, Option, Some, None, codes, if◌then◌else◌}
-use Rattle.std.specs.Str.{bytes_eq}
+use Rattle.std.specs.Prelude.{ℕ, List, [], ◌∷◌, Option, codes}
 use Rattle.app_server.specs.declared.command.CommandWords.{CommandWords}
 use Rattle.app_server.specs.declared.command.CommandWords.TheVariants.{Serial, Check}
+use Rattle.be_report.specs.Readers.{Reader, ◌>>=◌, gives, all_of, one_of, number}
 
--- the words `serial` and `0`, or the word `check`, each just so, and nothing else
-abbrev pub command_of : List (List ℕ) → Option CommandWords
-command_of (first ∷ second ∷ []) = if bytes_eq first (codes "serial") && bytes_eq second (codes "0") then Some Serial else None
-command_of (word ∷ []) = if bytes_eq word (codes "check") then Some Check else None
-command_of words = None
+-- each by its first word; a seed is a number of 32 bits
+abbrev pub commands : List (List ℕ × Reader CommandWords)
+commands =
+    (codes "serial", number 32 >>= λ seed. gives (Serial seed))
+    ∷ (codes "check", gives Check)
+    ∷ []
+
+-- the command that the words spell, each just so and none more, if they spell one
+unfoldable pub command_of : List (List ℕ) → Option CommandWords
+command_of words = all_of (one_of commands >>= λ read. read) words

@@ -1,9 +1,9 @@
-pub mod CheckText
 pub mod Commands
-pub mod EntryText
-pub mod Headline
-pub mod Report
-pub mod ScreenText
 pub mod Statuses
-pub mod Told
-pub mod TraceText
+pub mod Inputs
+pub mod CheckText
+pub mod Served
+pub mod Answers
+pub mod Headline
+pub mod Scripts
+pub mod Runs

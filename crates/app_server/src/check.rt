@@ -1,40 +1,31 @@
-ghost use Rattle.std.specs.Prelude.{◌≡◌, IfOk};
+ghost use Rattle.std.specs.Prelude.{◌≡◌, ◌++◌, OnOk, IfOk};
+ghost use Rattle.app_server.specs.CheckText.{check_text, count_line};
+ghost use Rattle.app_server.specs.Headline.{turn, Answers};
+ghost use Rattle.app_server.specs.declared.command.CommandWords.TheVariants.{Check};
+ghost use Rattle.be_machine.specs.Activities.{activities};
 ghost use Rattle.be_script.specs.Limits.{IsWithinLimits};
 ghost use Rattle.be_script.specs.Script.{declared_by};
-ghost use Rattle.app_server.specs.CheckText.{activities_of, check_text};
-ghost use Rattle.app_server.specs.Headline.{turn, CheckAnswers};
 
-use crate::input::{InputFault, read_all};
-use crate::report::{Page, put_lines};
-use crate::status::{ScriptReason, Status};
+use crate::script::script_from;
+use crate::status::Status;
 use be_geom::NoMemory;
+use be_lex::write_natural;
 use be_outside::{Sink, Source};
-use be_reader::{ScriptFault, read};
+use be_report::put_lines;
 use be_script::{Script, limits_make_routable, work};
 use std::alloc::Global;
 
 /// Judges a script, and writes how much work it is at most, and how many activities run it.
 pub fn check<S: Source, K: Sink>(alloc: Global, source: &mut S, sink: &mut K) -> Status
-    ensures { CheckAnswers (turn S.left S.faults source.old source.new)
+    ensures { Answers Check (turn S.left S.faults source.old source.new)
         (turn K.held K.faults sink.old sink.new) result }
 {
-    let bytes = match read_all(alloc, source) {
-        Ok(bytes) => bytes,
-        Err(InputFault::ReadFault) => return Status::ReadFault,
-        Err(InputFault::NoMemory) => return Status::NoMemory,
-    };
-    let script = match read(alloc, bytes.as_slice()) {
+    let script = match script_from(alloc, source) {
         Ok(script) => script,
-        Err(ScriptFault::At { line, reason }) => {
-            return Status::BadScript {
-                line,
-                reason: ScriptReason::Whole(reason),
-            };
-        }
-        Err(ScriptFault::NoMemory) => return Status::NoMemory,
+        Err(status) => return status,
     };
     match text(alloc, &script) {
-        Ok(page) => match put_lines(page.as_slice(), sink) {
+        Ok(text) => match put_lines(text.as_slice(), sink) {
             Ok(()) => Status::Finished,
             Err(_) => Status::WriteFault,
         },
@@ -42,25 +33,32 @@ pub fn check<S: Source, K: Sink>(alloc: Global, source: &mut S, sink: &mut K) ->
     }
 }
 
-fn text(alloc: Global, script: &Script) -> Result<Page, NoMemory>
+fn text(alloc: Global, script: &Script) -> Result<Vec<u8>, NoMemory>
     requires { IsWithinLimits (declared_by script.now) }
-    ensures { IfOk result (λ page. page ≡ check_text (declared_by script.now)) }
+    ensures { IfOk result (λ text. text.items ≡ check_text (declared_by script.now)) }
 {
     limits_make_routable(script);
-    let mut page = Page::new(alloc);
-    page.text(b"work ")?;
-    page.number(work(alloc, script)?)?;
-    page.end_line()?;
-    page.text(b"activities ")?;
-    page.number(activities(script))?;
-    page.end_line()?;
-    Ok(page)
+    let mut text = Vec::new(alloc);
+    write_count(&mut text, b"work", work(alloc, script)?)?;
+    write_count(&mut text, b"activities", activities(script))?;
+    Ok(text)
+}
+
+/// A line of a word and a number.
+fn write_count(text: &mut Vec<u8>, word: &[u8], number: u64) -> Result<(), NoMemory>
+    ensures { OnOk result (text.new.items ≡ text.old.items ++ count_line word.now number) }
+{
+    text.extend_from_slice(word)?;
+    text.push(b' ')?;
+    write_natural(text, number)?;
+    text.push(b'\n')?;
+    Ok(())
 }
 
 /// One for each application, two for each window, one for input, and one that closes the run.
 fn activities(script: &Script) -> u64
     requires { IsWithinLimits (declared_by script.now) }
-    ensures { result ≡ activities_of (declared_by script.now) }
+    ensures { result ≡ activities (declared_by script.now) }
 {
     script.apps.len() as u64 + 2 * script.windows.len() as u64 + 2
 }

@@ -1,6 +1,6 @@
 ghost use Rattle.std.specs.Prelude.{◌≡◌, IfOk};
+ghost use Rattle.app_server.specs.Headline.{turn, WasRead};
 ghost use Rattle.be_outside.specs.Faults.{FaultsRose};
-ghost use Rattle.app_server.specs.Headline.{WasRead};
 
 use be_outside::{Failed, Source};
 use std::alloc::Global;
@@ -17,8 +17,10 @@ pub enum InputFault {
 
 /// Reads a source to its end, or to `LIMIT` bytes.
 pub fn read_all<S: Source>(alloc: Global, source: &mut S) -> Result<Vec<u8>, InputFault>
-    ensures read { IfOk result (λ v. WasRead (S.left source.old) (S.left source.new) v.items) }
-    ensures fault { result ≡ Err InputFault.ReadFault → FaultsRose (S.faults source.old) (S.faults source.new) }
+    ensures read { IfOk result
+        (λ v. WasRead 1048576 (turn S.left S.faults source.old source.new) v.items) }
+    ensures fault { result ≡ Err InputFault.ReadFault
+        → FaultsRose (S.faults source.old) (S.faults source.new) }
 {
     let mut bytes = Vec::new(alloc);
     let mut buffer = [0; 4096];

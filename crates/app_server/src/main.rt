@@ -4,11 +4,12 @@
 
 ghost use Rattle.std.specs.Prelude.{◌≡◌, ◌⊎◌, IfErr};
 
+mod answer;
 mod check;
 mod command;
 mod input;
-mod laws;
-mod report;
+mod script;
+mod serial;
 mod serve;
 mod status;
 #[cfg(test)]
@@ -23,8 +24,6 @@ use std::{env, io};
 /// Serves standard input and output by the words on the command line. What the status has to say goes
 /// to standard error, and its number is the program's exit status.
 fn main(rt: HostRuntime) -> ExitCode {
-    // It does nothing: what counts of a law is that it is proved.
-    laws::a_report_tells_one_history();
     let mut source = ReaderSource::new(rt.stdin());
     let mut sink = WriterSink::new(rt.stdout());
     let status = match words(&rt) {

@@ -1,16 +1,8 @@
 ghost use Rattle.std.specs.Prelude.{◌≡◌};
 ghost use Rattle.app_server.specs.Statuses.{number_of};
 
+use be_command::Reason;
 use thiserror::Error;
-
-/// Why bytes aren't a script: told by the reader of the first path, or by that of the whole language.
-#[derive(Clone, Copy, Debug, PartialEq, Eq, Error)]
-pub enum ScriptReason {
-    #[error("{0:?}")]
-    First(first_script::Reason),
-    #[error("{0:?}")]
-    Whole(be_command::Reason),
-}
 
 /// How a call of the server ended.
 #[derive(Clone, Copy, Debug, PartialEq, Eq, Error)]
@@ -21,8 +13,8 @@ pub enum Status {
     Illegal { entry: u64 },
     #[error("usage: app_server run | serial S | check | make N | drill N | replay | explain X Y")]
     Usage,
-    #[error("script line {line}: {reason}")]
-    BadScript { line: u64, reason: ScriptReason },
+    #[error("script line {line}: {reason:?}")]
+    BadScript { line: u64, reason: Reason },
     #[error("read fault")]
     ReadFault,
     #[error("write fault")]

@@ -1,7 +1,7 @@
 use crate::serve::serve_alone;
-use crate::status::{ScriptReason, Status};
+use crate::status::Status;
+use be_command::Reason;
 use be_outside::{MemorySink, MemorySource};
-use first_script::Reason;
 use std::alloc::Global;
 use std::test::Fail;
 
@@ -47,7 +47,7 @@ fn listed(alloc: Global, number: Option<u64>) -> Result<Vec<u64>, Fail> {
 fn serves_scripts(rt: HostRuntime) -> Result<(), Fail> {
     let unfinished = Status::BadScript {
         line: 1,
-        reason: ScriptReason::First(Reason::Unfinished),
+        reason: Reason::Unfinished,
     };
     for (script, status, report) in [
         (FIRST_WINDOW, Status::Finished, FIRST_REPORT),

@@ -1,0 +1,24 @@
+use Rattle.std.proofs.Common.{◌≡◌, List, map, ap, subst, sym, ◌∙◌}
+use Rattle.be_machine.specs.History.{IsLegalHistory, state_after}
+use Rattle.be_machine.specs.declared.Entry.{Entry}
+use Rattle.be_parts.specs.Parts.{meaning_of}
+use Rattle.be_rules.specs.Slices.{slices}
+use Rattle.be_script.specs.Script.{Declared, declared_by}
+use Rattle.app_server.proofs.answer.answer.Goals as goal
+
+pub report-requires-clause-cells : goal.report-requires-clause-cells
+report-requires-clause-cells g c =
+    let d = declared_by c.script-script.result.now in
+    let run = c.args.run.now in
+    let h = c.as_slice-2.result.now in
+    let same : d ≡ run.world = c.script-script.ensures.declared in
+    let all : h ≡ run.history.items = c.as_slice-2.ensures.value in
+    let legal : IsLegalHistory d h =
+    subst (IsLegalHistory d) (sym all)
+    (subst (λ (x : Declared). IsLegalHistory x run.history.items) (sym same)
+    c.requires.finished.legal) in
+    let parts : map meaning_of c.as_slice.result.now ≡ slices d (state_after d h) =
+    ap (map meaning_of) c.as_slice.ensures.value ∙ c.requires.parts
+    ∙ ap (λ (x : Declared). slices x (state_after x run.history.items)) (sym same)
+    ∙ ap (λ (x : List Entry). slices d (state_after d x)) (sym all) in
+    c.in-Ok-new.ensures.after h legal parts

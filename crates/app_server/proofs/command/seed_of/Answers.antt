@@ -1,0 +1,10 @@
+use Rattle.std.proofs.Common.{arith}
+use Rattle.be_report.proofs.NumberWords.{natural_parts}
+use Rattle.app_server.proofs.command.seed_of.Goals as goal
+
+pub overflow_cast-result : goal.overflow_cast-result
+overflow_cast-result c =
+    let within = c.in_ok-seed.ensures {u = tt} in
+    let high = (natural_parts _ _ within.0).1 in
+    let from = c.from.ensures in
+    omega arith

@@ -1,0 +1,39 @@
+//! The report of a run, and what is answered then.
+ghost use Rattle.app_server.specs.Headline.{turn};
+ghost use Rattle.app_server.specs.Runs.{IsAnswered};
+ghost use Rattle.be_runs.specs.Runs.{Leaves};
+
+use crate::status::Status;
+use be_noted::Follower;
+use be_outside::Sink;
+use be_report::{ReportFault, report};
+use be_runs::Finished;
+use be_shown::Shown;
+use std::alloc::Global;
+
+/// Writes the report of a finished run.
+pub fn answer<K: Sink>(alloc: Global, run: &Finished, sink: &mut K) -> Status
+    requires { Leaves run.now.world run.now }
+    ensures { IsAnswered run.now.world run.now.history.items
+        (turn K.held K.faults sink.old sink.new) result }
+{
+    let script = run.world.script();
+    let Ok(mut notes) = Follower::new(alloc, &run.world) else {
+        return Status::NoMemory;
+    };
+    let Ok(screen) = Shown::new(alloc, script, run.parts.as_slice()) else {
+        return Status::NoMemory;
+    };
+    match report(
+        alloc,
+        script,
+        run.history.as_slice(),
+        &mut notes,
+        &screen,
+        sink,
+    ) {
+        Ok(()) => Status::Finished,
+        Err(ReportFault::WriteFault) => Status::WriteFault,
+        Err(ReportFault::NoMemory) => Status::NoMemory,
+    }
+}
