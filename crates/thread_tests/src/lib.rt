@@ -4,8 +4,6 @@
 #[cfg(test)]
 mod met;
 #[cfg(test)]
-mod one_lock;
-#[cfg(test)]
 mod refused;
 #[cfg(test)]
 mod replay;

@@ -1,6 +1,5 @@
-use crate::one_lock::OneLock;
 use crate::runs::{Driver, Size, asks_at_each_spot, check_history, run};
-use run_gates::{HoldsBefore, HoldsInside};
+use run_gates::{HoldsBefore, HoldsInside, OneLock};
 use std::test::Fail;
 
 const SMALL: Size = Size {

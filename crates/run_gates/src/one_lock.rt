@@ -4,9 +4,10 @@ use be_outside::{Gate, Spot};
 use std::sync::Wait;
 use std::sync::atomic::{AtomicU64, Ordering};
 
-/// One lock around each turn, and around the calls of another gate in it.
+/// One lock around each turn, and around the calls of another gate in it. A run with it does what a
+/// run under one lock would: while one activity is held, nobody else comes to a spot.
 #[derive(Drop)]
-pub(crate) struct OneLock<'a, R: Wait, G> {
+pub struct OneLock<'a, R: Wait, G> {
     rt: &'a R,
     gate: &'a G,
     // 1 while a turn has the lock.
@@ -14,7 +15,7 @@ pub(crate) struct OneLock<'a, R: Wait, G> {
 }
 
 impl<'a, R: Wait, G: Gate> OneLock<'a, R, G> {
-    pub(crate) fn new(rt: &'a R, gate: &'a G) -> OneLock<'a, R, G> {
+    pub fn new(rt: &'a R, gate: &'a G) -> OneLock<'a, R, G> {
         OneLock {
             rt,
             gate,
