@@ -1,0 +1,75 @@
+//! A run of a script.
+ghost use Rattle.std.specs.Prelude.{◌≡◌, ◌<◌, IfOk, map};
+ghost use Rattle.be_machine.specs.State.{opening_state};
+ghost use Rattle.be_parts.specs.Parts.{meaning_of};
+ghost use Rattle.be_rules.specs.Rules.{world_machine};
+ghost use Rattle.be_rules.specs.Slices.{slices};
+ghost use Rattle.be_runs.specs.Runs.{Leaves};
+ghost use Rattle.be_turns.specs.Turning.{IsFinished};
+ghost use Rattle.be_world.specs.Turns.{is_last};
+
+use crate::crew::work_all;
+use be_bells::Bells;
+use be_geom::NoMemory;
+use be_hall::{Hall, Parts};
+use be_outside::Gate;
+use be_runs::Finished;
+use be_turns::Turns;
+use be_workers::{finish, hire};
+use be_world::World;
+use std::alloc::Global;
+use std::sync::Wait;
+use std::thread::Threads;
+
+/// Runs all activities of a script, each on a thread of its own, and gives the history that they
+/// made. It may never return. Where a thread couldn't be started, its work is done by the others.
+pub fn run_on_threads<R: Threads + Wait + Sync, G: Gate + Sync>(
+    rt: &R,
+    alloc: Global,
+    world: World,
+    gate: &G,
+) -> Result<Finished, NoMemory>
+    ensures { IfOk result (Leaves world) }
+{
+    let activities = world.activities();
+    run(rt, alloc, world, gate, activities as usize)
+}
+
+/// The same run on this thread alone: one worker begins where the one before it has ended. Each
+/// stands in for those that haven't begun.
+pub fn run_on_one_thread<R: Threads + Wait + Sync, G: Gate + Sync>(
+    rt: &R,
+    alloc: Global,
+    world: World,
+    gate: &G,
+) -> Result<Finished, NoMemory>
+    ensures { IfOk result (Leaves world) }
+{
+    run(rt, alloc, world, gate, 1)
+}
+
+// A run on so many threads at most.
+fn run<R: Threads + Wait + Sync, G: Gate + Sync>(
+    rt: &R,
+    alloc: Global,
+    world: World,
+    gate: &G,
+    threads: usize,
+) -> Result<Finished, NoMemory>
+    requires { 0 < threads }
+    ensures { IfOk result (Leaves world) }
+{
+    let places = world.places();
+    let activities = world.activities();
+    let parts = world.opening()?;
+    let (hall, mut pass) = Hall::open(alloc, world, parts, 1 << 62)?;
+    let mut workers = hire(alloc, &hall, &mut pass)?;
+    let bells = Bells::new(alloc, activities, places)?;
+    work_all(rt, gate, &hall, &bells, workers.as_mut_slice(), threads);
+    let closed = finish(rt, alloc, hall, pass, workers)?;
+    Ok(Finished {
+        world: closed.rules,
+        history: closed.history,
+        parts: closed.parts,
+    })
+}
