@@ -1,0 +1,7 @@
+pub mod Trying
+pub mod Coming
+pub mod Illegal
+pub mod Changing
+pub mod Deciding
+pub mod Looking
+pub mod Watched

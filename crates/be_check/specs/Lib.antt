@@ -1,0 +1,4 @@
+pub mod Checking
+pub mod Explaining
+pub mod Stepping
+pub mod Laws
