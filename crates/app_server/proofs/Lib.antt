@@ -1,2 +1,4 @@
 mod Lines
+mod Split
+mod Parted
 mod Writing

@@ -1,14 +1,16 @@
 -- Which answers a command may give to the bytes that it read, each with its cause, and what it has
 -- written then.
-use Rattle.std.specs.Prelude.{◌≡◌, ℕ, List, [], ◌++◌, Result, Err}
+use Rattle.std.specs.Prelude.{◌≡◌, ℕ, List, [], ◌++◌, Result, Ok, Err}
 use Rattle.app_server.specs.declared.command.CommandWords.{CommandWords}
-use Rattle.app_server.specs.declared.command.CommandWords.TheVariants.{Serial, Check}
+use Rattle.app_server.specs.declared.command.CommandWords.TheVariants.{Run, Serial, Check, Make}
+use Rattle.app_server.specs.declared.command.CommandWords.TheVariants.{Replay, Explain}
 use Rattle.app_server.specs.declared.status.Status.{Status}
 use Rattle.app_server.specs.declared.status.Status.TheVariants.{Finished, Illegal, Usage}
 use Rattle.app_server.specs.declared.status.Status.TheVariants.{BadScript, ReadFault, WriteFault}
 use Rattle.app_server.specs.declared.status.Status.TheVariants.{NoMemory}
-use Rattle.app_server.specs.Inputs.{script_in}
+use Rattle.app_server.specs.Inputs.{Told, script_in, told_in}
 use Rattle.app_server.specs.Served.{Writes}
+use Rattle.be_check.specs.Checking.{IsIllegalAt}
 use Rattle.be_command.specs.declared.fault.Reason.{Reason}
 use Rattle.be_reader.specs.Grammar.{Fault}
 
@@ -17,18 +19,37 @@ abbrev pub IsFault : {X : Type 0} → Result X Fault → ℕ → Reason → Type
 IsFault read line reason = read ≡ Err (record { line = line; reason = reason })
 
 abbrev pub IsBadFor : CommandWords → List ℕ → ℕ → Reason → Type 0
+IsBadFor Run bytes line reason = IsFault (script_in bytes) line reason
 IsBadFor (Serial seed) bytes line reason = IsFault (script_in bytes) line reason
 IsBadFor Check bytes line reason = IsFault (script_in bytes) line reason
+IsBadFor (Make n) bytes line reason = ⊥
+IsBadFor Replay bytes line reason = IsFault (told_in bytes) line reason
+IsBadFor (Explain x y) bytes line reason = IsFault (told_in bytes) line reason
+
+-- the bytes tell a history, which is illegal at this entry, or ends before it
+pub record TellsIllegal (bytes : List ℕ) (entry : ℕ) : Type 0 where
+  pub told : Told
+  pub is_told : told_in bytes ≡ Ok told
+  pub illegal : IsIllegalAt told.script told.history entry
+
+abbrev pub IsIllegalFor : CommandWords → List ℕ → ℕ → Type 0
+IsIllegalFor Run bytes entry = ⊥
+IsIllegalFor (Serial seed) bytes entry = ⊥
+IsIllegalFor Check bytes entry = ⊥
+IsIllegalFor (Make n) bytes entry = ⊥
+IsIllegalFor Replay bytes entry = TellsIllegal bytes entry
+IsIllegalFor (Explain x y) bytes entry = TellsIllegal bytes entry
 
 -- a front part of what the command may write: none of it, some or all
 pub record IsFront (command : CommandWords) (bytes written : List ℕ) : Type 0 where
   pub rest : List ℕ
   pub whole : Writes command bytes (written ++ rest)
 
--- A bad input, and want of memory, are answered before anything is written.
+-- A bad or illegal input, and want of memory, are answered before anything is written.
 abbrev pub IsServed : CommandWords → List ℕ → List ℕ → Status → Type 0
 IsServed command bytes written Finished = Writes command bytes written
-IsServed command bytes written (Illegal entry) = ⊥
+IsServed command bytes written (Illegal entry) =
+    IsIllegalFor command bytes entry × (written ≡ [])
 IsServed command bytes written Usage = ⊥
 IsServed command bytes written (BadScript line reason) =
     IsBadFor command bytes line reason × (written ≡ [])

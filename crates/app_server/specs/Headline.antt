@@ -1,8 +1,9 @@
 -- What the answer of a call of the server says of the source and the sink that it was given, where
 -- bytes are told.
-use Rattle.std.specs.Prelude.{◌≡◌, ℕ, ◌+◌, ◌≤◌, ◌⊎◌, List, length, Option, Some, None}
+use Rattle.std.specs.Prelude.{◌≡◌, ℕ, ◌+◌, ◌≤◌, ◌⊎◌, List, [], length, Option, Some, None}
 use Rattle.app_server.specs.declared.command.CommandWords.{CommandWords}
-use Rattle.app_server.specs.declared.command.CommandWords.TheVariants.{Serial, Check}
+use Rattle.app_server.specs.declared.command.CommandWords.TheVariants.{Run, Serial, Check, Make}
+use Rattle.app_server.specs.declared.command.CommandWords.TheVariants.{Replay, Explain}
 use Rattle.app_server.specs.declared.status.Status.{Status}
 use Rattle.app_server.specs.declared.status.Status.TheVariants.{Finished, Illegal, Usage}
 use Rattle.app_server.specs.declared.status.Status.TheVariants.{BadScript, ReadFault, WriteFault}
@@ -44,18 +45,26 @@ HasFailed t = FaultsRose t.faults_before t.faults_after
 
 -- ---- what was read
 
--- how many bytes the input of a command may have
-abbrev pub most_bytes : CommandWords → ℕ
-most_bytes (Serial seed) = 1048576
-most_bytes Check = 1048576
+-- how many bytes the input of a command may have; one that reads nothing has none
+abbrev pub most_bytes : CommandWords → Option ℕ
+most_bytes Run = Some 1048576
+most_bytes (Serial seed) = Some 1048576
+most_bytes Check = Some 1048576
+most_bytes (Make n) = None
+most_bytes Replay = Some 67108864
+most_bytes (Explain x y) = Some 67108864
 
--- the bytes are those that the source had left before the call and not after it: all of them, or one
--- more than the most
+-- the bytes are those that the source had left before the call and not after it: all of them, or
+-- one more than the most
 pub record WasRead {Object : Type 0} (most : ℕ) (source : Turn Object) (bytes : List ℕ)
     : Type 0 where
   pub front : source.before ≡ with_front bytes source.after
   pub within : length bytes ≤ most + 1
   pub whole : IsDrained source.after ⊎ (length bytes ≡ most + 1)
+
+abbrev pub WasReadBy : {Object : Type 0} → Option ℕ → Turn Object → List ℕ → Type 0
+WasReadBy (Some most) source bytes = WasRead most source bytes
+WasReadBy None source bytes = IsUntouched source × (bytes ≡ [])
 
 -- ---- the answer
 
@@ -64,13 +73,14 @@ pub record IsCall {S K : Type 0} (command : CommandWords) (source : Turn S) (sin
     (status : Status) : Type 0 where
   pub bytes : List ℕ
   pub written : List ℕ
-  pub read : WasRead (most_bytes command) source bytes
+  pub read : WasReadBy (most_bytes command) source bytes
   pub served : IsServed command bytes written status
   pub put : sink.after ≡ with_end sink.before written
 
 abbrev pub Answers : {S K : Type 0} → CommandWords → Turn S → Turn K → Status → Type 0
 Answers command source sink Finished = IsCall command source sink Finished
-Answers command source sink (Illegal entry) = ⊥
+Answers command source sink (Illegal entry) =
+    IsCall command source sink (Illegal entry) × IsUntouched sink
 Answers command source sink Usage = ⊥
 Answers command source sink (BadScript line reason) =
     IsCall command source sink (BadScript line reason) × IsUntouched sink

@@ -2,8 +2,10 @@ pub mod Commands
 pub mod Statuses
 pub mod Inputs
 pub mod CheckText
+pub mod ExplainText
 pub mod Served
 pub mod Answers
 pub mod Headline
 pub mod Scripts
+pub mod Parts
 pub mod Runs

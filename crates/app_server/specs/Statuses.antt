@@ -1,6 +1,8 @@
 use Rattle.std.specs.Prelude.{ℕ}
 use Rattle.app_server.specs.declared.status.Status.{Status}
-use Rattle.app_server.specs.declared.status.Status.TheVariants.{Finished, Illegal, Usage, BadScript, ReadFault, WriteFault, NoMemory}
+use Rattle.app_server.specs.declared.status.Status.TheVariants.{Finished, Illegal, Usage}
+use Rattle.app_server.specs.declared.status.Status.TheVariants.{BadScript, ReadFault, WriteFault}
+use Rattle.app_server.specs.declared.status.Status.TheVariants.{NoMemory}
 
 -- the exit status of the program
 abbrev pub number_of : Status → ℕ

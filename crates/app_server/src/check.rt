@@ -6,12 +6,12 @@ ghost use Rattle.be_machine.specs.Activities.{activities};
 ghost use Rattle.be_script.specs.Limits.{IsWithinLimits};
 ghost use Rattle.be_script.specs.Script.{declared_by};
 
+use crate::answer::write;
 use crate::script::script_from;
 use crate::status::Status;
 use be_geom::NoMemory;
 use be_lex::write_natural;
 use be_outside::{Sink, Source};
-use be_report::put_lines;
 use be_script::{Script, limits_make_routable, work};
 use std::alloc::Global;
 
@@ -25,10 +25,7 @@ pub fn check<S: Source, K: Sink>(alloc: Global, source: &mut S, sink: &mut K) ->
         Err(status) => return status,
     };
     match text(alloc, &script) {
-        Ok(text) => match put_lines(text.as_slice(), sink) {
-            Ok(()) => Status::Finished,
-            Err(_) => Status::WriteFault,
-        },
+        Ok(text) => write(text.as_slice(), sink),
         Err(NoMemory) => Status::NoMemory,
     }
 }

@@ -1,12 +1,9 @@
-ghost use Rattle.std.specs.Prelude.{◌≡◌, IfOk};
+ghost use Rattle.std.specs.Prelude.{◌≡◌, ◌<◌, ◌^◌, IfOk};
 ghost use Rattle.app_server.specs.Headline.{turn, WasRead};
 ghost use Rattle.be_outside.specs.Faults.{FaultsRose};
 
 use be_outside::{Failed, Source};
 use std::alloc::Global;
-
-/// One byte more than a script may have: a source is read to its end, or to this many bytes.
-const LIMIT: usize = 1_048_577;
 
 /// Why a source wasn't read to its end.
 #[derive(Clone, Copy, Debug, PartialEq, Eq)]
@@ -15,17 +12,22 @@ pub enum InputFault {
     NoMemory,
 }
 
-/// Reads a source to its end, or to `LIMIT` bytes.
-pub fn read_all<S: Source>(alloc: Global, source: &mut S) -> Result<Vec<u8>, InputFault>
+/// Reads a source to its end, or to one byte more than it may have.
+pub fn read_all<S: Source>(
+    alloc: Global,
+    most: usize,
+    source: &mut S,
+) -> Result<Vec<u8>, InputFault>
+    requires { most < 2 ^ 32 }
     ensures read { IfOk result
-        (λ v. WasRead 1048576 (turn S.left S.faults source.old source.new) v.items) }
+        (λ v. WasRead most (turn S.left S.faults source.old source.new) v.items) }
     ensures fault { result ≡ Err InputFault.ReadFault
         → FaultsRose (S.faults source.old) (S.faults source.new) }
 {
     let mut bytes = Vec::new(alloc);
     let mut buffer = [0; 4096];
-    while bytes.len() < LIMIT {
-        let room = (LIMIT - bytes.len()).min(4096);
+    while bytes.len() <= most {
+        let room = (most + 1 - bytes.len()).min(4096);
         match source.read(&mut buffer[..room]) {
             Ok(0) => return Ok(bytes),
             Ok(count) => bytes

@@ -1,5 +1,5 @@
-//! The application server: reads a script of windows, views and applications, runs it, and writes the
-//! history of all steps, the traces of the messages and the screen.
+//! The application server: reads a script of windows, views and applications, runs it, and writes
+//! the history of all steps, the traces of the messages and the screen.
 #![tactic(auto)]
 
 ghost use Rattle.std.specs.Prelude.{◌≡◌, ◌⊎◌, IfErr};
@@ -7,13 +7,18 @@ ghost use Rattle.std.specs.Prelude.{◌≡◌, ◌⊎◌, IfErr};
 mod answer;
 mod check;
 mod command;
+mod explain;
 mod input;
+mod make;
+mod replay;
+mod run;
 mod script;
 mod serial;
 mod serve;
 mod status;
 #[cfg(test)]
 mod tests;
+mod told;
 
 use be_outside::{OpenGate, ReaderSource, WriterSink};
 use serve::serve;
@@ -21,8 +26,8 @@ use status::Status;
 use std::process::ExitCode;
 use std::{env, io};
 
-/// Serves standard input and output by the words on the command line. What the status has to say goes
-/// to standard error, and its number is the program's exit status.
+/// Serves standard input and output by the words on the command line. What the status has to say
+/// goes to standard error, and its number is the program's exit status.
 fn main(rt: HostRuntime) -> ExitCode {
     let mut source = ReaderSource::new(rt.stdin());
     let mut sink = WriterSink::new(rt.stdout());
@@ -44,8 +49,8 @@ fn main(rt: HostRuntime) -> ExitCode {
     ExitCode::from(status.number())
 }
 
-/// The words behind the program's name, or what is answered where there are none to serve: words that
-/// aren't UTF-8 are no command's.
+/// The words behind the program's name, or what is answered where there are none to serve: words
+/// that aren't UTF-8 are no command's.
 fn words(rt: &HostRuntime) -> Result<Vec<String>, Status>
     ensures { IfErr result (λ status. (status ≡ Status.Usage) ⊎ (status ≡ Status.NoMemory)) }
 {

@@ -1,7 +1,7 @@
-use crate::serve::serve_alone;
+use crate::serve::{serve, serve_alone};
 use crate::status::Status;
 use be_command::Reason;
-use be_outside::{MemorySink, MemorySource};
+use be_outside::{MemorySink, MemorySource, OpenGate};
 use std::alloc::Global;
 use std::test::Fail;
 
@@ -13,6 +13,9 @@ const FIRST_REPORT: &[u8] =
 
 const EMPTY_REPORT: &[u8] =
     b"history 1\n1 stop stop\ntraces\nscreen 4 3\n0 4x336698\n1 4x336698\n2 4x336698\nend\n";
+
+const FIRST_SCREEN: &[u8] =
+    b"screen 4 3\n0 4x336698\n1 1x336698 2x000000 1x336698\n2 1x336698 2x000000 1x336698\nend\n";
 
 /// What a call answers, and what its sink holds then.
 fn served(
@@ -61,6 +64,73 @@ fn serves_scripts(rt: HostRuntime) -> Result<(), Fail> {
     Ok(())
 }
 
+// Whoever steps, the screen is the same.
+#[test]
+fn runs_scripts_on_threads(rt: HostRuntime) -> Result<(), Fail> {
+    let words = [String::from_str(rt.alloc(), "run")?];
+    let script = Vec::from_slice(rt.alloc(), FIRST_WINDOW)?;
+    let mut source = MemorySource::new(script, Vec::new(rt.alloc()));
+    let mut sink = MemorySink::new(rt.alloc(), 65536, Vec::new(rt.alloc()))?;
+    let status = serve(
+        &rt,
+        rt.alloc(),
+        words.as_slice(),
+        &mut source,
+        &mut sink,
+        &OpenGate,
+    );
+    assert_eq!(rt; status, Status::Finished);
+    assert!(rt; sink.held().starts_with(b"history 15\n"));
+    assert!(rt; sink.held().ends_with(FIRST_SCREEN));
+    Ok(())
+}
+
+#[test]
+fn judges_reports(rt: HostRuntime) -> Result<(), Fail> {
+    let unfinished = b"history 1\n1 app:m lock a\ntraces\n".as_slice();
+    let wrong = b"history 2\n1 app:m lock a\n2 stop stop\ntraces\n".as_slice();
+    let bad_entry = Status::BadScript {
+        line: 10,
+        reason: Reason::BadEntry,
+    };
+    for (report, status, due, pixel) in [
+        (
+            FIRST_REPORT,
+            Status::Finished,
+            FIRST_REPORT,
+            b"1 1 000000 9\n".as_slice(),
+        ),
+        (
+            unfinished,
+            Status::Illegal { entry: 2 },
+            b"".as_slice(),
+            b"".as_slice(),
+        ),
+        (
+            wrong,
+            Status::Illegal { entry: 2 },
+            b"".as_slice(),
+            b"".as_slice(),
+        ),
+        (
+            b"history 1\n2 app:m lock a\ntraces\n".as_slice(),
+            bad_entry,
+            b"".as_slice(),
+            b"".as_slice(),
+        ),
+    ] {
+        let mut both = Vec::from_slice(rt.alloc(), FIRST_WINDOW)?;
+        both.extend_from_slice(report)?;
+        let (answer, held) = served(rt.alloc(), &["replay"], &both, None, None)?;
+        assert_eq!(rt; answer, status);
+        assert_eq!(rt; held.as_slice(), due);
+        let (answer, held) = served(rt.alloc(), &["explain", "1", "1"], &both, None, None)?;
+        assert_eq!(rt; answer, status);
+        assert_eq!(rt; held.as_slice(), pixel);
+    }
+    Ok(())
+}
+
 #[test]
 fn tells_faults(rt: HostRuntime) -> Result<(), Fail> {
     let two_lines = b"history 15\n1 app:m lock a\n2 app:m ".as_slice();
@@ -79,7 +149,11 @@ fn tells_faults(rt: HostRuntime) -> Result<(), Fail> {
 
 #[test]
 fn knows_its_words(rt: HostRuntime) -> Result<(), Fail> {
-    let wrong: [&[&str]; 6] = [
+    let wrong: [&[&str]; 10] = [
+        &["run"],
+        &["make"],
+        &["replay", "0"],
+        &["explain", "1024", "0"],
         &["serial", "01"],
         &["serial"],
         &["run", "x"],
