@@ -1,0 +1,1 @@
+"""Tests of the tools, by python3's unittest: `python3 -m unittest discover -s tools/tests -t tools`."""
