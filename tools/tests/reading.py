@@ -12,9 +12,18 @@ def bytes_of(name):
         return file.read()
 
 
+def _names(ending):
+    return sorted(os.path.basename(path) for path in glob.glob(os.path.join(EXAMPLES, ending)))
+
+
 def report_names():
     """The files of examples/ with a report."""
-    return sorted(os.path.basename(path) for path in glob.glob(os.path.join(EXAMPLES, '*.report')))
+    return _names('*.report')
+
+
+def picture_names():
+    """Those with a picture."""
+    return _names('*.png')
 
 
 def script_name(report):

@@ -5,7 +5,7 @@ import unittest
 from lib.blocks import blocks
 from lib.png import read_png, write_png
 from lib.report import read_report
-from tests.reading import bytes_of, report_names, rows_of_text
+from tests.reading import bytes_of, picture_names, report_names, rows_of_text
 
 
 def sized(rows, factor):
@@ -24,6 +24,13 @@ class Pictures(unittest.TestCase):
                     self.assertEqual((width, height),
                                      (report.width * factor, report.height * factor))
                     self.assertEqual(rows, sized(wanted, factor))
+
+    def test_pictures_of_examples(self):
+        for name in picture_names():
+            with self.subTest(name=name):
+                width, _, rows = read_png(bytes_of(name))
+                wanted = rows_of_text(bytes_of(name.replace('.png', '.report')))
+                self.assertEqual(rows, sized(wanted, width // len(wanted[0])))
 
     def test_more_colors_than_a_palette_has(self):
         rows = [[(1, f'{x:02x}{y:02x}80') for x in range(40)] for y in range(20)]
