@@ -10,7 +10,7 @@ from lib.page import write_page
 from lib.report import Entry, read_report
 from lib.script import BadScript, read_script
 from tests.long_report import long_report
-from tests.reading import EXAMPLES, bytes_of, entries_of_text, report_names, script_name
+from tests.reading import bytes_of, entries_of_text, report_names, script_name
 
 
 class Elements(HTMLParser):
