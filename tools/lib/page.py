@@ -88,11 +88,12 @@ def write_page(report, title, followed=None):
     """The text of the page. Nothing of the report is read as HTML, and no script runs but the
     page's own."""
     script = '\n'.join(_part(name) for name in SCRIPTS)
-    policy = ("default-src 'none'; base-uri 'none'; form-action 'none'; style-src 'unsafe-inline'; "
-              f'script-src {_hash(script)}')
+    style = _part('page.css')
+    policy = ("default-src 'none'; base-uri 'none'; form-action 'none'; "
+              f'style-src {_hash(style)}; script-src {_hash(script)}')
     texts = {
         'title': html.escape(title),
-        'style': _part('page.css'),
+        'style': style,
         'policy': html.escape(policy),
         'data': _json_in_html(page_data(report, followed)),
         'script': script,

@@ -238,15 +238,14 @@ def _join_traces(report, traces):
     """Gives each entry the lines that its maker noted of it."""
     left = {runner: iter(own) for runner, own in traces.items()}
     ahead = {runner: next(own, None) for runner, own in left.items()}
-    known = set(report.activities())
+    known, windows = set(report.activities()), set(report.windows)
     for entry in report.entries:
         line_of_entry = entry.number + 1
         if entry.actor not in known:
             raise BadReport(line_of_entry, f'{entry.actor} has no traces')
-        if entry.kind in ('post', 'lock', 'unlock', 'draw', 'flush', 'syncdone', 'event'):
-            for name in windows_of(entry)[1 if entry.actor.startswith('loop:') else 0:]:
-                if 'loop:' + name not in traces:
-                    raise BadReport(line_of_entry, f'{name} is no window of this report')
+        for name in windows_of(entry):
+            if name not in windows:
+                raise BadReport(line_of_entry, f'{name} is no window of this report')
         due = DUE.get(entry.kind, lambda entry: None)(entry)
         if due is None:
             continue
