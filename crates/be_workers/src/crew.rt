@@ -7,7 +7,7 @@ ghost use Rattle.be_workers.specs.Workers.{AreWorkers, IsDone, IsWorker, MayEnd,
 
 use crate::tools::Tools;
 use crate::wants::Wants;
-use crate::worker::{End, Worker};
+use crate::worker::{End, PATIENCE, Worker};
 use be_bells::Bells;
 use be_geom::NoMemory;
 use be_hall::{Hall, Pass};
@@ -43,6 +43,7 @@ pub fn hire<W: Turns + Drop>(
             pass: part,
             wants,
             end: End::Over,
+            patience: PATIENCE,
         });
     }
     Ok(workers)

@@ -34,12 +34,18 @@ pub struct Worker<W: Turns> {
     pub pass: Pass<W>,
     pub wants: Wants,
     pub end: End,
+    /// How often it still looks whether the closing worker begins before it stands in for others.
+    pub(crate) patience: u32,
 }
 
 // How often a worker that has nothing to do looks at its bell, and lets others run, before it
 // sleeps. To be woken costs more than a step: two that pass on to each other are mostly rung while
 // they look.
 const LOOKS: u32 = 2;
+
+// How often a worker looks whether the closing worker begins. That takes some milliseconds, and
+// threads start in less, but where none can be started.
+pub(crate) const PATIENCE: u32 = 10_000;
 
 impl<W: Turns + Drop> Worker<W> {
     /// Makes turns until it is told to stop, its activity is over, the closing entry was made or it
@@ -69,7 +75,10 @@ impl<W: Turns + Drop> Worker<W> {
             }
             match self.step(tools, hall) {
                 Ok(Did::Made) => {}
-                Ok(Did::Nothing) => pause(tools, who, closing, shown),
+                Ok(Did::Nothing) => {
+                    self.patience = self.patience.saturating_sub(1);
+                    pause(tools, who, closing, shown);
+                }
                 Ok(Did::Over) => return End::Over,
                 Ok(Did::Closed) => {
                     end_all(hall, tools.bells, &mut self.pass);
@@ -84,8 +93,8 @@ impl<W: Turns + Drop> Worker<W> {
         unreachable!()
     }
 
-    // A turn of its own activity, and where that has nothing to do of those whose workers haven't
-    // begun: their threads may never start.
+    // A turn of its own activity, and where that has nothing to do and the worker stands in for
+    // others, of those.
     fn step<R: Wait, G: Gate>(
         &mut self,
         tools: &Tools<'_, R, G>,
@@ -99,9 +108,22 @@ impl<W: Turns + Drop> Worker<W> {
     {
         let who = self.who;
         match self.turn(tools, hall, who)? {
-            Did::Nothing if !tools.bells.all_begun() => self.stand_in(tools, hall),
+            Did::Nothing if self.stands_in(tools, hall) => self.stand_in(tools, hall),
             did => Ok(did),
         }
+    }
+
+    // Whether the worker makes turns of activities whose workers haven't begun: their threads may
+    // never start. The closing one does, which begins on the thread that starts the others, and has
+    // nothing else to do until they sleep. Where it doesn't begin either everyone does.
+    fn stands_in<R: Wait, G: Gate>(&self, tools: &Tools<'_, R, G>, hall: &Hall<W>) -> bool
+        requires { self.now.who < W.activities (rules_of hall.now) }
+    {
+        let closing = hall.rules().activities() - 1;
+        if self.who == closing {
+            return !tools.bells.all_begun();
+        }
+        self.patience == 0 && !tools.bells.has_begun(closing)
     }
 
     // Turns of the activities whose workers haven't begun, until one of them makes an entry.
