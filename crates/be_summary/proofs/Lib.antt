@@ -1,0 +1,5 @@
+mod Lines
+mod ColorLemmas
+mod Different
+mod Sets
+mod Strips

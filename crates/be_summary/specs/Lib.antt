@@ -1,0 +1,4 @@
+pub mod Counts
+pub mod Summary
+pub mod Colors
+pub mod Laws
