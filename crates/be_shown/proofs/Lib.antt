@@ -3,3 +3,4 @@ pub mod Owners
 pub mod Rows
 pub mod Told
 pub mod After
+pub mod DesktopLemmas

@@ -97,10 +97,10 @@ module _ (d : Declared) (all : List Slice) (sound : IsSound d all) where
       pixel_of s found.0 x y c (ap (λ z. pixel_in z x y) (sym found.2) ∙ e)
 
   -- the slice of an owner has the pixel
-  owner_shows : (u : ℕ) (x y : ℤ) (c : Cell) → owner_in s x y ≡ Some u → pixel_at s x y ≡ Some c → pixel_in (slice_of s (part.pane u)) x y ≡ Some c
+  pub owner_shows : (u : ℕ) (x y : ℤ) (c : Cell) → owner_in s x y ≡ Some u → pixel_at s x y ≡ Some c → pixel_in (slice_of s (part.pane u)) x y ≡ Some c
   owner_shows u x y c owner e = look_own (width_of s) (owned s u) s.screen x y ∙ rw (is_owned s u x y owner) e
 
-  owner_stands : (u : ℕ) (x y : ℤ) → owner_in s x y ≡ Some u → Stands all (slice_of s (part.pane u))
+  pub owner_stands : (u : ℕ) (x y : ℤ) → owner_in s x y ≡ Some u → Stands all (slice_of s (part.pane u))
   owner_stands u x y owner =
       let lt : u < length d.windows = subst (λ n. u < n) (whole d all sound).parts.windows (owner_there s.desk.windows x y u owner) in
       let at = pane_is_part d u lt in

@@ -4,10 +4,10 @@ use Rattle.std.specs.Prelude.{ℤ, unwrap_or}
 use Rattle.std.proofs.lemmas.Int.{ints}
 use Rattle.be_geom.specs.declared.rect.Rect.{Rect}
 use Rattle.be_pane.specs.declared.pane.Pane.{Pane}
-use Rattle.be_parts.specs.Stands.{PaneIs, PaneShows, is_there}
+use Rattle.be_parts.specs.Stands.{PaneIs, is_there}
 use Rattle.be_region.specs.Regions.{region_has}
 use Rattle.be_region.specs.Runs.{IsRun}
-use Rattle.be_rules.specs.Slices.{Shown, Slice, desk, input, cell, looper, port, link, pane, look_at}
+use Rattle.be_rules.specs.Slices.{Slice, desk, input, cell, looper, port, link, pane, look_at}
 use Rattle.be_span.specs.Cells.{desktop_cell}
 use Rattle.be_span.specs.Spans.{cell_in}
 use Rattle.be_span.specs.declared.Cell.{Cell}

@@ -1,6 +1,6 @@
 -- Cells side by side in a row of the screen.
-use Rattle.std.proofs.Common.{◌≡◌, ℕ, zero, suc, ◌+◌, ◌*◌, ◌<◌, ◌≤◌, Bool, true, false, List, [], ◌∷◌, length, Option, Some, None, refl, sym, ap, ◌∙◌, subst, arith, pos, ◌+ℤ◌, ◌≤ℤ◌}
-use Rattle.std.specs.Prelude.{ℤ, nat_lt, slice_get, if◌then◌else◌}
+use Rattle.std.proofs.Common.{◌≡◌, ℕ, zero, suc, ◌+◌, ◌*◌, ◌<◌, ◌≤◌, Bool, true, false, List, [], ◌∷◌, length, Option, Some, None, refl, sym, ap, ◌∙◌, subst, arith, pos}
+use Rattle.std.specs.Prelude.{nat_lt, slice_get, if◌then◌else◌}
 use Rattle.std.proofs.lemmas.Bool.Decides.{nat_tests}
 use Rattle.be_script.specs.Script.{Declared}
 use Rattle.be_span.specs.Cells.{desktop_cell}
@@ -12,11 +12,11 @@ use Rattle.be_machine.specs.Windows.{width_of}
 use Rattle.be_rules.specs.Rules.{IsSound}
 use Rattle.be_rules.specs.Slices.{Slice, state_of}
 use Rattle.be_rules.proofs.Lawfully.{state, whole, back}
-use Rattle.be_shown.specs.Pixels.{HasCells, HasNone, pixel_in}
+use Rattle.be_shown.specs.Pixels.{HasCells, pixel_in}
 use Rattle.be_shown.proofs.Owners.{on_screen, desktop_there}
 use Rattle.be_written.specs.Screens.{AreCellsOf}
 
-element : {X : Type 0} (xs : List X) (k : ℕ) → k < length xs → (x : X) × (slice_get xs k ≡ Some x)
+pub element : {X : Type 0} (xs : List X) (k : ℕ) → k < length xs → (x : X) × (slice_get xs k ≡ Some x)
 element [] k lt = absurd (omega arith)
 element (x ∷ xs) zero lt = (x, refl)
 element (x ∷ xs) (suc k) lt = element xs k (omega arith)
@@ -33,11 +33,11 @@ cell_below width cells x y c e = below_by (nat_lt x width) x width (slice_get ce
 is_below : (x width : ℕ) → x < width → nat_lt x width ≡ true
 is_below x width lt = grind (arith, nat_tests)
 
-cell_inside : (width : ℕ) (cells : List Cell) (x y : ℕ) → x < width → cell_at width cells (pos x) (pos y) ≡ slice_get cells (y * width + x)
+pub cell_inside : (width : ℕ) (cells : List Cell) (x y : ℕ) → x < width → cell_at width cells (pos x) (pos y) ≡ slice_get cells (y * width + x)
 unfolding cell_at
 cell_inside width cells x y lt = rw (is_below x width lt) refl
 
-product_below : (x y width height : ℕ) → x < width → y < height → y * width + x < width * height
+pub product_below : (x y width height : ℕ) → x < width → y < height → y * width + x < width * height
 product_below x y width height a b = grind (arith)
 
 pub further : (a b c : ℕ) → a + b + c ≡ a + (b + c)

@@ -1,2 +1,4 @@
 pub mod Pixels
 pub mod Standing
+pub mod Stretches
+pub mod Desktop

@@ -1,11 +1,15 @@
 //! The screen of a run, told from its parts: each pixel shows what the pane of its window has, and
-//! where there is no window the desktop.
+//! where there is no window the desktop, whose pixels are counted too.
 //!
 //! Cells are told by runs of spans. A call asks each pane once, by bisection, how many pixels of the
 //! row it has none of, up to the pane that has the first. No pixel is looked at, and no cell copied.
+//! The count of the desktop takes such a call for each run of a row, and no memory.
 #![tactic(auto)]
 
+mod desktop;
 mod looks;
 mod shown;
+mod stretch;
 
+pub use desktop::desktop_pixels;
 pub use shown::Shown;

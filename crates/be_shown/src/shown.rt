@@ -7,7 +7,8 @@ ghost use Rattle.be_rules.specs.Slices.{slices, state_of};
 ghost use Rattle.be_script.specs.Script.{declared_by};
 ghost use Rattle.be_span.specs.Cells.{desktop_cell};
 
-use crate::looks::{cells_from, none_from};
+use crate::looks::cells_from;
+use crate::stretch::{Stretch, stretch_from};
 use be_color::Rgb;
 use be_geom::NoMemory;
 use be_parts::Part;
@@ -58,6 +59,7 @@ impl<'a> Shown<'a> {
         ensures down { IfOk result (λ shown. shown.down ≡ (declared_by script.now).height) }
         ensures cells { IfOk result (λ shown. shown.cells
             ≡ (state_of (declared_by script.now) (map meaning_of parts.now)).screen) }
+        ensures size { IfOk result (λ shown. length shown.cells ≡ shown.across * shown.down) }
         ensures after { IfOk result (λ shown. (history : List Entry)
             → IsLegalHistory (declared_by script.now) history
             → map meaning_of parts.now
@@ -91,15 +93,10 @@ impl<'a> Screen for Shown<'a> {
         let (width, height) = self.script.screen;
         prove!(column < u32::from(width) && row < u32::from(height));
         let (x, y) = (column as u16, row as u16);
-        let mut count = u32::from(width) - column;
-        for part in self.parts {
-            let none = none_from(part, x, y);
-            if none == 0 {
-                return cells_from(part, x, y);
-            }
-            count = count.min(none);
+        match stretch_from(self.parts, width, x, y) {
+            Stretch::Owned(part) => cells_from(part, x, y),
+            Stretch::Desktop(count) => &self.desktop[..count as usize],
         }
-        &self.desktop[..count as usize]
     }
 }
 
