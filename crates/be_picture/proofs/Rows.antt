@@ -1,12 +1,13 @@
 -- The colours of a bitmap off the screen, row by row.
-use Rattle.std.proofs.Common.{◌≡◌, ℕ, zero, suc, ◌+◌, ◌*◌, ◌/◌, ◌%◌, ◌<◌, ◌≤◌, ℤ, pos, ◌+ℤ◌, ◌-ℤ◌}
+use Rattle.std.proofs.Common.{◌≡◌, ℕ, zero, suc, ◌+◌, ◌-◌, ◌*◌, ◌/◌, ◌%◌, ◌<◌, ◌≤◌, ℤ, pos}
+use Rattle.std.proofs.Common.{◌+ℤ◌, ◌-ℤ◌}
 use Rattle.std.proofs.Common.{true, List, ◌∷◌, ◌++◌, length, map, get_or, Some}
-use Rattle.std.proofs.Common.{None, inl, inr, refl, sym, ap, ◌∙◌, subst, arith, take}
+use Rattle.std.proofs.Common.{None, inl, inr, refl, sym, ap, ◌∙◌, subst, arith, take, drop}
 use Rattle.std.specs.Prelude.{slice_get}
 use Rattle.std.specs.List.{range_with_len}
 use Rattle.std.proofs.lemmas.Bool.{and_parts, cases_lt}
 use Rattle.std.proofs.lemmas.Int.{ints}
-use Rattle.std.proofs.lemmas.List.{map-append, same_lists, take_all}
+use Rattle.std.proofs.lemmas.List.{drop-append-le, drop_all, map-append, same_lists, take_all}
 use Rattle.std.proofs.lemmas.List.FromFn.{get_or-map-range_with_len, length-map-range_with_len}
 use Rattle.std.proofs.lemmas.List.FromFn.{take-map-range_with_len}
 use Rattle.std.proofs.lemmas.Nat.{div-mul-add, mod-mul-add}
@@ -80,7 +81,7 @@ no_column w h pane y column rest right has =
     (and_parts (between (pos 0) (pos column) (pos w -ℤ pos 1)) _ own).0 in
     grind (arith, ints, between_tells, rest.shows.sized.some_columns)
 
-row_length : (w h : ℕ) (pane : code.Pane) (y : ℕ) (row : List Cell) → IsAtRest w h pane → y < h
+pub row_length : (w h : ℕ) (pane : code.Pane) (y : ℕ) (row : List Cell) → IsAtRest w h pane → y < h
     → IsRow pane.spans y row → length row ≡ w
 row_length w h pane y row rest below r =
     elim (cases_lt (length row) w) [
@@ -112,6 +113,34 @@ row_is w h pane y row rest below r =
     let is : f (y * w + k) ≡ get_or row k d =
     rw (mod-mul-add y w k left, div-mul-add y w k left) (ap or_black cell) in
     sym (get_or-map-range_with_len f (y * w) w k (y * w + k) d left refl ∙ is))
+
+-- ---- the same of all cells
+
+row_behind : (w h y more : ℕ) (spans : Spans) → w * h ≡ y * w + (w + more)
+    → map (cell_number w spans) (range_with_len (y * w) w)
+    ≡ take w (drop (y * w) (cells_of w h spans))
+row_behind w h y more spans count =
+    let f = cell_number w spans in
+    let above : List Cell = map f (range_with_len 0 (y * w)) in
+    let rest : List Cell = map f (range_with_len (y * w) (w + more)) in
+    let at : 0 + y * w ≡ y * w = omega arith in
+    let len : length above ≡ y * w = length-map-range_with_len f 0 (y * w) in
+    let all : cells_of w h spans ≡ above ++ rest =
+    ap (λ (n : ℕ). map f (range_with_len 0 n)) count
+    ∙ ap (map f) (range_in_two 0 (y * w) (w + more)
+    ∙ ap (λ (k : ℕ). range_with_len 0 (y * w) ++ range_with_len k (w + more)) at)
+    ∙ map-append f (range_with_len 0 (y * w)) (range_with_len (y * w) (w + more)) in
+    let behind : drop (y * w) (cells_of w h spans) ≡ rest =
+    ap (drop (y * w)) all ∙ drop-append-le (y * w) above rest (omega (arith, len))
+    ∙ ap (λ (cs : List Cell). cs ++ rest) (drop_all (y * w) above (omega (arith, len))) in
+    sym (ap (take w) behind ∙ take-map-range_with_len f (y * w) (w + more) w (omega arith))
+
+pub cells_in_row : (w h y : ℕ) (spans : Spans) → y < h
+    → map (cell_number w spans) (range_with_len (y * w) w)
+    ≡ take w (drop (y * w) (cells_of w h spans))
+cells_in_row w h y spans below =
+    let fits : (y + 1) * w ≤ h * w = mul-le-mul_right w (omega arith) in
+    row_behind w h y (h * w - (y + 1) * w) spans (omega (arith, fits))
 
 -- ---- rows one below the other
 

@@ -1,5 +1,5 @@
-ghost use Rattle.std.specs.Prelude.{◌≡◌, ◌↔◌, ◌++◌, All, IfErr, IfOk, IsSome, None, OnOk, map};
-ghost use Rattle.std.specs.Prelude.{true};
+ghost use Rattle.std.specs.Prelude.{◌≡◌, ◌↔◌, ◌++◌, ◌<◌, ◌*◌, All, IfErr, IfOk, IsSome, None};
+ghost use Rattle.std.specs.Prelude.{OnOk, drop, length, map, take, true};
 ghost use Rattle.be_color.specs.declared.colors.Color.TheVariants.{Solid};
 ghost use Rattle.be_command.specs.Effects.{effect_of};
 ghost use Rattle.be_geom.specs.Rects.{rect_has};
@@ -80,6 +80,30 @@ impl OffScreen {
         execute_all(pane, picture.into_commands(), bitmaps);
         pop_all(pane, pushes, bitmaps);
         execute(pane, Command::Pop(0), bitmaps);
+    }
+
+    /// How many pixels stand side by side.
+    pub fn width(&self) -> u16
+        ensures { result ≡ self.now.width }
+    {
+        self.width
+    }
+
+    /// How many rows of pixels there are.
+    pub fn height(&self) -> u16
+        ensures { result ≡ self.now.height }
+    {
+        self.height
+    }
+
+    /// The cells of a row, from its left.
+    pub fn row(&self, y: u16) -> &[Cell]
+        requires { y < self.now.height }
+        ensures cells { let width = self.now.width in
+            result.now ≡ take width (drop (y * width) self.now.cells) }
+        ensures whole { length result.now ≡ self.now.width }
+    {
+        row_of(&self.pane.spans, y)
     }
 
     /// The colour of a pixel. None outside.
