@@ -1,0 +1,4 @@
+pub mod Lines
+pub mod Heard
+pub mod Opened
+pub mod Windows
