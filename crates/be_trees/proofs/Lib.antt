@@ -1,0 +1,9 @@
+mod TreeLines
+mod OneLine
+mod DigitsRead
+mod Openings
+mod LinesWritten
+mod TreesRead
+mod OnlyLine
+mod FewBytes
+mod LinesBack
