@@ -1,0 +1,11 @@
+//! The sheet of a picture: it is drawn on white pixels, which are written as a report's screen is.
+//!
+//! It takes memory for each pixel, and the time of the picture's commands and of the text.
+#![tactic(auto)]
+
+mod drawing;
+mod sheet;
+#[cfg(test)]
+mod tests;
+
+pub use drawing::draw;
