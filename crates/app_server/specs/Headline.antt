@@ -3,7 +3,9 @@
 use Rattle.std.specs.Prelude.{◌≡◌, ℕ, ◌+◌, ◌≤◌, ◌⊎◌, List, [], length, Option, Some, None}
 use Rattle.app_server.specs.declared.command.CommandWords.{CommandWords}
 use Rattle.app_server.specs.declared.command.CommandWords.TheVariants.{Run, Serial, Check, Make}
-use Rattle.app_server.specs.declared.command.CommandWords.TheVariants.{Replay, Explain}
+use Rattle.app_server.specs.declared.command.CommandWords.TheVariants.{Drill, Replay, Explain}
+use Rattle.app_server.specs.declared.command.CommandWords.TheVariants.{Picture, Archive}
+use Rattle.app_server.specs.declared.command.CommandWords.TheVariants.{Unarchive}
 use Rattle.app_server.specs.declared.status.Status.{Status}
 use Rattle.app_server.specs.declared.status.Status.TheVariants.{Finished, Illegal, Usage}
 use Rattle.app_server.specs.declared.status.Status.TheVariants.{BadScript, ReadFault, WriteFault}
@@ -51,8 +53,12 @@ most_bytes Run = Some 1048576
 most_bytes (Serial seed) = Some 1048576
 most_bytes Check = Some 1048576
 most_bytes (Make n) = None
+most_bytes (Drill n) = None
 most_bytes Replay = Some 67108864
 most_bytes (Explain x y) = Some 67108864
+most_bytes (Picture width height) = Some 1048576
+most_bytes (Archive w) = Some 1048576
+most_bytes Unarchive = Some 1048576
 
 -- the bytes are those that the source had left before the call and not after it: all of them, or
 -- one more than the most

@@ -3,10 +3,14 @@ use Rattle.std.specs.Prelude.{ℕ, ◌+◌, Bool, false, nat_lt, if◌then◌els
 use Rattle.std.specs.Prelude.{length, take, drop, flat_map, unwrap_or, Result, Ok, Err, codes}
 use Rattle.std.specs.List.{position_or_len}
 use Rattle.std.specs.Str.{bytes_eq}
+use Rattle.be_command.specs.Names.{Known}
+use Rattle.be_command.specs.declared.Command.{Command}
 use Rattle.be_command.specs.declared.fault.Reason.TheVariants.{TooLong, BadEntry}
 use Rattle.be_lex.specs.Lines.{Line, lines_of, text_of}
 use Rattle.be_lex.specs.Words.{words_of}
 use Rattle.be_machine.specs.declared.Entry.{Entry}
+use Rattle.be_picture.specs.Text as picture
+use Rattle.be_picture.specs.Text.{picture_of}
 use Rattle.be_reader.specs.Grammar.{Fault, fault, script_of}
 use Rattle.be_report.specs.Told.{entries_of}
 use Rattle.be_said.specs.SoFar.{SoFar, declared_in}
@@ -25,6 +29,21 @@ as_declared (Err why) = Err why
 -- the script that the bytes are
 abbrev pub script_in : List ℕ → Result Declared Fault
 script_in bytes = as_declared (script_of bytes)
+
+-- ---- a picture
+
+-- the same in the words of a script's faults
+abbrev pub in_lines : Result (List Command) picture.Fault → Result (List Command) Fault
+in_lines (Ok commands) = Ok commands
+in_lines (Err why) = fault why.line why.reason
+
+-- no window and no bitmap, and of views the root
+abbrev pub no_names : Known
+no_names = record { windows = []; views = codes "root" ∷ []; bitmaps = [] }
+
+-- the picture that the bytes are
+abbrev pub picture_in : List ℕ → Result (List Command) Fault
+picture_in bytes = in_lines (picture_of no_names bytes)
 
 -- ---- a script and a report
 

@@ -3,9 +3,11 @@ pub mod Statuses
 pub mod Inputs
 pub mod CheckText
 pub mod ExplainText
+pub mod DrillText
 pub mod Served
 pub mod Answers
 pub mod Headline
+pub mod Laws
 pub mod Scripts
 pub mod Parts
 pub mod Runs

@@ -1,5 +1,5 @@
-ghost use Rattle.std.specs.Prelude.{◌≡◌, ◌++◌, OnOk, IfOk};
-ghost use Rattle.app_server.specs.CheckText.{check_text, count_line};
+ghost use Rattle.std.specs.Prelude.{◌≡◌, IfOk};
+ghost use Rattle.app_server.specs.CheckText.{check_text};
 ghost use Rattle.app_server.specs.Headline.{turn, Answers};
 ghost use Rattle.app_server.specs.declared.command.CommandWords.TheVariants.{Check};
 ghost use Rattle.be_machine.specs.Activities.{activities};
@@ -10,9 +10,9 @@ use crate::answer::write;
 use crate::script::script_from;
 use crate::status::Status;
 use be_geom::NoMemory;
-use be_lex::write_natural;
 use be_outside::{Sink, Source};
 use be_script::{Script, limits_make_routable, work};
+use be_summary::write_count;
 use std::alloc::Global;
 
 /// Judges a script, and writes how much work it is at most, and how many activities run it.
@@ -39,17 +39,6 @@ fn text(alloc: Global, script: &Script) -> Result<Vec<u8>, NoMemory>
     write_count(&mut text, b"work", work(alloc, script)?)?;
     write_count(&mut text, b"activities", activities(script))?;
     Ok(text)
-}
-
-/// A line of a word and a number.
-fn write_count(text: &mut Vec<u8>, word: &[u8], number: u64) -> Result<(), NoMemory>
-    ensures { OnOk result (text.new.items ≡ text.old.items ++ count_line word.now number) }
-{
-    text.extend_from_slice(word)?;
-    text.push(b' ')?;
-    write_natural(text, number)?;
-    text.push(b'\n')?;
-    Ok(())
 }
 
 /// One for each application, two for each window, one for input, and one that closes the run.

@@ -1,8 +1,10 @@
-ghost use Rattle.std.specs.Prelude.{◌≡◌, map, string_bytes};
-ghost use Rattle.app_server.specs.Commands.{command_of, number_read, number_up_to};
-ghost use Rattle.app_server.specs.Commands.{pixel_read, seed_read};
+ghost use Rattle.std.specs.Prelude.{◌≡◌, ◌≤◌, IfSome, map, string_bytes};
+ghost use Rattle.app_server.specs.Commands.{IsInRange, IsSide, archive_read, command_of};
+ghost use Rattle.app_server.specs.Commands.{drill_read, make_read, number_up_to, picture_read};
+ghost use Rattle.app_server.specs.Commands.{pixel_read, seed_read, side_of};
 ghost use Rattle.be_report.specs.Readers.{all_of, gives};
 
+use crate::first_word::FirstWord;
 use be_lex::Number;
 
 /// What the words on the command line ask for.
@@ -17,35 +19,40 @@ pub enum CommandWords {
     Check,
     /// `make N`: the script that is made of this number.
     Make(u16),
+    /// `drill N`: that script, on one thread, by the schedule of this seed, and what came of it in
+    /// five numbers.
+    Drill(u16),
     /// `replay`: whether a report is one of its script's, which is written again then.
     Replay,
     /// `explain X Y`: the colour of a pixel of the screen, and the entry that gave it.
     Explain(u16, u16),
+    /// `picture W H`: what a picture draws on white pixels, so many across and down.
+    Picture(u16, u16),
+    /// `archive N`: the view tree of a script's window, as the bytes of a message.
+    Archive(u16),
+    /// `unarchive`: the view tree of such bytes.
+    Unarchive,
 }
 
 /// The command that the words spell, if they spell one.
-#[tactic(auto, unfolding(crate::specs::Commands::command_of))]
 pub fn command(words: &[String]) -> Option<CommandWords>
-    ensures { result ≡ command_of (map string_bytes words.now) }
+    ensures command { result ≡ command_of (map string_bytes words.now) }
+    ensures range { IfSome result IsInRange }
 {
     let [first, rest @ ..] = words else {
         return None;
     };
-    let first = first.as_str();
-    if first == "run" {
-        alone(rest, CommandWords::Run)
-    } else if first == "serial" {
-        serial(rest)
-    } else if first == "check" {
-        alone(rest, CommandWords::Check)
-    } else if first == "make" {
-        make(rest)
-    } else if first == "replay" {
-        alone(rest, CommandWords::Replay)
-    } else if first == "explain" {
-        explain(rest)
-    } else {
-        None
+    match FirstWord::of(first.as_str())? {
+        FirstWord::Run => alone(rest, CommandWords::Run),
+        FirstWord::Serial => serial(rest),
+        FirstWord::Check => alone(rest, CommandWords::Check),
+        FirstWord::Make => make(rest),
+        FirstWord::Drill => drill(rest),
+        FirstWord::Replay => alone(rest, CommandWords::Replay),
+        FirstWord::Explain => explain(rest),
+        FirstWord::Picture => picture(rest),
+        FirstWord::Archive => archive(rest),
+        FirstWord::Unarchive => alone(rest, CommandWords::Unarchive),
     }
 }
 
@@ -57,7 +64,8 @@ fn alone(rest: &[String], command: CommandWords) -> Option<CommandWords>
 }
 
 fn serial(rest: &[String]) -> Option<CommandWords>
-    ensures { result ≡ all_of seed_read (map string_bytes rest.now) }
+    ensures command { result ≡ all_of seed_read (map string_bytes rest.now) }
+    ensures range { IfSome result IsInRange }
 {
     let [seed] = rest else {
         return None;
@@ -66,7 +74,8 @@ fn serial(rest: &[String]) -> Option<CommandWords>
 }
 
 fn make(rest: &[String]) -> Option<CommandWords>
-    ensures { result ≡ all_of number_read (map string_bytes rest.now) }
+    ensures command { result ≡ all_of make_read (map string_bytes rest.now) }
+    ensures range { IfSome result IsInRange }
 {
     let [number] = rest else {
         return None;
@@ -74,8 +83,19 @@ fn make(rest: &[String]) -> Option<CommandWords>
     Some(CommandWords::Make(number_of(number.as_str().as_bytes(), 65_535)?))
 }
 
+fn drill(rest: &[String]) -> Option<CommandWords>
+    ensures command { result ≡ all_of drill_read (map string_bytes rest.now) }
+    ensures range { IfSome result IsInRange }
+{
+    let [number] = rest else {
+        return None;
+    };
+    Some(CommandWords::Drill(number_of(number.as_str().as_bytes(), 65_535)?))
+}
+
 fn explain(rest: &[String]) -> Option<CommandWords>
-    ensures { result ≡ all_of pixel_read (map string_bytes rest.now) }
+    ensures command { result ≡ all_of pixel_read (map string_bytes rest.now) }
+    ensures range { IfSome result IsInRange }
 {
     let [x, y] = rest else {
         return None;
@@ -83,6 +103,28 @@ fn explain(rest: &[String]) -> Option<CommandWords>
     let x = number_of(x.as_str().as_bytes(), 1_023)?;
     let y = number_of(y.as_str().as_bytes(), 767)?;
     Some(CommandWords::Explain(x, y))
+}
+
+fn picture(rest: &[String]) -> Option<CommandWords>
+    ensures command { result ≡ all_of picture_read (map string_bytes rest.now) }
+    ensures range { IfSome result IsInRange }
+{
+    let [width, height] = rest else {
+        return None;
+    };
+    let width = side_of(width.as_str().as_bytes())?;
+    let height = side_of(height.as_str().as_bytes())?;
+    Some(CommandWords::Picture(width, height))
+}
+
+fn archive(rest: &[String]) -> Option<CommandWords>
+    ensures command { result ≡ all_of archive_read (map string_bytes rest.now) }
+    ensures range { IfSome result IsInRange }
+{
+    let [window] = rest else {
+        return None;
+    };
+    Some(CommandWords::Archive(number_of(window.as_str().as_bytes(), 31)?))
 }
 
 /// Decimal digits without a leading 0.
@@ -95,8 +137,18 @@ fn seed_of(word: &[u8]) -> Option<u32>
 
 /// The same, up to the most.
 fn number_of(word: &[u8], most: u16) -> Option<u16>
-    ensures { result ≡ number_up_to most word.now }
+    ensures number { result ≡ number_up_to most word.now }
+    ensures within { IfSome result (λ number. number ≤ most) }
 {
     let number = Number::of(word)?.up_to(u64::from(most))?;
     Some(number as u16)
+}
+
+/// The same, from 1 to 256.
+fn side_of(word: &[u8]) -> Option<u16>
+    ensures side { result ≡ side_of word.now }
+    ensures within { IfSome result IsSide }
+{
+    let side = number_of(word, 256)?;
+    if side >= 1 { Some(side) } else { None }
 }

@@ -5,11 +5,16 @@
 ghost use Rattle.std.specs.Prelude.{◌≡◌, ◌⊎◌, IfErr};
 
 mod answer;
+mod archive;
 mod check;
 mod command;
+mod drill;
 mod explain;
+mod first_word;
 mod input;
+mod laws;
 mod make;
+mod picture;
 mod replay;
 mod run;
 mod script;
@@ -19,6 +24,7 @@ mod status;
 #[cfg(test)]
 mod tests;
 mod told;
+mod unarchive;
 
 use be_outside::{OpenGate, ReaderSource, WriterSink};
 use serve::serve;

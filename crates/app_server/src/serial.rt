@@ -36,7 +36,8 @@ pub fn serial<S: Source, K: Sink>(alloc: Global, seed: u32, source: &mut S, sink
     }
 }
 
-fn run(alloc: Global, script: Script, seed: u32) -> Result<Finished, NoMemory>
+/// Runs a script on this thread by the schedule of a seed.
+pub(crate) fn run(alloc: Global, script: Script, seed: u32) -> Result<Finished, NoMemory>
     requires { IsWithinLimits (declared_by script) }
     ensures leaves { IfOk result (Leaves (declared_by script)) }
     ensures scheduled { IfOk result

@@ -11,7 +11,7 @@ pub enum Status {
     Finished,
     #[error("illegal entry {entry}")]
     Illegal { entry: u64 },
-    #[error("usage: app_server run | serial S | check | make N | drill N | replay | explain X Y")]
+    #[error("usage: app_server run | serial S | check | make N | drill N | replay | explain X Y | picture W H | archive N | unarchive | buttons")]
     Usage,
     #[error("script line {line}: {reason:?}")]
     BadScript { line: u64, reason: Reason },

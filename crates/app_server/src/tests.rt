@@ -17,6 +17,26 @@ const EMPTY_REPORT: &[u8] =
 const FIRST_SCREEN: &[u8] =
     b"screen 4 3\n0 4x336698\n1 1x336698 2x000000 1x336698\n2 1x336698 2x000000 1x336698\nend\n";
 
+const PICTURE: &[u8] = b"fill root 0 0 0 0 high\n\
+    push root\n\
+    high root ff0000\n\
+    fill root 1 0 1 0 high\n\
+    pop root\n\
+    fill root 2 0 9 9 high\n";
+
+const DRAWN: &[u8] = b"screen 3 1\n0 1x000000 1xff0000 1x000000\nend\n";
+
+const WHITE: &[u8] = b"screen 3 1\n0 3xffffff\nend\n";
+
+const KEPT: &[u8] = b"screen 9 9\nwindow a 0 0 7 5\nview a k root 1 2 3 4 right top\n";
+
+const ARCHIVE: &[u8] =
+    b"574549560542504e540473697a6501070005004c4f4e4706706172656e7401000000005245435405\
+    6672616d65010100020003000400\
+    4c4f4e47066163726f737301010000004c4f4e4704646f776e0100000000\n";
+
+const TREE: &[u8] = b"size 7 5\nview 1 0 1 2 3 4 right top\n";
+
 /// What a call answers, and what its sink holds then.
 fn served(
     alloc: Global,
@@ -132,6 +152,33 @@ fn judges_reports(rt: HostRuntime) -> Result<(), Fail> {
 }
 
 #[test]
+fn draws_and_archives(rt: HostRuntime) -> Result<(), Fail> {
+    let shape = Status::BadScript {
+        line: 1,
+        reason: Reason::Shape,
+    };
+    let not_here = Status::BadScript {
+        line: 1,
+        reason: Reason::NotHere,
+    };
+    let cases: [(&[&str], &[u8], Status, &[u8]); 7] = [
+        (&["picture", "3", "1"], PICTURE, Status::Finished, DRAWN),
+        (&["picture", "3", "1"], b"", Status::Finished, WHITE),
+        (&["picture", "3", "1"], b"pop root\n", not_here, b""),
+        (&["archive", "0"], KEPT, Status::Finished, ARCHIVE),
+        (&["archive", "1"], KEPT, Status::Finished, b"none\n"),
+        (&["unarchive"], ARCHIVE, Status::Finished, TREE),
+        (&["unarchive"], TREE, shape, b""),
+    ];
+    for (words, input, status, due) in cases {
+        let (answer, held) = served(rt.alloc(), words, input, None, None)?;
+        assert_eq!(rt; answer, status);
+        assert_eq!(rt; held.as_slice(), due);
+    }
+    Ok(())
+}
+
+#[test]
 fn tells_faults(rt: HostRuntime) -> Result<(), Fail> {
     let two_lines = b"history 15\n1 app:m lock a\n2 app:m ".as_slice();
     for (read, put, status, report) in [
@@ -149,11 +196,17 @@ fn tells_faults(rt: HostRuntime) -> Result<(), Fail> {
 
 #[test]
 fn knows_its_words(rt: HostRuntime) -> Result<(), Fail> {
-    let wrong: [&[&str]; 10] = [
+    let wrong: [&[&str]; 16] = [
         &["run"],
         &["make"],
+        &["drill", "65536"],
         &["replay", "0"],
         &["explain", "1024", "0"],
+        &["picture", "0", "1"],
+        &["picture", "1", "257"],
+        &["archive", "32"],
+        &["unarchive", "0"],
+        &["buttons"],
         &["serial", "01"],
         &["serial"],
         &["run", "x"],

@@ -1,8 +1,8 @@
 use Rattle.std.proofs.Common.{ℕ, List, ◌++◌, ◌∙◌, ap}
 use Rattle.std.specs.Prelude.{codes}
-use Rattle.app_server.specs.CheckText.{count_line}
 use Rattle.be_machine.specs.Activities.{activities}
 use Rattle.be_script.specs.Script.{declared_by}
+use Rattle.be_summary.specs.Counts.{count_line}
 use Rattle.app_server.proofs.check.text.Goals as goal
 
 pub returns : goal.returns

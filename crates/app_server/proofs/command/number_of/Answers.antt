@@ -9,3 +9,11 @@ overflow_cast-result c =
     let from = c.from.ensures in
     let most = c.ranges.most.fits in
     omega arith
+
+pub returns-clause-within : goal.returns-clause-within
+returns-clause-within c =
+    let within = c.in_ok-number.ensures {u = tt} in
+    let high = (natural_parts _ _ within.0).1 in
+    let from = c.from.ensures in
+    let most = c.ranges.most.fits in
+    omega arith
