@@ -5,3 +5,5 @@ pub mod Changing
 pub mod Deciding
 pub mod Looking
 pub mod Watched
+pub mod Takers
+pub mod Gathering

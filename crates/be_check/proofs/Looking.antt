@@ -88,7 +88,7 @@ cell_there width height cells x y long a b =
 -- ---- parts in hand
 
 module _ (d : Declared) (parts : List (ℕ × Part)) (has : HasAll d parts) where
-  fits : Fits (now_of parts) (meant meaning_of parts)
+  pub fits : Fits (now_of parts) (meant meaning_of parts)
   fits = fits_from meaning_of [] 0 (length (all_parts d)) parts refl has.places
 
   some_fits : SomeFits (world_machine d) (meant meaning_of parts)
@@ -108,7 +108,7 @@ module _ (d : Declared) (parts : List (ℕ × Part)) (has : HasAll d parts) wher
   abbrev now : State
   now = state d (now_of parts) has.sound
 
-  now_is : state_in d parts ≡ now
+  pub now_is : state_in d parts ≡ now
   now_is = back d (now_of parts) has.sound
 
   wide : width_of now ≡ d.width

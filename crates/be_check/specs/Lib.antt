@@ -2,3 +2,4 @@ pub mod Checking
 pub mod Explaining
 pub mod Stepping
 pub mod Laws
+pub mod Taking

@@ -1,5 +1,5 @@
-//! A history as a certificate: whether it is one of a script's finished runs, and which entry
-//! explains a pixel of its screen.
+//! A history as a certificate: whether it is one of a script's finished runs, which entry explains
+//! a pixel of its screen, and which letters are taken in it.
 //!
 //! A history is carried out once more, over parts of its own. Each entry is compared with the one
 //! that its activity may make there, and is made where it is that one: its numbers are compared,
@@ -14,9 +14,11 @@ mod explaining;
 mod fault;
 mod laws;
 mod stepping;
+mod taking;
 mod watching;
 
 pub use checking::check;
 pub use explaining::{Explained, explain};
 pub use fault::CheckFault;
 pub use laws::{a_history_is_finished_or_illegal, the_entry_told_is_the_last_that_changed_a_pixel};
+pub use taking::taken;

@@ -1,0 +1,20 @@
+use Rattle.be_machine.specs.Touched as part
+use Rattle.be_script.specs.Script.{declared_by}
+use Rattle.be_check.proofs.Gathering.{owner_is}
+use Rattle.be_check.proofs.Looking.{never_missing, reachable}
+use Rattle.be_check.proofs.taking.owner_of.Goals as goal
+
+pub find_looper-requires : goal.find_looper-requires
+find_looper-requires c =
+    reachable (declared_by c.args.script.now) c.args.held.now.parts c.requires.all
+    (part.looper c.args.window) c.requires.there
+
+pub unreachable-requires : goal.unreachable-requires
+unreachable-requires c =
+    never_missing (declared_by c.args.script.now) c.args.held.now.parts c.requires.all
+    (part.looper c.args.window) c.in_default.field-0 c.requires.there c.in_default.ensures.missing
+
+pub returns : goal.returns
+returns c =
+    owner_is (declared_by c.args.script.now) c.args.held.now.parts c.requires.all c.args.window
+    c.requires.there c.in-Ok.part.now c.owner.result c.in-Ok.ensures.there c.owner.ensures
