@@ -25,9 +25,9 @@ pub fn read_all<S: Source>(
         → FaultsRose (S.faults source.old) (S.faults source.new) }
 {
     let mut bytes = Vec::new(alloc);
-    let mut buffer = [0; 4096];
+    let mut buffer = [0; 65_536];
     while bytes.len() <= most {
-        let room = (most + 1 - bytes.len()).min(4096);
+        let room = (most + 1 - bytes.len()).min(65_536);
         match source.read(&mut buffer[..room]) {
             Ok(0) => return Ok(bytes),
             Ok(count) => bytes
