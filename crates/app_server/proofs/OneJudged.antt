@@ -4,7 +4,7 @@ use Rattle.app_server.specs.declared.command.CommandWords.{CommandWords}
 use Rattle.app_server.specs.declared.command.CommandWords.TheVariants.{Run, Serial, Check, Make}
 use Rattle.app_server.specs.declared.command.CommandWords.TheVariants.{Drill, Replay, Explain}
 use Rattle.app_server.specs.declared.command.CommandWords.TheVariants.{Picture, Archive}
-use Rattle.app_server.specs.declared.command.CommandWords.TheVariants.{Unarchive}
+use Rattle.app_server.specs.declared.command.CommandWords.TheVariants.{Unarchive, Buttons}
 use Rattle.app_server.specs.declared.status.Status.{Status}
 use Rattle.app_server.specs.declared.status.Status.TheVariants.{Finished, Illegal, Usage}
 use Rattle.app_server.specs.declared.status.Status.TheVariants.{BadScript, ReadFault, WriteFault}
@@ -183,6 +183,8 @@ module _ (not_both : NotBoth) (alone : OneAlone) where
       (λ written is. (is.script, is.is_script)) (λ line reason is. is) (λ n is. is)
   all_cases Unarchive bytes = read_cases tree_of_line Unarchive bytes
       (λ written is. (is.tree, is.is_archive)) (λ line reason is. is) (λ n is. is)
+  all_cases Buttons bytes = told_cases _ Buttons bytes
+      (λ written is. is) (λ line reason is. is) (λ n is. is)
 
   pub one_judgement : OneJudgement
   one_judgement command bytes first second a b ja jb is it =

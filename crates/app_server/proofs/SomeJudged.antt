@@ -6,7 +6,7 @@ use Rattle.app_server.specs.declared.command.CommandWords.{CommandWords}
 use Rattle.app_server.specs.declared.command.CommandWords.TheVariants.{Run, Serial, Check, Make}
 use Rattle.app_server.specs.declared.command.CommandWords.TheVariants.{Drill, Replay, Explain}
 use Rattle.app_server.specs.declared.command.CommandWords.TheVariants.{Picture, Archive}
-use Rattle.app_server.specs.declared.command.CommandWords.TheVariants.{Unarchive}
+use Rattle.app_server.specs.declared.command.CommandWords.TheVariants.{Unarchive, Buttons}
 use Rattle.app_server.specs.declared.status.Status.{Status}
 use Rattle.app_server.specs.declared.status.Status.TheVariants.{Finished, Illegal, Usage}
 use Rattle.app_server.specs.declared.status.Status.TheVariants.{BadScript, ReadFault, WriteFault}
@@ -27,6 +27,7 @@ use Rattle.be_machine.specs.Schedule.{IsScheduled}
 use Rattle.be_machine.specs.declared.Entry.{Entry}
 use Rattle.be_made.specs.Laws.{MadeIsScript}
 use Rattle.be_made.specs.Made.{made}
+use Rattle.be_pressed.specs.ButtonText.{buttons_text}
 use Rattle.be_reader.specs.Grammar.{Fault, script_of}
 use Rattle.be_report.specs.Laws.{ReportTellsHistory}
 use Rattle.be_report.specs.Report.{report_of}
@@ -159,3 +160,6 @@ module _ (orderly : EachHistoryIsOrderly) (seeded : EachSeedHasOne) (tells : Rep
   some_judgement Unarchive bytes range has = judged tree_of_line Unarchive bytes (λ f is. is)
       (λ tree is. writes Unarchive bytes (tree_text tree)
       (record { tree = tree; is_archive = is; says = refl }))
+  some_judgement Buttons bytes range has = judged told_in Buttons bytes (λ f is. is)
+      (λ told is. told_judged Buttons bytes buttons_text told is (λ written it. it) (λ n it. it)
+      (decided told.script told.history))

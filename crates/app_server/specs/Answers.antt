@@ -5,7 +5,7 @@ use Rattle.app_server.specs.declared.command.CommandWords.{CommandWords}
 use Rattle.app_server.specs.declared.command.CommandWords.TheVariants.{Run, Serial, Check, Make}
 use Rattle.app_server.specs.declared.command.CommandWords.TheVariants.{Drill, Replay, Explain}
 use Rattle.app_server.specs.declared.command.CommandWords.TheVariants.{Picture, Archive}
-use Rattle.app_server.specs.declared.command.CommandWords.TheVariants.{Unarchive}
+use Rattle.app_server.specs.declared.command.CommandWords.TheVariants.{Unarchive, Buttons}
 use Rattle.app_server.specs.declared.status.Status.{Status}
 use Rattle.app_server.specs.declared.status.Status.TheVariants.{Finished, Illegal, Usage}
 use Rattle.app_server.specs.declared.status.Status.TheVariants.{BadScript, ReadFault, WriteFault}
@@ -32,6 +32,7 @@ IsBadFor (Explain x y) bytes line reason = IsFault (told_in bytes) line reason
 IsBadFor (Picture width height) bytes line reason = IsFault (picture_in bytes) line reason
 IsBadFor (Archive w) bytes line reason = IsFault (script_in bytes) line reason
 IsBadFor Unarchive bytes line reason = IsFault (tree_of_line bytes) line reason
+IsBadFor Buttons bytes line reason = IsFault (told_in bytes) line reason
 
 -- the bytes tell a history, which is illegal at this entry, or ends before it
 pub record TellsIllegal (bytes : List ℕ) (entry : ℕ) : Type 0 where
@@ -50,6 +51,7 @@ IsIllegalFor (Explain x y) bytes entry = TellsIllegal bytes entry
 IsIllegalFor (Picture width height) bytes entry = ⊥
 IsIllegalFor (Archive w) bytes entry = ⊥
 IsIllegalFor Unarchive bytes entry = ⊥
+IsIllegalFor Buttons bytes entry = TellsIllegal bytes entry
 
 -- a front part of what the command may write: none of it, some or all
 pub record IsFront (command : CommandWords) (bytes written : List ℕ) : Type 0 where

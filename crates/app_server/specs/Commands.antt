@@ -7,7 +7,7 @@ use Rattle.app_server.specs.declared.command.CommandWords.{CommandWords}
 use Rattle.app_server.specs.declared.command.CommandWords.TheVariants.{Run, Serial, Check, Make}
 use Rattle.app_server.specs.declared.command.CommandWords.TheVariants.{Drill, Replay, Explain}
 use Rattle.app_server.specs.declared.command.CommandWords.TheVariants.{Picture, Archive}
-use Rattle.app_server.specs.declared.command.CommandWords.TheVariants.{Unarchive}
+use Rattle.app_server.specs.declared.command.CommandWords.TheVariants.{Unarchive, Buttons}
 use Rattle.app_server.specs.declared.first_word.FirstWord.{FirstWord}
 use Rattle.app_server.specs.declared.first_word.FirstWord.TheVariants as first
 use Rattle.be_geom.specs.Points.{between}
@@ -28,6 +28,7 @@ first_words =
     ∷ (codes "picture", first.Picture)
     ∷ (codes "archive", first.Archive)
     ∷ (codes "unarchive", first.Unarchive)
+    ∷ (codes "buttons", first.Buttons)
     ∷ []
 
 unfoldable pub first_word_of : List ℕ → Option FirstWord
@@ -83,6 +84,7 @@ read_behind first.Explain = pixel_read
 read_behind first.Picture = picture_read
 read_behind first.Archive = archive_read
 read_behind first.Unarchive = gives Unarchive
+read_behind first.Buttons = gives Buttons
 
 -- the command that the words spell, each just so and none more, if they spell one
 abbrev pub command_behind : List (List ℕ) → Option FirstWord → Option CommandWords
@@ -111,6 +113,7 @@ IsInRange (Explain x y) = (x ≤ 1023) × (y ≤ 767)
 IsInRange (Picture width height) = IsSide width × IsSide height
 IsInRange (Archive w) = w ≤ 31
 IsInRange Unarchive = Unit {0}
+IsInRange Buttons = Unit {0}
 
 -- ---- one thread
 
@@ -126,6 +129,7 @@ unless_run (Explain x y) = Some (Explain x y)
 unless_run (Picture width height) = Some (Picture width height)
 unless_run (Archive w) = Some (Archive w)
 unless_run Unarchive = Some Unarchive
+unless_run Buttons = Some Buttons
 
 -- the command that the words spell there
 abbrev pub alone_command_of : List (List ℕ) → Option CommandWords

@@ -5,7 +5,7 @@ use Rattle.app_server.specs.declared.command.CommandWords.{CommandWords}
 use Rattle.app_server.specs.declared.command.CommandWords.TheVariants.{Run, Serial, Check, Make}
 use Rattle.app_server.specs.declared.command.CommandWords.TheVariants.{Drill, Replay, Explain}
 use Rattle.app_server.specs.declared.command.CommandWords.TheVariants.{Picture, Archive}
-use Rattle.app_server.specs.declared.command.CommandWords.TheVariants.{Unarchive}
+use Rattle.app_server.specs.declared.command.CommandWords.TheVariants.{Unarchive, Buttons}
 use Rattle.app_server.specs.declared.status.Status.{Status}
 use Rattle.app_server.specs.declared.status.Status.TheVariants.{Finished, Illegal, Usage}
 use Rattle.app_server.specs.declared.status.Status.TheVariants.{BadScript, ReadFault, WriteFault}
@@ -48,6 +48,7 @@ HasArchive (Archive w) bytes =
     (d : Declared) → script_in bytes ≡ Ok d
     → (line : List ℕ) × IsTreeLine (opening_tree d w) line
 HasArchive Unarchive bytes = Unit {0}
+HasArchive Buttons bytes = Unit {0}
 
 -- whatever the bytes, some judgement of them is right: where the input is neither bad nor illegal,
 -- there is something to be written

@@ -4,7 +4,7 @@ use Rattle.app_server.specs.declared.command.CommandWords.{CommandWords}
 use Rattle.app_server.specs.declared.command.CommandWords.TheVariants.{Run, Serial, Check, Make}
 use Rattle.app_server.specs.declared.command.CommandWords.TheVariants.{Drill, Replay, Explain}
 use Rattle.app_server.specs.declared.command.CommandWords.TheVariants.{Picture, Archive}
-use Rattle.app_server.specs.declared.command.CommandWords.TheVariants.{Unarchive}
+use Rattle.app_server.specs.declared.command.CommandWords.TheVariants.{Unarchive, Buttons}
 use Rattle.app_server.specs.CheckText.{check_text}
 use Rattle.app_server.specs.DrillText.{drill_text}
 use Rattle.app_server.specs.ExplainText.{explain_text}
@@ -15,6 +15,7 @@ use Rattle.be_machine.specs.Schedule.{IsScheduled}
 use Rattle.be_machine.specs.declared.Entry.{Entry}
 use Rattle.be_command.specs.declared.Command.{Command}
 use Rattle.be_made.specs.Made.{made}
+use Rattle.be_pressed.specs.ButtonText.{buttons_text}
 use Rattle.be_report.specs.Report.{report_of}
 use Rattle.be_report.specs.Told.{told_by}
 use Rattle.be_script.specs.Script.{Declared}
@@ -92,3 +93,4 @@ Writes (Picture width height) bytes written = WritesPicture width height bytes w
 Writes (Archive w) bytes written =
     WritesOfScript (λ d text. IsTreeLine (opening_tree d w) text) bytes written
 Writes Unarchive bytes written = WritesTree bytes written
+Writes Buttons bytes written = WritesOf buttons_text bytes written

@@ -32,6 +32,8 @@ pub enum CommandWords {
     Archive(u16),
     /// `unarchive`: the view tree of such bytes.
     Unarchive,
+    /// `buttons`: which letters of a script and a report of it press a view.
+    Buttons,
 }
 
 /// The command that the words spell, if they spell one.
@@ -53,6 +55,7 @@ pub fn command(words: &[String]) -> Option<CommandWords>
         FirstWord::Picture => picture(rest),
         FirstWord::Archive => archive(rest),
         FirstWord::Unarchive => alone(rest, CommandWords::Unarchive),
+        FirstWord::Buttons => alone(rest, CommandWords::Buttons),
     }
 }
 

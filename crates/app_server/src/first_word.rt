@@ -14,6 +14,7 @@ pub enum FirstWord {
     Picture,
     Archive,
     Unarchive,
+    Buttons,
 }
 
 impl FirstWord {
@@ -42,6 +43,8 @@ impl FirstWord {
             Some(FirstWord::Archive)
         } else if word == "unarchive" {
             Some(FirstWord::Unarchive)
+        } else if word == "buttons" {
+            Some(FirstWord::Buttons)
         } else {
             None
         }

@@ -6,6 +6,7 @@ ghost use Rattle.std.specs.Prelude.{◌≡◌, ◌⊎◌, IfErr};
 
 mod answer;
 mod archive;
+mod buttons;
 mod check;
 mod command;
 mod drill;

@@ -3,6 +3,7 @@ ghost use Rattle.app_server.specs.Commands.{alone_command_of, command_of};
 ghost use Rattle.app_server.specs.Headline.{turn, AnswersWords};
 
 use crate::archive::archive;
+use crate::buttons::buttons;
 use crate::check::check;
 use crate::command::{CommandWords, command};
 use crate::drill::drill;
@@ -37,7 +38,8 @@ pub fn serve<R: Threads + Wait + Sync, S: Source, K: Sink, G: Gate + Sync>(
         Some(CommandWords::Run) => run(rt, alloc, source, sink, gate),
         Some(CommandWords::Serial(_) | CommandWords::Check | CommandWords::Make(_))
         | Some(CommandWords::Drill(_) | CommandWords::Replay | CommandWords::Explain(..))
-        | Some(CommandWords::Picture(..) | CommandWords::Archive(_) | CommandWords::Unarchive)
+        | Some(CommandWords::Picture(..) | CommandWords::Archive(_))
+        | Some(CommandWords::Unarchive | CommandWords::Buttons)
         | None => serve_alone(alloc, words, source, sink),
     }
 }
@@ -63,6 +65,7 @@ pub fn serve_alone<S: Source, K: Sink>(
         Some(CommandWords::Picture(width, height)) => picture(alloc, width, height, source, sink),
         Some(CommandWords::Archive(window)) => archive(alloc, window, source, sink),
         Some(CommandWords::Unarchive) => unarchive(alloc, source, sink),
+        Some(CommandWords::Buttons) => buttons(alloc, source, sink),
         Some(CommandWords::Run) | None => Status::Usage,
     }
 }

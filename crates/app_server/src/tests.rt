@@ -37,6 +37,21 @@ const ARCHIVE: &[u8] =
 
 const TREE: &[u8] = b"size 7 5\nview 1 0 1 2 3 4 right top\n";
 
+const PRESSED: &[u8] = b"screen 4 1\n\
+    window a 0 0 3 0 firstclick\n\
+    view a k root 1 0 2 0 left top\n\
+    app m\n\
+    lock a\n\
+    show\n\
+    unlock\n\
+    end\n\
+    after m\n\
+    press 1 0\n\
+    release 2 0\n\
+    press 1 0\n\
+    release 0 0\n\
+    release 1 0\n";
+
 /// What a call answers, and what its sink holds then.
 fn served(
     alloc: Global,
@@ -178,6 +193,19 @@ fn draws_and_archives(rt: HostRuntime) -> Result<(), Fail> {
     Ok(())
 }
 
+// The report is that of `serial 0`. The second release is over the root, so the third is nobody's.
+#[test]
+fn hears_buttons(rt: HostRuntime) -> Result<(), Fail> {
+    let (answer, report) = served(rt.alloc(), &["serial", "0"], PRESSED, None, None)?;
+    assert_eq!(rt; answer, Status::Finished);
+    let mut both = Vec::from_slice(rt.alloc(), PRESSED)?;
+    both.extend_from_slice(&report)?;
+    let (answer, held) = served(rt.alloc(), &["buttons"], &both, None, None)?;
+    assert_eq!(rt; answer, Status::Finished);
+    assert_eq!(rt; held.as_slice(), b"a k 3\n".as_slice());
+    Ok(())
+}
+
 #[test]
 fn tells_faults(rt: HostRuntime) -> Result<(), Fail> {
     let two_lines = b"history 15\n1 app:m lock a\n2 app:m ".as_slice();
@@ -206,7 +234,7 @@ fn knows_its_words(rt: HostRuntime) -> Result<(), Fail> {
         &["picture", "1", "257"],
         &["archive", "32"],
         &["unarchive", "0"],
-        &["buttons"],
+        &["buttons", "0"],
         &["serial", "01"],
         &["serial"],
         &["run", "x"],
