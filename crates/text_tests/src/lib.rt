@@ -1,7 +1,21 @@
 //! The tests of the text crates. Nothing else is here.
 #![tactic(auto)]
 
+/// Asserts that two values are the same; in a table with what tells the row. (What `assert_eq!`
+/// writes out at each place is proved at each; a call of a function costs nearly nothing.)
+#[cfg(test)]
+macro_rules! same {
+    ($rt:expr; $found:expr, $due:expr) => {
+        $crate::same::same(&$rt, stringify!($found), $found, $due)
+    };
+    ($rt:expr; $found:expr, $due:expr, $case:expr) => {
+        $crate::same::same(&$rt, $case, $found, $due)
+    };
+}
+
 #[cfg(test)]
 mod command;
 #[cfg(test)]
 mod lex;
+#[cfg(test)]
+mod same;
