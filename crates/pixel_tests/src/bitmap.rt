@@ -32,25 +32,27 @@ fn kind_of(made: &Result<Bitmap, BitmapFault>) -> Kind {
     }
 }
 
+const SIDES: [(u16, u16, usize, Kind); 12] = [
+    (256, 256, 65536, Kind::Made),
+    (256, 256, 65535, Kind::WrongLength(65535)),
+    (257, 1, 257, Kind::TooLarge(257)),
+    (1, 257, 257, Kind::TooLarge(257)),
+    (257, 1, 3, Kind::TooLarge(3)),
+    (65535, 65535, 0, Kind::TooLarge(0)),
+    (0, 0, 0, Kind::Made),
+    (0, 256, 0, Kind::Made),
+    (0, 0, 1, Kind::WrongLength(1)),
+    (2, 2, 3, Kind::WrongLength(3)),
+    (2, 2, 5, Kind::WrongLength(5)),
+    (2, 2, 4, Kind::Made),
+];
+
 #[test]
 fn sides_and_numbers_of_pixels(rt: HostRuntime) -> Result<(), Fail> {
-    for (width, height, count, due) in [
-        (256, 256, 65536, Kind::Made),
-        (256, 256, 65535, Kind::WrongLength(65535)),
-        (257, 1, 257, Kind::TooLarge(257)),
-        (1, 257, 257, Kind::TooLarge(257)),
-        (257, 1, 3, Kind::TooLarge(3)),
-        (65535, 65535, 0, Kind::TooLarge(0)),
-        (0, 0, 0, Kind::Made),
-        (0, 256, 0, Kind::Made),
-        (0, 0, 1, Kind::WrongLength(1)),
-        (2, 2, 3, Kind::WrongLength(3)),
-        (2, 2, 5, Kind::WrongLength(5)),
-        (2, 2, 4, Kind::Made),
-    ] {
-        let pixels = vec![in rt.alloc(); BLUE; count]?;
-        let made = Bitmap::new(width, height, pixels);
-        assert_eq!(rt; kind_of(&made), due);
+    for (width, height, count, due) in &SIDES {
+        let pixels = vec![in rt.alloc(); BLUE; *count]?;
+        let made = Bitmap::new(*width, *height, pixels);
+        same!(rt; kind_of(&made), *due, (*width, *height, *count));
     }
     Ok(())
 }
@@ -64,41 +66,45 @@ fn three_by_two(rt: &(impl Abort + Alloc<A = Global>)) -> Result<Bitmap, Fail> {
     }
 }
 
+const PIXELS: [(i32, i32, Option<Color>); 11] = [
+    (0, 0, Some(RED)),
+    (1, 0, Some(Color::Clear)),
+    (2, 0, Some(BLUE)),
+    (0, 1, Some(BLUE)),
+    (2, 1, Some(RED)),
+    (3, 0, None),
+    (0, 2, None),
+    (2, 2, None),
+    (-1, 0, None),
+    (0, -1, None),
+    (i32::MIN, i32::MAX, None),
+];
+
 #[test]
 fn pixels_of_a_bitmap(rt: HostRuntime) -> Result<(), Fail> {
     let bitmap = three_by_two(&rt)?;
-    assert_eq!(rt; (bitmap.width(), bitmap.height()), (3, 2));
-    for (x, y, color) in [
-        (0, 0, Some(RED)),
-        (1, 0, Some(Color::Clear)),
-        (2, 0, Some(BLUE)),
-        (0, 1, Some(BLUE)),
-        (2, 1, Some(RED)),
-        (3, 0, None),
-        (0, 2, None),
-        (2, 2, None),
-        (-1, 0, None),
-        (0, -1, None),
-        (i32::MIN, i32::MAX, None),
-    ] {
-        assert_eq!(rt; bitmap.pixel(x, y), color);
+    same!(rt; (bitmap.width(), bitmap.height()), (3, 2));
+    for (x, y, color) in &PIXELS {
+        same!(rt; bitmap.pixel(*x, *y), *color, (*x, *y));
     }
     Ok(())
 }
 
+const ROWS: [(usize, usize, &[Color]); 7] = [
+    (0, 0, &[RED, Color::Clear, BLUE]),
+    (0, 1, &[Color::Clear, BLUE]),
+    (1, 0, &[BLUE, BLUE, RED]),
+    (1, 2, &[RED]),
+    (1, 3, &[]),
+    (2, 0, &[]),
+    (usize::MAX, usize::MAX, &[]),
+];
+
 #[test]
 fn rows_of_a_bitmap(rt: HostRuntime) -> Result<(), Fail> {
     let bitmap = three_by_two(&rt)?;
-    for (row, column, colors) in [
-        (0, 0, [RED, Color::Clear, BLUE].as_slice()),
-        (0, 1, [Color::Clear, BLUE].as_slice()),
-        (1, 0, [BLUE, BLUE, RED].as_slice()),
-        (1, 2, [RED].as_slice()),
-        (1, 3, [].as_slice()),
-        (2, 0, [].as_slice()),
-        (usize::MAX, usize::MAX, [].as_slice()),
-    ] {
-        assert_eq!(rt; bitmap.row_from(row, column), colors);
+    for (row, column, colors) in &ROWS {
+        same!(rt; bitmap.row_from(*row, *column), *colors, (*row, *column));
     }
     Ok(())
 }

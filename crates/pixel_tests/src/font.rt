@@ -116,88 +116,92 @@ fn the_printed_table(rt: HostRuntime) -> Result<(), Fail> {
                 } else {
                     let printed = PRINTED[usize::from(code - 32)];
                     let shift = u32::from(8 * (4 - column) + row);
-                    assert_eq!(rt; found, printed >> shift & 1 == 1);
+                    same!(rt; found, printed >> shift & 1 == 1);
                     let line = usize::from(code - 32) / 8;
                     counts[line] = counts[line].saturating_add(u32::from(found));
                 }
             }
         }
     }
-    assert_eq!(rt; counts, COUNTS);
+    same!(rt; counts, COUNTS);
     Ok(())
 }
 
+const DRAWN: [(u8, [&[u8; 5]; 7]); 5] = [
+    (
+        b'A',
+        [
+            b".###.", b"#...#", b"#...#", b"#...#", b"#####", b"#...#", b"#...#",
+        ],
+    ),
+    (
+        b'g',
+        [
+            b".....", b".####", b"#...#", b"#...#", b".####", b"....#", b".###.",
+        ],
+    ),
+    (
+        b'@',
+        [
+            b".###.", b"#...#", b"....#", b".##.#", b"#.#.#", b"#.#.#", b".###.",
+        ],
+    ),
+    (
+        b'%',
+        [
+            b"##...", b"##..#", b"...#.", b"..#..", b".#...", b"#..##", b"...##",
+        ],
+    ),
+    (
+        b'~',
+        [
+            b".....", b".....", b".#...", b"#.#.#", b"...#.", b".....", b".....",
+        ],
+    ),
+];
+
 #[test]
 fn glyphs_drawn_by_hand(rt: HostRuntime) -> Result<(), Fail> {
-    for (code, drawn) in [
-        (
-            b'A',
-            [
-                b".###.", b"#...#", b"#...#", b"#...#", b"#####", b"#...#", b"#...#",
-            ],
-        ),
-        (
-            b'g',
-            [
-                b".....", b".####", b"#...#", b"#...#", b".####", b"....#", b".###.",
-            ],
-        ),
-        (
-            b'@',
-            [
-                b".###.", b"#...#", b"....#", b".##.#", b"#.#.#", b"#.#.#", b".###.",
-            ],
-        ),
-        (
-            b'%',
-            [
-                b"##...", b"##..#", b"...#.", b"..#..", b".#...", b"#..##", b"...##",
-            ],
-        ),
-        (
-            b'~',
-            [
-                b".....", b".....", b".#...", b"#.#.#", b"...#.", b".....", b".....",
-            ],
-        ),
-    ] {
+    for (code, drawn) in &DRAWN {
         for row in 0..7u8 {
             for column in 0..5u8 {
                 let drawn_bit = drawn[usize::from(row)][usize::from(column)] == b'#';
-                assert_eq!(rt; bit(code, column, row), drawn_bit);
+                same!(rt; bit(*code, column, row), drawn_bit, (*code, column, row));
             }
         }
     }
     Ok(())
 }
 
+const RUNS: [(u8, u8, u8, Option<(u8, u8)>); 17] = [
+    // `#####`
+    (b'A', 4, 0, Some((0, 4))),
+    (b'A', 4, 3, Some((3, 4))),
+    (b'A', 4, 4, Some((4, 4))),
+    (b'A', 4, 5, None),
+    // `#.#.#`
+    (b'~', 3, 0, Some((0, 0))),
+    (b'~', 3, 1, Some((2, 2))),
+    (b'~', 3, 3, Some((4, 4))),
+    // `.##.#`
+    (b'@', 3, 0, Some((1, 2))),
+    (b'@', 3, 2, Some((2, 2))),
+    (b'@', 3, 3, Some((4, 4))),
+    // `##...`
+    (b'%', 0, 0, Some((0, 1))),
+    (b'%', 0, 2, None),
+    // outside the table, and far to the right
+    (b'A', 7, 0, None),
+    (31, 0, 0, None),
+    (127, 3, 0, None),
+    (b'A', 4, 8, None),
+    (b'A', 4, 255, None),
+];
+
 #[test]
 fn runs_of_a_row(rt: HostRuntime) -> Result<(), Fail> {
-    for (code, row, from, run) in [
-        // `#####`
-        (b'A', 4, 0, Some((0, 4))),
-        (b'A', 4, 3, Some((3, 4))),
-        (b'A', 4, 4, Some((4, 4))),
-        (b'A', 4, 5, None),
-        // `#.#.#`
-        (b'~', 3, 0, Some((0, 0))),
-        (b'~', 3, 1, Some((2, 2))),
-        (b'~', 3, 3, Some((4, 4))),
-        // `.##.#`
-        (b'@', 3, 0, Some((1, 2))),
-        (b'@', 3, 2, Some((2, 2))),
-        (b'@', 3, 3, Some((4, 4))),
-        // `##...`
-        (b'%', 0, 0, Some((0, 1))),
-        (b'%', 0, 2, None),
-        // outside the table, and far to the right
-        (b'A', 7, 0, None),
-        (31, 0, 0, None),
-        (127, 3, 0, None),
-        (b'A', 4, 8, None),
-        (b'A', 4, 255, None),
-    ] {
-        assert_eq!(rt; next_run(code, row, from), run);
+    for (code, row, from, run) in &RUNS {
+        same!(rt; next_run(*code, *row, *from), *run, (*code, *row, *from));
     }
     Ok(())
 }
@@ -214,7 +218,7 @@ fn widths_of_texts(rt: HostRuntime) -> Result<(), Fail> {
         (b"\x1f\x7f".as_slice(), Err(NotInFont { at: 0 })),
         (b"ab\x7f\x1f".as_slice(), Err(NotInFont { at: 2 })),
     ] {
-        assert_eq!(rt; width_of(text), width);
+        same!(rt; width_of(text), width);
     }
     Ok(())
 }

@@ -3,6 +3,7 @@ ghost use Rattle.std.specs.Prelude.{pos, ◌≤ℤ◌};
 use be_geom::{NoMemory, OutOfRange, Point, Rect};
 use be_region::{Corner, Region};
 use std::alloc::Global;
+use std::process::Abort;
 use std::test::Fail;
 
 /// The pixels from -4 to 3 in both directions, row by row, one bit each.
@@ -164,97 +165,115 @@ impl Random {
     }
 }
 
+/// Asserts that a region has these pixels, by each way to ask it.
+fn assert_alone(rt: &impl Abort, case: i32, region: &Region, pixels: Pixels) {
+    let found = (
+        pixels_of(region, 0, 0),
+        pixels_by_band(region),
+        region.frame(),
+    );
+    same!(rt; found, (pixels, Some(pixels), frame_of_pixels(pixels)), (case, region));
+    same!(rt; runs_agree(region), true, (case, region));
+}
+
+fn united(one: &Region, other: &Region) -> Result<Option<Pixels>, NoMemory> {
+    let mut union = one.copy()?;
+    union.include(other)?;
+    Ok(pixels_by_band(&union))
+}
+
+fn left_over(one: &Region, other: &Region) -> Result<Option<Pixels>, NoMemory> {
+    let mut rest = one.copy()?;
+    rest.exclude(other)?;
+    Ok(pixels_by_band(&rest))
+}
+
+fn shared(one: &Region, other: &Region) -> Result<Option<Pixels>, NoMemory> {
+    let mut both = one.copy()?;
+    both.intersect(other)?;
+    Ok(pixels_by_band(&both))
+}
+
 #[test]
 fn agrees_with_plain_sets(rt: HostRuntime) -> Result<(), Fail> {
     let mut random = Random(2026);
     for case in 0..250 {
         let (a, a_pixels) = random.region(rt.alloc())?;
         let (b, b_pixels) = random.region(rt.alloc())?;
-        assert_eq!(rt; pixels_of(&a, 0, 0), a_pixels, "case {case}: {a:?}");
-        assert_eq!(rt; pixels_by_band(&a), Some(a_pixels), "case {case}: {a:?}");
-        assert_eq!(rt; a.frame(), frame_of_pixels(a_pixels), "case {case}: {a:?}");
-        assert!(rt; runs_agree(&a), "case {case}: {a:?}");
-        let mut union = a.copy()?;
-        union.include(&b)?;
-        assert_eq!(rt;
-            pixels_by_band(&union),
-            Some(a_pixels | b_pixels),
-            "case {case}: {a:?} {b:?}"
-        );
-        let mut rest = a.copy()?;
-        rest.exclude(&b)?;
-        assert_eq!(rt;
-            pixels_by_band(&rest),
-            Some(a_pixels & !b_pixels),
-            "case {case}: {a:?} {b:?}"
-        );
-        let mut both = a.copy()?;
-        both.intersect(&b)?;
-        assert_eq!(rt;
-            pixels_by_band(&both),
-            Some(a_pixels & b_pixels),
-            "case {case}: {a:?} {b:?}"
-        );
+        assert_alone(&rt, case, &a, a_pixels);
+        same!(rt; united(&a, &b)?, Some(a_pixels | b_pixels), (case, &a, &b));
+        same!(rt; left_over(&a, &b)?, Some(a_pixels & !b_pixels), (case, &a, &b));
+        same!(rt; shared(&a, &b)?, Some(a_pixels & b_pixels), (case, &a, &b));
         let (dx, dy) = (i32::from(random.next()) * 100, i32::from(random.next()) - 4);
         let mut moved = a;
-        assert_eq!(rt; moved.offset(dx, dy), Ok(()));
-        assert_eq!(rt;
-            pixels_of(&moved, dx, dy),
-            a_pixels,
-            "case {case}: {moved:?}"
-        );
+        let found = (moved.offset(dx, dy), pixels_of(&moved, dx, dy));
+        same!(rt; found, (Ok(()), a_pixels), (case, &moved));
     }
     Ok(())
 }
 
+/// Four columns and four rows, without the four pixels in the middle.
+fn holed(alloc: Global) -> Result<Region, NoMemory> {
+    let mut region = Region::from_rect(alloc, rect(0, 0, 3, 3))?;
+    region.exclude(&Region::from_rect(alloc, rect(1, 1, 2, 2))?)?;
+    Ok(region)
+}
+
 #[test]
 fn cuts_a_hole(rt: HostRuntime) -> Result<(), Fail> {
-    let mut region = Region::from_rect(rt.alloc(), rect(0, 0, 3, 3))?;
-    region.exclude(&Region::from_rect(rt.alloc(), rect(1, 1, 2, 2))?)?;
-    assert_eq!(rt; region.frame(), Some(rect(0, 0, 3, 3)));
-    assert_eq!(rt; region.count(), 4);
+    let mut region = holed(rt.alloc())?;
+    same!(rt; (region.frame(), region.count()), (Some(rect(0, 0, 3, 3)), 4));
     for (place, rect) in [
         (0, rect(0, 0, 3, 0)),
         (1, rect(0, 1, 0, 2)),
         (2, rect(3, 1, 3, 2)),
         (3, rect(0, 3, 3, 3)),
     ] {
-        assert_eq!(rt; region.rect_at(place), Some(rect));
+        same!(rt; region.rect_at(place), Some(rect), place);
     }
-    assert!(rt; !region.contains(1, 1));
-    assert!(rt; region.contains(3, 2));
-    assert!(rt; !region.contains(65536, 0));
-    let same = region.copy()?;
     let pixels = pixels_of(&region, 0, 0);
-    region.include(&same)?;
-    assert_eq!(rt; pixels_of(&region, 0, 0), pixels);
-    assert_eq!(rt; region.count(), 4);
-    for (x, y, run) in [
-        (-5, 0, (false, -1)),
-        (0, 0, (true, 3)),
-        (0, 1, (true, 0)),
-        (1, 2, (false, 2)),
-        (3, 2, (true, 3)),
-        (4, 2, (false, 2147483647)),
-        (0, -1, (false, 2147483647)),
-        (0, 4, (false, 2147483647)),
-        (2147483647, 3, (false, 2147483647)),
-    ] {
-        assert_eq!(rt; region.run_at(x, y), run, "at {x}, {y}");
+    region.include(&holed(rt.alloc())?)?;
+    same!(rt; (pixels_of(&region, 0, 0), region.count()), (pixels, 4));
+    Ok(())
+}
+
+/// Pixels, each with whether the region has it.
+const INSIDE: [(i32, i32, bool); 3] = [(1, 1, false), (3, 2, true), (65536, 0, false)];
+
+const RUNS: [(i32, i32, (bool, i32)); 9] = [
+    (-5, 0, (false, -1)),
+    (0, 0, (true, 3)),
+    (0, 1, (true, 0)),
+    (1, 2, (false, 2)),
+    (3, 2, (true, 3)),
+    (4, 2, (false, 2147483647)),
+    (0, -1, (false, 2147483647)),
+    (0, 4, (false, 2147483647)),
+    (2147483647, 3, (false, 2147483647)),
+];
+
+#[test]
+fn goes_round_a_hole(rt: HostRuntime) -> Result<(), Fail> {
+    let region = holed(rt.alloc())?;
+    for (x, y, inside) in &INSIDE {
+        same!(rt; region.contains(*x, *y), *inside, (*x, *y));
     }
-    assert_eq!(rt;
-        region.block_at(1, 1).1,
-        Corner {
-            right: 2,
-            bottom: 2
-        }
-    );
+    for (x, y, run) in &RUNS {
+        same!(rt; region.run_at(*x, *y), *run, (*x, *y));
+    }
+    let corner = Corner {
+        right: 2,
+        bottom: 2,
+    };
+    same!(rt; region.block_at(1, 1).1, corner);
+    Ok(())
+}
+
+#[test]
+fn has_no_pixel(rt: HostRuntime) -> Result<(), Fail> {
     let empty = Region::empty(rt.alloc());
-    assert_eq!(rt; empty.count(), 0);
-    assert_eq!(rt; empty.rect_at(0), None);
-    assert_eq!(rt; empty.frame(), None);
-    let none = Region::from_rect(rt.alloc(), rect(1, 0, 0, 0))?;
-    assert_eq!(rt; none.count(), 0);
+    same!(rt; (empty.count(), empty.rect_at(0), empty.frame()), (0, None, None));
+    same!(rt; Region::from_rect(rt.alloc(), rect(1, 0, 0, 0))?.count(), 0);
     Ok(())
 }
 
@@ -267,32 +286,34 @@ fn goes_to_and_fro(rt: HostRuntime) -> Result<(), Fail> {
             rect(step % 10, step / 10, step % 10, step / 10),
         )?;
         region.exclude(&pixel)?;
-        assert!(rt; region.count() <= 4, "at {step}: {region:?}");
+        same!(rt; region.count() <= 4, true, (step, &region));
         region.include(&pixel)?;
-        assert_eq!(rt; region.count(), 1, "at {step}: {region:?}");
+        same!(rt; region.count(), 1, (step, &region));
     }
-    assert_eq!(rt; region.rect_at(0), Some(rect(0, 0, 9, 9)));
+    same!(rt; region.rect_at(0), Some(rect(0, 0, 9, 9)));
     Ok(())
 }
+
+/// Ways to go, each with whether the region stays in its range.
+const MOVES: [(i32, i32, bool); 8] = [
+    (1, 0, false),
+    (0, -1, false),
+    (-32768, 0, false),
+    (0, 32768, false),
+    (2147483647, 0, false),
+    (0, -2147483648, false),
+    (-32767, 32767, true),
+    (32767, -32767, true),
+];
 
 #[test]
 fn stays_in_its_range(rt: HostRuntime) -> Result<(), Fail> {
     let mut region = Region::from_rect(rt.alloc(), rect(32766, 0, 32767, 0))?;
     region.include(&Region::from_rect(rt.alloc(), rect(-1, -32768, 0, -32767))?)?;
-    for (dx, dy, stays) in [
-        (1, 0, false),
-        (0, -1, false),
-        (-32768, 0, false),
-        (0, 32768, false),
-        (2147483647, 0, false),
-        (0, -2147483648, false),
-        (-32767, 32767, true),
-        (32767, -32767, true),
-    ] {
-        let moved = region.offset(dx, dy);
-        assert_eq!(rt; moved.is_ok(), stays, "by {dx}, {dy}");
-        assert_eq!(rt; moved.err(), if stays { None } else { Some(OutOfRange) });
+    for (dx, dy, stays) in &MOVES {
+        let due = if *stays { Ok(()) } else { Err(OutOfRange) };
+        same!(rt; region.offset(*dx, *dy), due, (*dx, *dy));
     }
-    assert_eq!(rt; region.frame(), Some(rect(-1, -32768, 32767, 0)));
+    same!(rt; region.frame(), Some(rect(-1, -32768, 32767, 0)));
     Ok(())
 }

@@ -3,6 +3,7 @@ use be_geom::{NoMemory, Rect};
 use be_region::Region;
 use be_span::{Brush, Cell, Source, SpanBuf, paint_cells};
 use std::alloc::Global;
+use std::process::Abort;
 use std::test::Fail;
 
 const RED: Cell = Cell {
@@ -75,9 +76,9 @@ fn a_window_of_two_pixels_moves(rt: HostRuntime) -> Result<(), Fail> {
         (1, 1, None),
         (1, -1, None),
     ] {
-        assert_eq!(rt; new.get(x, y), due, "at {x}, {y}");
+        same!(rt; new.get(x, y), due, (x, y));
     }
-    assert_eq!(rt; new.dirty_count(), 1);
+    same!(rt; new.dirty_count(), 1);
     Ok(())
 }
 
@@ -108,7 +109,7 @@ fn with_a_hole(alloc: Global) -> Result<SpanBuf, NoMemory> {
 #[test]
 fn rows_go_to_the_ends_of_spans(rt: HostRuntime) -> Result<(), Fail> {
     let spans = with_a_hole(rt.alloc())?;
-    assert_eq!(rt; spans.region().count(), 3);
+    same!(rt; spans.region().count(), 3);
     for (x, y, len) in [
         (0, 0, 1),
         (1, 0, 0),
@@ -117,9 +118,9 @@ fn rows_go_to_the_ends_of_spans(rt: HostRuntime) -> Result<(), Fail> {
         (1, 1, 2),
         (3, 1, 0),
     ] {
-        assert_eq!(rt; spans.row_from(x, y).len(), len, "from {x}, {y}");
+        same!(rt; spans.row_from(x, y).len(), len, (x, y));
     }
-    assert_eq!(rt; spans.dirty_count(), 2);
+    same!(rt; spans.dirty_count(), 2);
     assert!(rt; !spans.is_clean());
     Ok(())
 }
@@ -139,11 +140,11 @@ fn a_hole_moves_a_row_down(rt: HostRuntime) -> Result<(), Fail> {
         (2, 2, rgb(1, 1, 0)),
         (3, 2, rgb(2, 1, 0)),
     ] {
-        assert_eq!(rt; color_at(&new, x, y), Some(due), "at {x}, {y}");
+        same!(rt; color_at(&new, x, y), Some(due), (x, y));
     }
-    assert_eq!(rt; new.dirty_count(), 2);
+    same!(rt; new.dirty_count(), 2);
     SpanBuf::carry(&mut old, i32::MIN, i32::MAX, &mut new);
-    assert_eq!(rt; new.dirty_count(), 2);
+    same!(rt; new.dirty_count(), 2);
     Ok(())
 }
 
@@ -157,7 +158,7 @@ fn marks_are_taken_away(rt: HostRuntime) -> Result<(), Fail> {
         (1, 1, Some(rgb(1, 1, 0))),
         (2, 1, Some(rgb(2, 1, 0))),
     ] {
-        assert_eq!(rt; color_at(&spans, x, y), due, "at {x}, {y}");
+        same!(rt; color_at(&spans, x, y), due, (x, y));
     }
     assert!(rt; spans.is_clean());
     Ok(())
@@ -187,9 +188,9 @@ fn a_part_has_its_cells_and_marks(rt: HostRuntime) -> Result<(), Fail> {
         (1, 1, Some(rgb(1, 1, 0))),
         (2, 1, Some(rgb(2, 1, 0))),
     ] {
-        assert_eq!(rt; color_at(&part, x, y), due, "at {x}, {y}");
+        same!(rt; color_at(&part, x, y), due, (x, y));
     }
-    assert_eq!(rt; part.dirty_count(), 2);
+    same!(rt; part.dirty_count(), 2);
     Ok(())
 }
 
@@ -205,9 +206,9 @@ fn a_column_comes_to_the_rest(rt: HostRuntime) -> Result<(), Fail> {
         (0, 1, Some(RED)),
         (2, 1, Some(BLACK)),
     ] {
-        assert_eq!(rt; rest.get(x, y), due, "at {x}, {y}");
+        same!(rt; rest.get(x, y), due, (x, y));
     }
-    assert_eq!(rt; (rest.region().count(), rest.dirty_count()), (3, 1));
+    same!(rt; (rest.region().count(), rest.dirty_count()), (3, 1));
     Ok(())
 }
 
@@ -219,39 +220,47 @@ fn brush_of(mode: Mode) -> Brush {
     }
 }
 
+/// A mode, and what comes of (200, 10, 255) where (100, 20, 254) is laid on it.
+const PAINTED: [(Mode, u8, u8, u8); 10] = [
+    (Mode::Copy, 100, 20, 254),
+    (Mode::Over, 100, 20, 254),
+    (Mode::Erase, 4, 5, 6),
+    (Mode::Invert, 55, 245, 0),
+    (Mode::Add, 255, 30, 255),
+    (Mode::Subtract, 100, 0, 1),
+    (Mode::Blend, 150, 15, 254),
+    (Mode::Min, 100, 10, 254),
+    (Mode::Max, 200, 20, 255),
+    (Mode::Select, 200, 10, 255),
+];
+
+/// Three dirty cells of a row, of which the second and the third were painted in a mode.
+fn painted(rt: &(impl Abort + Alloc<A = Global>), mode: Mode) -> Result<SpanBuf, NoMemory> {
+    let mut spans = black_spans(rt.alloc(), &[row(0, 2, 0)])?;
+    for x in 0..3 {
+        same!(rt; spans.set(x, 0, dirty(200, 10, 255)), true);
+    }
+    let count = spans.row_from(1, 0).len();
+    let source = Source::One(Color::Solid(rgb(100, 20, 254)));
+    spans.paint_row(1, 0, count, brush_of(mode), source);
+    Ok(spans)
+}
+
+fn dirty(red: u8, green: u8, blue: u8) -> Cell {
+    Cell {
+        rgb: rgb(red, green, blue),
+        dirty: true,
+    }
+}
+
 #[test]
 fn each_mode_paints_a_row(rt: HostRuntime) -> Result<(), Fail> {
-    let source = Source::One(Color::Solid(rgb(100, 20, 254)));
-    for (mode, due) in [
-        (Mode::Copy, rgb(100, 20, 254)),
-        (Mode::Over, rgb(100, 20, 254)),
-        (Mode::Erase, LOW),
-        (Mode::Invert, rgb(55, 245, 0)),
-        (Mode::Add, rgb(255, 30, 255)),
-        (Mode::Subtract, rgb(100, 0, 1)),
-        (Mode::Blend, rgb(150, 15, 254)),
-        (Mode::Min, rgb(100, 10, 254)),
-        (Mode::Max, rgb(200, 20, 255)),
-        (Mode::Select, rgb(200, 10, 255)),
-    ] {
-        let mut spans = black_spans(rt.alloc(), &[row(0, 2, 0)])?;
-        let old = Cell {
-            rgb: rgb(200, 10, 255),
-            dirty: true,
-        };
-        for x in 0..3 {
-            assert!(rt; spans.set(x, 0, old));
-        }
-        let count = spans.row_from(1, 0).len();
-        spans.paint_row(1, 0, count, brush_of(mode), source);
-        let new = Cell {
-            rgb: due,
-            dirty: true,
-        };
-        assert_eq!(rt; spans.get(0, 0), Some(old), "in {mode:?}");
-        assert_eq!(rt; spans.get(1, 0), Some(new), "in {mode:?}");
-        assert_eq!(rt; spans.get(2, 0), Some(new), "in {mode:?}");
-        assert_eq!(rt; spans.dirty_count(), 3);
+    for (mode, red, green, blue) in &PAINTED {
+        let spans = painted(&rt, *mode)?;
+        let new = Some(dirty(*red, *green, *blue));
+        same!(rt; spans.get(0, 0), Some(dirty(200, 10, 255)), *mode);
+        same!(rt; (spans.get(1, 0), spans.get(2, 0)), (new, new), *mode);
+        same!(rt; spans.dirty_count(), 3, *mode);
     }
     Ok(())
 }
@@ -272,6 +281,6 @@ fn bits_pick_the_colors_of_a_row(rt: HostRuntime) {
         let mut cells = [WHITE; 4];
         paint_cells(&mut cells, brush_of(mode), Source::Bits { byte, column });
         let [a, b, c, d] = cells;
-        assert_eq!(rt; [a.rgb, b.rgb, c.rgb, d.rgb], due, "{byte} in {mode:?}");
+        same!(rt; [a.rgb, b.rgb, c.rgb, d.rgb], due, (byte, mode));
     }
 }

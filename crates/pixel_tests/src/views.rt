@@ -19,28 +19,31 @@ fn rect(left: i16, top: i16, right: i16, bottom: i16) -> Rect {
     }
 }
 
+/// Pixels, each with the view at it.
+const VIEWS: [(i32, i32, Option<u16>); 12] = [
+    (0, 0, Some(0)),
+    (1, 1, Some(3)),
+    (2, 1, Some(1)),
+    (3, 3, Some(2)),
+    (5, 5, Some(2)),
+    (4, 4, Some(4)),
+    (7, 4, Some(4)),
+    (8, 4, Some(0)),
+    (9, 9, Some(0)),
+    (10, 9, None),
+    (-1, 0, None),
+    (2147483647, -2147483648, None),
+];
+
 #[test]
 fn finds_the_later_of_two_children(rt: HostRuntime) -> Result<(), Fail> {
     let mut tree = ViewTree::new(rt.alloc(), 9, 9)?;
-    assert_eq!(rt; tree.add(0, rect(1, 1, 5, 5), FIXED), Ok(1));
-    assert_eq!(rt; tree.add(0, rect(3, 3, 7, 7), FIXED), Ok(2));
-    assert_eq!(rt; tree.add(1, rect(0, 0, 0, 0), FIXED), Ok(3));
-    assert_eq!(rt; tree.add(2, rect(1, 1, 20, 1), FIXED), Ok(4));
-    for (x, y, view) in [
-        (0, 0, Some(0)),
-        (1, 1, Some(3)),
-        (2, 1, Some(1)),
-        (3, 3, Some(2)),
-        (5, 5, Some(2)),
-        (4, 4, Some(4)),
-        (7, 4, Some(4)),
-        (8, 4, Some(0)),
-        (9, 9, Some(0)),
-        (10, 9, None),
-        (-1, 0, None),
-        (2147483647, -2147483648, None),
-    ] {
-        assert_eq!(rt; tree.view_at(x, y), view, "at {x}, {y}");
+    same!(rt; tree.add(0, rect(1, 1, 5, 5), FIXED), Ok(1));
+    same!(rt; tree.add(0, rect(3, 3, 7, 7), FIXED), Ok(2));
+    same!(rt; tree.add(1, rect(0, 0, 0, 0), FIXED), Ok(3));
+    same!(rt; tree.add(2, rect(1, 1, 20, 1), FIXED), Ok(4));
+    for (x, y, view) in &VIEWS {
+        same!(rt; tree.view_at(*x, *y), *view, (*x, *y));
     }
     let same = tree.copy()?;
     for (view, parent, place, frame) in [
@@ -50,42 +53,30 @@ fn finds_the_later_of_two_children(rt: HostRuntime) -> Result<(), Fail> {
         (4, Some(2), Some((4, 4)), Some(rect(1, 1, 20, 1))),
         (5, None, None, None),
     ] {
-        assert_eq!(rt; same.parent(view), parent, "of {view}");
-        assert_eq!(rt; same.place_of(view), place, "of {view}");
-        assert_eq!(rt; same.frame_of(view), frame, "of {view}");
+        same!(rt; same.parent(view), parent, view);
+        same!(rt; same.place_of(view), place, view);
+        same!(rt; same.frame_of(view), frame, view);
     }
-    assert_eq!(rt; same.len(), 5);
-    assert_eq!(rt; same.mode_of(4), Some(FIXED));
-    assert_eq!(rt; same.mode_of(5), None);
+    same!(rt; same.len(), 5);
+    same!(rt; same.mode_of(4), Some(FIXED));
+    same!(rt; same.mode_of(5), None);
     Ok(())
 }
 
 #[test]
 fn refuses_views(rt: HostRuntime) -> Result<(), Fail> {
     let mut tree = ViewTree::new(rt.alloc(), 0, 0)?;
-    assert_eq!(rt;
-        tree.add(99, rect(0, 0, 0, 0), FIXED),
-        Err(ViewFault::NoView)
-    );
+    same!(rt; tree.add(99, rect(0, 0, 0, 0), FIXED), Err(ViewFault::NoView));
     for parent in 0..7u16 {
-        assert_eq!(rt; tree.add(parent, rect(0, 0, 0, 0), FIXED), Ok(parent + 1));
+        same!(rt; tree.add(parent, rect(0, 0, 0, 0), FIXED), Ok(parent + 1));
     }
-    assert_eq!(rt;
-        tree.add(7, rect(0, 0, 0, 0), FIXED),
-        Err(ViewFault::TooDeep)
-    );
+    same!(rt; tree.add(7, rect(0, 0, 0, 0), FIXED), Err(ViewFault::TooDeep));
     for number in 8..32u16 {
-        assert_eq!(rt; tree.add(0, rect(0, 0, 0, 0), FIXED), Ok(number));
+        same!(rt; tree.add(0, rect(0, 0, 0, 0), FIXED), Ok(number));
     }
-    assert_eq!(rt;
-        tree.add(0, rect(0, 0, 0, 0), FIXED),
-        Err(ViewFault::TooMany)
-    );
-    assert_eq!(rt;
-        tree.add(7, rect(0, 0, 0, 0), FIXED),
-        Err(ViewFault::TooDeep)
-    );
-    assert_eq!(rt; tree.len(), 32);
+    same!(rt; tree.add(0, rect(0, 0, 0, 0), FIXED), Err(ViewFault::TooMany));
+    same!(rt; tree.add(7, rect(0, 0, 0, 0), FIXED), Err(ViewFault::TooDeep));
+    same!(rt; tree.len(), 32);
     Ok(())
 }
 
@@ -126,59 +117,63 @@ fn cuts_a_view_by_those_round_it_and_in_it(rt: HostRuntime) -> Result<(), Fail> 
     ] {
         let clip = tree.clip_of(view)?;
         for (place, rect) in rects.iter().enumerate() {
-            assert_eq!(rt; clip.rect_at(place), *rect, "{place} of {view}");
+            same!(rt; clip.rect_at(place), *rect, (place, view));
         }
     }
-    assert_eq!(rt; tree.clip_of(0)?.frame(), Some(rect(0, 0, 9, 9)));
+    same!(rt; tree.clip_of(0)?.frame(), Some(rect(0, 0, 9, 9)));
     assert!(rt; matches!(tree.clip_of(5), Err(ClipFault::NoView)));
     Ok(())
 }
 
+const RUNS: [(i32, i32, (Option<u16>, i32)); 12] = [
+    (-5, 4, (None, -1)),
+    (0, 4, (Some(0), 0)),
+    (1, 4, (Some(1), 2)),
+    (3, 4, (Some(2), 3)),
+    (4, 4, (Some(4), 7)),
+    (5, 4, (Some(4), 7)),
+    (8, 4, (Some(0), 9)),
+    (10, 4, (None, 2147483647)),
+    (0, 10, (None, 2147483647)),
+    (1, 1, (Some(3), 1)),
+    (2, 1, (Some(1), 5)),
+    (0, 9, (Some(0), 9)),
+];
+
 #[test]
 fn goes_along_a_row(rt: HostRuntime) -> Result<(), Fail> {
     let tree = five_views(rt.alloc())?;
-    for (x, y, run) in [
-        (-5, 4, (None, -1)),
-        (0, 4, (Some(0), 0)),
-        (1, 4, (Some(1), 2)),
-        (3, 4, (Some(2), 3)),
-        (4, 4, (Some(4), 7)),
-        (5, 4, (Some(4), 7)),
-        (8, 4, (Some(0), 9)),
-        (10, 4, (None, 2147483647)),
-        (0, 10, (None, 2147483647)),
-        (1, 1, (Some(3), 1)),
-        (2, 1, (Some(1), 5)),
-        (0, 9, (Some(0), 9)),
-    ] {
-        assert_eq!(rt; tree.run_at(x, y), run, "at {x}, {y}");
+    for (x, y, run) in &RUNS {
+        same!(rt; tree.run_at(*x, *y), *run, (*x, *y));
     }
     Ok(())
 }
 
+const SHOWN: [(u16, i32, i32, bool, i32, i32); 13] = [
+    (0, -5, 4, false, -1, 2147483647),
+    (0, -5, -5, false, 2147483647, -1),
+    (3, 10, 0, false, 2147483647, 2147483647),
+    (0, 0, 0, true, 9, 0),
+    (0, 8, 4, true, 9, 9),
+    (3, 1, 1, true, 1, 1),
+    (1, 2, 1, true, 5, 2),
+    (2, 3, 3, true, 7, 3),
+    (4, 4, 4, true, 7, 4),
+    (0, 1, 1, false, 5, 2),
+    (1, 1, 1, false, 1, 1),
+    (4, 5, 5, false, 7, 7),
+    (5, 0, 0, false, 9, 0),
+];
+
 #[test]
 fn tells_where_a_view_shows(rt: HostRuntime) -> Result<(), Fail> {
     let tree = five_views(rt.alloc())?;
-    for (view, x, y, shows, right, bottom) in [
-        (0, -5, 4, false, -1, 2147483647),
-        (0, -5, -5, false, 2147483647, -1),
-        (3, 10, 0, false, 2147483647, 2147483647),
-        (0, 0, 0, true, 9, 0),
-        (0, 8, 4, true, 9, 9),
-        (3, 1, 1, true, 1, 1),
-        (1, 2, 1, true, 5, 2),
-        (2, 3, 3, true, 7, 3),
-        (4, 4, 4, true, 7, 4),
-        (0, 1, 1, false, 5, 2),
-        (1, 1, 1, false, 1, 1),
-        (4, 5, 5, false, 7, 7),
-        (5, 0, 0, false, 9, 0),
-    ] {
-        assert_eq!(rt;
-            tree.shows_at(view, x, y),
-            (shows, Corner { right, bottom }),
-            "{view} at {x}, {y}"
-        );
+    for (view, x, y, shows, right, bottom) in &SHOWN {
+        let corner = Corner {
+            right: *right,
+            bottom: *bottom,
+        };
+        same!(rt; tree.shows_at(*view, *x, *y), (*shows, corner), (*view, *x, *y));
     }
     Ok(())
 }
@@ -201,10 +196,10 @@ fn follows_its_window(rt: HostRuntime) -> Result<(), Fail> {
         (0, 3, rect(1, 2, -2, 2), rect(-3, 0, -3, 0)),
         (4, 0, rect(1, 0, 2, 0), rect(1, 0, 1, 0)),
     ] {
-        assert_eq!(rt; tree.resize(width, height), Ok(()));
-        assert_eq!(rt; tree.frame_of(0), Some(rect(0, 0, width, height)));
-        assert_eq!(rt; tree.frame_of(1), Some(first), "at {width}");
-        assert_eq!(rt; tree.frame_of(2), Some(second), "at {width}");
+        same!(rt; tree.resize(width, height), Ok(()));
+        same!(rt; tree.frame_of(0), Some(rect(0, 0, width, height)));
+        same!(rt; tree.frame_of(1), Some(first), width);
+        same!(rt; tree.frame_of(2), Some(second), width);
     }
     Ok(())
 }
@@ -218,8 +213,8 @@ fn stays_where_a_view_would_leave_the_range(rt: HostRuntime) -> Result<(), Fail>
     let mut tree = ViewTree::new(rt.alloc(), 0, 0)?;
     tree.add(0, rect(0, 0, 0, 0), right)?;
     tree.add(0, rect(32000, 0, 32767, 0), right)?;
-    assert_eq!(rt; tree.resize(32767, 0), Err(OutOfRange));
-    assert_eq!(rt; tree.frame_of(0), Some(rect(0, 0, 0, 0)));
-    assert_eq!(rt; tree.frame_of(1), Some(rect(0, 0, 0, 0)));
+    same!(rt; tree.resize(32767, 0), Err(OutOfRange));
+    same!(rt; tree.frame_of(0), Some(rect(0, 0, 0, 0)));
+    same!(rt; tree.frame_of(1), Some(rect(0, 0, 0, 0)));
     Ok(())
 }
