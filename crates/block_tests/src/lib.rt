@@ -1,10 +1,24 @@
 //! The tests of the calls that go by rows, blocks and spans. Nothing else is here.
 #![tactic(auto)]
 
+/// Asserts that two values are the same; in a table with what tells the row. (What `assert_eq!`
+/// writes out at each place is proved at each; a call of a function costs nearly nothing.)
+#[cfg(test)]
+macro_rules! same {
+    ($rt:expr; $found:expr, $due:expr) => {
+        $crate::same::same(&$rt, stringify!($found), $found, $due)
+    };
+    ($rt:expr; $found:expr, $due:expr, $case:expr) => {
+        $crate::same::same(&$rt, $case, $found, $due)
+    };
+}
+
 #[cfg(test)]
 mod font;
 #[cfg(test)]
 mod region;
+#[cfg(test)]
+mod same;
 #[cfg(test)]
 mod shape;
 #[cfg(test)]

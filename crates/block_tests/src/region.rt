@@ -33,37 +33,37 @@ fn is_alike(region: &Region, x: i32, y: i32, corner: Corner) -> bool {
     true
 }
 
+/// Pixels, each with whether it is in the region.
+const INSIDE: [(i32, i32, bool); 17] = [
+    (-2, -2, false),
+    (-2, 2, false),
+    (0, 0, true),
+    (2, 1, true),
+    (2, 3, true),
+    (3, 0, false),
+    (4, 3, false),
+    (5, 2, true),
+    (7, 3, true),
+    (8, 0, false),
+    (0, 4, false),
+    (3, 4, false),
+    (0, 5, false),
+    (1, 5, true),
+    (6, 6, true),
+    (7, 6, false),
+    (0, 7, false),
+];
+
 #[test]
 fn blocks_of_a_region(rt: HostRuntime) -> Result<(), Fail> {
     let region = three_rects(rt.alloc())?;
-    assert_eq!(rt; region.count(), 3);
-    for (x, y, due) in [
-        (-2, -2, false),
-        (-2, 2, false),
-        (0, 0, true),
-        (2, 1, true),
-        (2, 3, true),
-        (3, 0, false),
-        (4, 3, false),
-        (5, 2, true),
-        (7, 3, true),
-        (8, 0, false),
-        (0, 4, false),
-        (3, 4, false),
-        (0, 5, false),
-        (1, 5, true),
-        (6, 6, true),
-        (7, 6, false),
-        (0, 7, false),
-    ] {
-        let (inside, corner) = region.block_at(x, y);
-        assert_eq!(rt; inside, due, "at {x}, {y}");
-        assert_eq!(rt; region.contains(x, y), due, "at {x}, {y}");
-        assert!(rt;
-            x <= corner.right && y <= corner.bottom,
-            "{corner:?} from {x}, {y}"
-        );
-        assert!(rt; is_alike(&region, x, y, corner), "{corner:?} from {x}, {y}");
+    same!(rt; region.count(), 3);
+    for (x, y, due) in &INSIDE {
+        let (inside, corner) = region.block_at(*x, *y);
+        let reaches = *x <= corner.right && *y <= corner.bottom;
+        let found = (inside, region.contains(*x, *y), reaches);
+        same!(rt; found, (*due, *due, true), (*x, *y, corner));
+        same!(rt; is_alike(&region, *x, *y, corner), true, (*x, *y, corner));
     }
     Ok(())
 }

@@ -72,7 +72,7 @@ fn rows_of_rectangles(rt: HostRuntime) {
         (&closed, -1, one(-1, 4)),
         (&closed, 2, one(-1, 4)),
     ] {
-        assert_eq!(rt; shape.row(y), row, "{shape:?} in row {y}");
+        same!(rt; shape.row(y), row, (shape, y));
     }
 }
 
@@ -104,7 +104,7 @@ fn rows_of_lines(rt: HostRuntime) {
         (&wide, 3, one(3, 6)),
         (&wide, 4, Row::Empty),
     ] {
-        assert_eq!(rt; shape.row(y), row, "{shape:?} in row {y}");
+        same!(rt; shape.row(y), row, (shape, y));
     }
 }
 
@@ -129,7 +129,7 @@ fn columns_of_steep_lines(rt: HostRuntime) {
         (&gentle, false),
         (&thick, false),
     ] {
-        assert_eq!(rt; shape.steep().is_some(), due, "{shape:?}");
+        same!(rt; shape.steep().is_some(), due, shape);
     }
     for (shape, y, due) in [
         (&steep, -3, None),
@@ -146,7 +146,7 @@ fn columns_of_steep_lines(rt: HostRuntime) {
         (&gentle, 1, None),
         (&thick, 0, None),
     ] {
-        assert_eq!(rt; column_of(shape, y), due, "{shape:?} in row {y}");
+        same!(rt; column_of(shape, y), due, (shape, y));
     }
 }
 
@@ -190,13 +190,7 @@ fn rows_that_are_alike(rt: HostRuntime) {
         (&steep, 4, 5),
     ] {
         let last = shape.alike(y);
-        assert!(rt;
-            y <= last && last <= most,
-            "{shape:?} from row {y} to {last}"
-        );
-        assert!(rt;
-            have_the_same(shape, y, last.min(9)),
-            "{shape:?} from row {y} to {last}"
-        );
+        same!(rt; y <= last && last <= most, true, (shape, y, last));
+        same!(rt; have_the_same(shape, y, last.min(9)), true, (shape, y, last));
     }
 }

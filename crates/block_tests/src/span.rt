@@ -88,11 +88,11 @@ fn check(rt: &impl Abort, spans: &SpanBuf, picture: &str) {
                 }),
                 None => None,
             };
-            assert_eq!(rt; spans.get(x, y), due, "{picture} at {x}, {y}");
+            same!(rt; spans.get(x, y), due, (picture, x, y));
             x = x.wrapping_add(1);
         }
     }
-    assert_eq!(rt; spans.dirty_count(), 1, "{picture}");
+    same!(rt; spans.dirty_count(), 1, picture);
 }
 
 #[test]
@@ -123,7 +123,7 @@ fn spans_of_pixels(rt: HostRuntime) -> Result<(), Fail> {
             Some(span) => Some(span.rect()),
             None => None,
         };
-        assert_eq!(rt; found, due, "at {x}, {y}");
+        same!(rt; found, due, (x, y));
     }
     Ok(())
 }

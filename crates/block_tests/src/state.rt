@@ -41,35 +41,35 @@ fn is_alike(stack: &StateStack, x: i32, y: i32, corner: Corner) -> bool {
     true
 }
 
+/// Pixels, each with whether both clips allow it.
+const ALLOWED: [(i32, i32, bool); 16] = [
+    (-2, -2, false),
+    (0, 0, false),
+    (5, 0, false),
+    (0, 1, false),
+    (1, 1, true),
+    (4, 1, true),
+    (6, 1, true),
+    (7, 1, false),
+    (1, 2, true),
+    (2, 2, false),
+    (3, 2, false),
+    (4, 2, true),
+    (2, 3, true),
+    (6, 3, true),
+    (1, 4, false),
+    (8, 3, false),
+];
+
 #[test]
 fn blocks_of_two_clips(rt: HostRuntime) -> Result<(), Fail> {
     let stack = two_clips(rt.alloc())?;
-    for (x, y, due) in [
-        (-2, -2, false),
-        (0, 0, false),
-        (5, 0, false),
-        (0, 1, false),
-        (1, 1, true),
-        (4, 1, true),
-        (6, 1, true),
-        (7, 1, false),
-        (1, 2, true),
-        (2, 2, false),
-        (3, 2, false),
-        (4, 2, true),
-        (2, 3, true),
-        (6, 3, true),
-        (1, 4, false),
-        (8, 3, false),
-    ] {
-        let (allowed, corner) = stack.block_at(x, y);
-        assert_eq!(rt; allowed, due, "at {x}, {y}");
-        assert_eq!(rt; stack.allows(x, y), due, "at {x}, {y}");
-        assert!(rt;
-            x <= corner.right && y <= corner.bottom,
-            "{corner:?} from {x}, {y}"
-        );
-        assert!(rt; is_alike(&stack, x, y, corner), "{corner:?} from {x}, {y}");
+    for (x, y, due) in &ALLOWED {
+        let (allowed, corner) = stack.block_at(*x, *y);
+        let reaches = *x <= corner.right && *y <= corner.bottom;
+        let found = (allowed, stack.allows(*x, *y), reaches);
+        same!(rt; found, (*due, *due, true), (*x, *y, corner));
+        same!(rt; is_alike(&stack, *x, *y, corner), true, (*x, *y, corner));
     }
     Ok(())
 }

@@ -42,41 +42,38 @@ fn is_alike(tree: &ViewTree, view: u16, x: i32, y: i32, corner: Corner) -> bool 
     true
 }
 
+/// Pixels, each with the view at it.
+const VIEWS: [(i32, i32, Option<u16>); 18] = [
+    (-2, -1, None),
+    (-2, 4, None),
+    (10, 0, None),
+    (0, 10, None),
+    (0, 0, Some(0)),
+    (0, 4, Some(0)),
+    (6, 2, Some(0)),
+    (8, 3, Some(0)),
+    (9, 9, Some(0)),
+    (1, 1, Some(1)),
+    (4, 2, Some(1)),
+    (1, 3, Some(1)),
+    (3, 5, Some(1)),
+    (4, 3, Some(2)),
+    (5, 5, Some(2)),
+    (7, 6, Some(2)),
+    (2, 2, Some(3)),
+    (3, 2, Some(3)),
+];
+
 #[test]
 fn blocks_of_views(rt: HostRuntime) -> Result<(), Fail> {
     let tree = four_views(rt.alloc())?;
-    for (x, y, due) in [
-        (-2, -1, None),
-        (-2, 4, None),
-        (10, 0, None),
-        (0, 10, None),
-        (0, 0, Some(0)),
-        (0, 4, Some(0)),
-        (6, 2, Some(0)),
-        (8, 3, Some(0)),
-        (9, 9, Some(0)),
-        (1, 1, Some(1)),
-        (4, 2, Some(1)),
-        (1, 3, Some(1)),
-        (3, 5, Some(1)),
-        (4, 3, Some(2)),
-        (5, 5, Some(2)),
-        (7, 6, Some(2)),
-        (2, 2, Some(3)),
-        (3, 2, Some(3)),
-    ] {
-        assert_eq!(rt; tree.view_at(x, y), due, "at {x}, {y}");
+    for (x, y, due) in &VIEWS {
+        same!(rt; tree.view_at(*x, *y), *due, (*x, *y));
         for view in 0..5u16 {
-            let (shows, corner) = tree.shows_at(view, x, y);
-            assert_eq!(rt; shows, due == Some(view), "{view} at {x}, {y}");
-            assert!(rt;
-                x <= corner.right && y <= corner.bottom,
-                "{corner:?} from {x}, {y}"
-            );
-            assert!(rt;
-                is_alike(&tree, view, x, y, corner),
-                "{view}: {corner:?} from {x}, {y}"
-            );
+            let (shows, corner) = tree.shows_at(view, *x, *y);
+            let reaches = *x <= corner.right && *y <= corner.bottom;
+            same!(rt; (shows, reaches), (*due == Some(view), true), (view, *x, *y, corner));
+            same!(rt; is_alike(&tree, view, *x, *y, corner), true, (view, *x, *y, corner));
         }
     }
     Ok(())

@@ -1,6 +1,7 @@
 use be_flat::{FlatError, flatten, unflatten};
 use be_message::{FindFault, Kind, Value};
 use std::alloc::Global;
+use std::process::Abort;
 use std::test::Fail;
 
 /// PING with n = 5: a what, one field, its type, its name, one value.
@@ -52,18 +53,20 @@ fn text(alloc: Global, length: u16) -> Result<Vec<u8>, Fail> {
     Ok(bytes)
 }
 
+const NOT_FOUND: [(&str, Kind, usize, FindFault); 3] = [
+    ("x", Kind::Int, 0, FindFault::NameNotFound),
+    ("n", Kind::Text, 0, FindFault::BadType),
+    ("n", Kind::Int, 1, FindFault::BadIndex),
+];
+
 #[test]
 fn finds_what_was_spelt(rt: HostRuntime) -> Result<(), Fail> {
     let message = unflatten(rt.alloc(), PING)?;
-    assert_eq!(rt; message.what(), 0x5049_4e47);
-    assert_eq!(rt; message.field_count(), 1);
+    same!(rt; message.what(), 0x5049_4e47);
+    same!(rt; message.field_count(), 1);
     assert!(rt; matches!(message.find("n", Kind::Int, 0), Ok(Value::Int(5))));
-    for (name, kind, index, fault) in [
-        ("x", Kind::Int, 0, FindFault::NameNotFound),
-        ("n", Kind::Text, 0, FindFault::BadType),
-        ("n", Kind::Int, 1, FindFault::BadIndex),
-    ] {
-        assert_eq!(rt; message.find(name, kind, index).err(), Some(fault));
+    for (name, kind, index, fault) in &NOT_FOUND {
+        same!(rt; message.find(name, *kind, *index).err(), Some(*fault), *name);
     }
     Ok(())
 }
@@ -74,49 +77,40 @@ fn again(alloc: Global, bytes: &[u8]) -> Result<Vec<u8>, Fail> {
     Ok(flatten(alloc, &message)?)
 }
 
+const GIVEN_BACK: [&[u8]; 9] = [
+    b"\0\0\0\0\0",
+    PING,
+    b"GNIP\x01BOOL\x01n\x02\x01\0",
+    b"GNIP\x01LONG\x01n\x02\xff\xff\xff\x7f\0\0\0\x80",
+    b"GNIP\x01CSTR\x01n\x02\x02\0 ~\0\0",
+    b"GNIP\x01BPNT\x01n\x02\xfe\xff\x02\x01\0\x80\xff\x7f",
+    b"GNIP\x01RECT\x01n\x01\0\0\x01\0\xff\xff\x01\x02",
+    b"GNIP\x01MSGG\x01n\x02GNIP\0\x01\0\0\0\0",
+    b"GNIP\x02BOOL\x20abcdefghijklmnopqrstuvwxyz_01234\x01\0BOOL\x01z\x01\x01",
+];
+
 #[test]
 fn gives_the_bytes_back(rt: HostRuntime) -> Result<(), Fail> {
     let alloc = rt.alloc();
-    for bytes in [
-        b"\0\0\0\0\0".as_slice(),
-        PING,
-        b"GNIP\x01BOOL\x01n\x02\x01\0",
-        b"GNIP\x01LONG\x01n\x02\xff\xff\xff\x7f\0\0\0\x80",
-        b"GNIP\x01CSTR\x01n\x02\x02\0 ~\0\0",
-        b"GNIP\x01BPNT\x01n\x02\xfe\xff\x02\x01\0\x80\xff\x7f",
-        b"GNIP\x01RECT\x01n\x01\0\0\x01\0\xff\xff\x01\x02",
-        b"GNIP\x01MSGG\x01n\x02GNIP\0\x01\0\0\0\0",
-        b"GNIP\x02BOOL\x20abcdefghijklmnopqrstuvwxyz_01234\x01\0BOOL\x01z\x01\x01",
-    ] {
-        assert_eq!(rt; again(alloc, bytes)?.as_slice(), bytes);
+    for bytes in &GIVEN_BACK {
+        same!(rt; again(alloc, bytes)?.as_slice(), *bytes);
     }
+    Ok(())
+}
+
+/// Asserts that the bytes are read and written so again.
+fn assert_given_back(rt: &impl Abort, alloc: Global, bytes: Vec<u8>) -> Result<(), Fail> {
+    same!(rt; again(alloc, bytes.as_slice())?.as_slice(), bytes.as_slice());
     Ok(())
 }
 
 #[test]
 fn gives_the_longest_back(rt: HostRuntime) -> Result<(), Fail> {
     let alloc = rt.alloc();
-    let deepest = nested(alloc, 16)?;
-    assert_eq!(rt;
-        again(alloc, deepest.as_slice())?.as_slice(),
-        deepest.as_slice()
-    );
-    let widest = wide(alloc, 255)?;
-    assert_eq!(rt;
-        again(alloc, widest.as_slice())?.as_slice(),
-        widest.as_slice()
-    );
-    let longest = long(alloc, 255)?;
-    assert_eq!(rt;
-        again(alloc, longest.as_slice())?.as_slice(),
-        longest.as_slice()
-    );
-    let longest_text = text(alloc, 1024)?;
-    assert_eq!(rt;
-        again(alloc, longest_text.as_slice())?.as_slice(),
-        longest_text.as_slice()
-    );
-    Ok(())
+    assert_given_back(&rt, alloc, nested(alloc, 16)?)?;
+    assert_given_back(&rt, alloc, wide(alloc, 255)?)?;
+    assert_given_back(&rt, alloc, long(alloc, 255)?)?;
+    assert_given_back(&rt, alloc, text(alloc, 1024)?)
 }
 
 /// Whether each front of the bytes is truncated at its end.
@@ -140,66 +134,67 @@ fn a_front_is_truncated_at_its_end(rt: HostRuntime) -> Result<(), Fail> {
     Ok(())
 }
 
+const FAILURES: [(&[u8], FlatError); 20] = [
+    (
+        b"GNIP\x01LONG\x01n\x01\x05\0\0\0\0",
+        FlatError::Extra { at: 16 },
+    ),
+    (b"GNIP\0\0", FlatError::Extra { at: 5 }),
+    // a type
+    (b"GNIP\x01XONG", FlatError::BadByte { at: 5 }),
+    (b"GNIP\x01long", FlatError::BadByte { at: 5 }),
+    (b"GNIP\x01BANG", FlatError::BadByte { at: 6 }),
+    (b"GNIP\x01BONG", FlatError::BadByte { at: 7 }),
+    (b"GNIP\x01BPNL", FlatError::BadByte { at: 8 }),
+    // a name
+    (b"GNIP\x01LONG\0", FlatError::BadByte { at: 9 }),
+    (b"GNIP\x01LONG\x21n", FlatError::BadByte { at: 9 }),
+    (b"GNIP\x01LONG\x021n", FlatError::BadByte { at: 10 }),
+    (b"GNIP\x01LONG\x02_n", FlatError::BadByte { at: 10 }),
+    (b"GNIP\x01LONG\x02nN", FlatError::BadByte { at: 11 }),
+    (
+        b"GNIP\x02BOOL\x02na\x01\0LONG\x02na\x01",
+        FlatError::BadByte { at: 20 },
+    ),
+    // a number of values
+    (
+        b"GNIP\x01LONG\x01n\0\x05\0\0\0",
+        FlatError::BadByte { at: 11 },
+    ),
+    // a value
+    (b"GNIP\x01BOOL\x01n\x01\x02", FlatError::BadByte { at: 12 }),
+    (
+        b"GNIP\x01CSTR\x01n\x01\x01\x04",
+        FlatError::BadByte { at: 13 },
+    ),
+    (
+        b"GNIP\x01CSTR\x01n\x01\0\x05",
+        FlatError::BadByte { at: 13 },
+    ),
+    (
+        b"GNIP\x01CSTR\x01n\x01\x02\0a\x1f",
+        FlatError::BadByte { at: 15 },
+    ),
+    (
+        b"GNIP\x01CSTR\x01n\x01\x01\0\x7f",
+        FlatError::BadByte { at: 14 },
+    ),
+    // the first of two
+    (
+        b"GNIP\x01BOOL\x01n\x02\x02\x02",
+        FlatError::BadByte { at: 12 },
+    ),
+];
+
 #[test]
 fn names_the_first_failure(rt: HostRuntime) -> Result<(), Fail> {
     let alloc = rt.alloc();
-    for (bytes, fault) in [
-        (
-            b"GNIP\x01LONG\x01n\x01\x05\0\0\0\0".as_slice(),
-            FlatError::Extra { at: 16 },
-        ),
-        (b"GNIP\0\0", FlatError::Extra { at: 5 }),
-        // a type
-        (b"GNIP\x01XONG", FlatError::BadByte { at: 5 }),
-        (b"GNIP\x01long", FlatError::BadByte { at: 5 }),
-        (b"GNIP\x01BANG", FlatError::BadByte { at: 6 }),
-        (b"GNIP\x01BONG", FlatError::BadByte { at: 7 }),
-        (b"GNIP\x01BPNL", FlatError::BadByte { at: 8 }),
-        // a name
-        (b"GNIP\x01LONG\0", FlatError::BadByte { at: 9 }),
-        (b"GNIP\x01LONG\x21n", FlatError::BadByte { at: 9 }),
-        (b"GNIP\x01LONG\x021n", FlatError::BadByte { at: 10 }),
-        (b"GNIP\x01LONG\x02_n", FlatError::BadByte { at: 10 }),
-        (b"GNIP\x01LONG\x02nN", FlatError::BadByte { at: 11 }),
-        (
-            b"GNIP\x02BOOL\x02na\x01\0LONG\x02na\x01",
-            FlatError::BadByte { at: 20 },
-        ),
-        // a number of values
-        (
-            b"GNIP\x01LONG\x01n\0\x05\0\0\0",
-            FlatError::BadByte { at: 11 },
-        ),
-        // a value
-        (b"GNIP\x01BOOL\x01n\x01\x02", FlatError::BadByte { at: 12 }),
-        (
-            b"GNIP\x01CSTR\x01n\x01\x01\x04",
-            FlatError::BadByte { at: 13 },
-        ),
-        (
-            b"GNIP\x01CSTR\x01n\x01\0\x05",
-            FlatError::BadByte { at: 13 },
-        ),
-        (
-            b"GNIP\x01CSTR\x01n\x01\x02\0a\x1f",
-            FlatError::BadByte { at: 15 },
-        ),
-        (
-            b"GNIP\x01CSTR\x01n\x01\x01\0\x7f",
-            FlatError::BadByte { at: 14 },
-        ),
-        // the first of two
-        (
-            b"GNIP\x01BOOL\x01n\x02\x02\x02",
-            FlatError::BadByte { at: 12 },
-        ),
-        // the type of a message at depth 16, of which the first letter has no place
-        (
-            nested(alloc, 17)?.as_slice(),
-            FlatError::BadByte { at: 15 * 12 + 5 },
-        ),
-    ] {
-        assert_eq!(rt; unflatten(alloc, bytes).err(), Some(fault));
+    for (bytes, fault) in &FAILURES {
+        same!(rt; unflatten(alloc, bytes).err(), Some(*fault), *bytes);
     }
+    // the type of a message at depth 16, of which the first letter has no place
+    let deep = nested(alloc, 17)?;
+    let fault = FlatError::BadByte { at: 15 * 12 + 5 };
+    same!(rt; unflatten(alloc, deep.as_slice()).err(), Some(fault));
     Ok(())
 }

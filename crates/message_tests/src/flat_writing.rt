@@ -18,7 +18,7 @@ fn with(alloc: Global, name: &str, values: [Value; 2]) -> Result<Message, Fail> 
 fn spells_an_empty_message(rt: HostRuntime) -> Result<(), Fail> {
     let message = Message::new(rt.alloc(), PING);
     let bytes = flatten(rt.alloc(), &message)?;
-    assert_eq!(rt; bytes.as_slice(), b"GNIP\0".as_slice());
+    same!(rt; bytes.as_slice(), b"GNIP\0".as_slice());
     Ok(())
 }
 
@@ -74,7 +74,7 @@ fn spells_a_field_of_each_type(rt: HostRuntime) -> Result<(), Fail> {
     ] {
         let message = with(alloc, "n", values)?;
         let bytes = flatten(alloc, &message)?;
-        assert_eq!(rt; bytes.as_slice(), spelling);
+        same!(rt; bytes.as_slice(), spelling);
     }
     Ok(())
 }
@@ -85,9 +85,7 @@ fn spells_fields_in_their_order(rt: HostRuntime) -> Result<(), Fail> {
     message.add("second", Value::Bool(true))?;
     message.add("n", Value::Int(5))?;
     let bytes = flatten(rt.alloc(), &message)?;
-    assert_eq!(rt;
-        bytes.as_slice(),
-        b"GNIP\x02BOOL\x06second\x01\x01LONG\x01n\x01\x05\0\0\0".as_slice()
-    );
+    let due = b"GNIP\x02BOOL\x06second\x01\x01LONG\x01n\x01\x05\0\0\0";
+    same!(rt; bytes.as_slice(), due.as_slice());
     Ok(())
 }

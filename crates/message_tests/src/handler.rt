@@ -1,6 +1,7 @@
 use be_handler::{Chain, ChainFault, Route, Rule};
 use be_message::Target;
 use std::alloc::Global;
+use std::process::Abort;
 use std::test::Fail;
 
 const ROOT: Target = Target::View(0);
@@ -33,6 +34,12 @@ fn window(alloc: Global) -> Result<Chain, ChainFault> {
     Ok(chain)
 }
 
+const OWN: Option<Target> = Some(HELPER);
+
+const TO_HELPER: Rule = Rule::Redirect(HELPER);
+
+const TO_KEYS: Rule = Rule::Redirect(KEYS);
+
 /// A filter: whose list it is in, the word that it matches, and what it answers.
 type FilterLine = (Option<Target>, Option<u32>, Rule);
 
@@ -49,179 +56,215 @@ fn route_by(
     Ok(chain.route(what, target))
 }
 
+const UNFILTERED: [(u32, Target, Route); 14] = [
+    (1, Target::Window, Route::Handler(Target::Window)),
+    (1, ROOT, Route::Handler(Target::Window)),
+    (1, ITEM, Route::Handler(Target::Window)),
+    (2, ITEM, Route::Handler(LIST)),
+    (2, LIST, Route::Handler(LIST)),
+    (2, ROOT, Route::Handler(Target::Window)),
+    (2, HELPER, Route::Handler(Target::Window)),
+    (2, KEYS, Route::Handler(LIST)),
+    (3, HELPER, Route::Handler(HELPER)),
+    (3, KEYS, Route::Unknown),
+    (3, ITEM, Route::Unknown),
+    (4, Target::Window, Route::Unknown),
+    (1, Target::View(3), Route::Unknown),
+    (1, Target::Plain(2), Route::Unknown),
+];
+
 #[test]
 fn routes_without_filters(rt: HostRuntime) -> Result<(), Fail> {
-    for (what, target, route) in [
-        (1, Target::Window, Route::Handler(Target::Window)),
-        (1, ROOT, Route::Handler(Target::Window)),
-        (1, ITEM, Route::Handler(Target::Window)),
-        (2, ITEM, Route::Handler(LIST)),
-        (2, LIST, Route::Handler(LIST)),
-        (2, ROOT, Route::Handler(Target::Window)),
-        (2, HELPER, Route::Handler(Target::Window)),
-        (2, KEYS, Route::Handler(LIST)),
-        (3, HELPER, Route::Handler(HELPER)),
-        (3, KEYS, Route::Unknown),
-        (3, ITEM, Route::Unknown),
-        (4, Target::Window, Route::Unknown),
-        (1, Target::View(3), Route::Unknown),
-        (1, Target::Plain(2), Route::Unknown),
-    ] {
-        assert_eq!(rt; route_by(rt.alloc(), [].as_slice(), what, target)?, route);
+    for (what, target, route) in &UNFILTERED {
+        same!(rt; route_by(rt.alloc(), &[], *what, *target)?, *route, (*what, *target));
     }
     Ok(())
 }
+
+const FILTERED: [([FilterLine; 2], u32, Target, Route); 12] = [
+    // a redirection, whose target then skips, or passes
+    (
+        [(None, Some(1), TO_HELPER), (OWN, Some(1), Rule::Skip)],
+        1,
+        Target::Window,
+        Route::Skipped,
+    ),
+    (
+        [(None, Some(1), TO_HELPER), (OWN, Some(1), Rule::Pass)],
+        1,
+        Target::Window,
+        Route::Handler(Target::Window),
+    ),
+    // every word is skipped, also behind a redirection
+    (
+        [(None, None, Rule::Pass), (None, None, Rule::Skip)],
+        3,
+        HELPER,
+        Route::Skipped,
+    ),
+    (
+        [(None, None, TO_HELPER), (None, Some(3), Rule::Skip)],
+        3,
+        ROOT,
+        Route::Skipped,
+    ),
+    // a list redirects once
+    (
+        [(None, Some(3), TO_HELPER), (None, Some(3), TO_KEYS)],
+        3,
+        ROOT,
+        Route::Handler(HELPER),
+    ),
+    (
+        [(None, Some(2), TO_KEYS), (None, None, TO_HELPER)],
+        2,
+        ROOT,
+        Route::Handler(LIST),
+    ),
+    // the own list of the target that was left redirects again, and no further list runs
+    (
+        [(None, Some(2), TO_HELPER), (OWN, None, TO_KEYS)],
+        2,
+        ROOT,
+        Route::Handler(LIST),
+    ),
+    (
+        [
+            (None, Some(2), TO_HELPER),
+            (OWN, None, Rule::Redirect(HELPER)),
+        ],
+        2,
+        ROOT,
+        Route::Handler(Target::Window),
+    ),
+    (
+        [(OWN, None, TO_KEYS), (Some(KEYS), None, Rule::Skip)],
+        2,
+        HELPER,
+        Route::Handler(LIST),
+    ),
+    // own filters of another handler, of the first target, and other words don't count
+    (
+        [(OWN, None, Rule::Skip), (Some(KEYS), None, Rule::Skip)],
+        2,
+        ITEM,
+        Route::Handler(LIST),
+    ),
+    (
+        [(Some(ROOT), None, Rule::Skip), (None, None, TO_HELPER)],
+        3,
+        ROOT,
+        Route::Handler(HELPER),
+    ),
+    (
+        [(None, Some(2), Rule::Skip), (OWN, Some(1), Rule::Skip)],
+        3,
+        HELPER,
+        Route::Handler(HELPER),
+    ),
+];
 
 #[test]
 fn routes_through_filters(rt: HostRuntime) -> Result<(), Fail> {
-    let own = Some(HELPER);
-    let to_helper = Rule::Redirect(HELPER);
-    let to_keys = Rule::Redirect(KEYS);
-    for (filters, what, target, route) in [
-        // a redirection, whose target then skips, or passes
-        (
-            [(None, Some(1), to_helper), (own, Some(1), Rule::Skip)],
-            1,
-            Target::Window,
-            Route::Skipped,
-        ),
-        (
-            [(None, Some(1), to_helper), (own, Some(1), Rule::Pass)],
-            1,
-            Target::Window,
-            Route::Handler(Target::Window),
-        ),
-        // every word is skipped, also behind a redirection
-        (
-            [(None, None, Rule::Pass), (None, None, Rule::Skip)],
-            3,
-            HELPER,
-            Route::Skipped,
-        ),
-        (
-            [(None, None, to_helper), (None, Some(3), Rule::Skip)],
-            3,
-            ROOT,
-            Route::Skipped,
-        ),
-        // a list redirects once
-        (
-            [(None, Some(3), to_helper), (None, Some(3), to_keys)],
-            3,
-            ROOT,
-            Route::Handler(HELPER),
-        ),
-        (
-            [(None, Some(2), to_keys), (None, None, to_helper)],
-            2,
-            ROOT,
-            Route::Handler(LIST),
-        ),
-        // the own list of the target that was left redirects again, and no further list runs
-        (
-            [(None, Some(2), to_helper), (own, None, to_keys)],
-            2,
-            ROOT,
-            Route::Handler(LIST),
-        ),
-        (
-            [
-                (None, Some(2), to_helper),
-                (own, None, Rule::Redirect(HELPER)),
-            ],
-            2,
-            ROOT,
-            Route::Handler(Target::Window),
-        ),
-        (
-            [(own, None, to_keys), (Some(KEYS), None, Rule::Skip)],
-            2,
-            HELPER,
-            Route::Handler(LIST),
-        ),
-        // own filters of another handler, of the first target, and other words don't count
-        (
-            [(own, None, Rule::Skip), (Some(KEYS), None, Rule::Skip)],
-            2,
-            ITEM,
-            Route::Handler(LIST),
-        ),
-        (
-            [(Some(ROOT), None, Rule::Skip), (None, None, to_helper)],
-            3,
-            ROOT,
-            Route::Handler(HELPER),
-        ),
-        (
-            [(None, Some(2), Rule::Skip), (own, Some(1), Rule::Skip)],
-            3,
-            HELPER,
-            Route::Handler(HELPER),
-        ),
-    ] {
-        assert_eq!(rt;
-            route_by(rt.alloc(), filters.as_slice(), what, target)?,
-            route
-        );
+    for (filters, what, target, route) in &FILTERED {
+        let found = route_by(rt.alloc(), filters, *what, *target)?;
+        same!(rt; found, *route, (*filters, *what, *target));
     }
     Ok(())
 }
 
-#[test]
-fn handlers_that_are_not_there(rt: HostRuntime) -> Result<(), Fail> {
-    let no_target = Err(ChainFault::NoTarget);
-    let mut chain = Chain::new(rt.alloc());
-    assert_eq!(rt; chain.add_view(Some(0)), no_target);
-    assert_eq!(rt; chain.add_view(None), Ok(()));
-    assert_eq!(rt; chain.add_view(None), no_target);
-    assert_eq!(rt; chain.add_view(Some(1)), no_target);
-    assert_eq!(rt; chain.add_plain(LIST), no_target);
-    assert_eq!(rt; chain.add_plain(HELPER), no_target);
-    assert_eq!(rt; chain.add_plain(ROOT), Ok(()));
-    for target in [LIST, KEYS] {
-        assert_eq!(rt; chain.add_filter(Some(target), None, Rule::Pass), no_target);
-        assert_eq!(rt;
-            chain.add_filter(None, None, Rule::Redirect(target)),
-            no_target
-        );
-        assert_eq!(rt; chain.add_body(target, 1), no_target);
-    }
-    assert_eq!(rt;
-        chain.add_filter(Some(HELPER), None, Rule::Redirect(ROOT)),
-        Ok(())
-    );
-    assert_eq!(rt; chain.add_body(HELPER, 1), Ok(()));
-    assert_eq!(rt; chain.route(1, HELPER), Route::Unknown);
-    Ok(())
+/// What is to be added to a window's handlers.
+#[derive(Clone, Copy, Debug)]
+enum Added {
+    View(Option<u16>),
+    Plain(Target),
+    Filter(Option<Target>, Rule),
+    Body(Target, u32),
 }
 
+fn add(chain: &mut Chain, added: Added) -> Result<(), ChainFault> {
+    match added {
+        Added::View(parent) => chain.add_view(parent),
+        Added::Plain(next) => chain.add_plain(next),
+        Added::Filter(list, rule) => chain.add_filter(list, None, rule),
+        Added::Body(target, what) => chain.add_body(target, what),
+    }
+}
+
+const NO_TARGET: Result<(), ChainFault> = Err(ChainFault::NoTarget);
+
+const TOO_MANY: Result<(), ChainFault> = Err(ChainFault::TooMany);
+
+const NOT_THERE: [(Added, Result<(), ChainFault>); 15] = [
+    (Added::View(Some(0)), NO_TARGET),
+    (Added::View(None), Ok(())),
+    (Added::View(None), NO_TARGET),
+    (Added::View(Some(1)), NO_TARGET),
+    (Added::Plain(LIST), NO_TARGET),
+    (Added::Plain(HELPER), NO_TARGET),
+    (Added::Plain(ROOT), Ok(())),
+    (Added::Filter(Some(LIST), Rule::Pass), NO_TARGET),
+    (Added::Filter(None, Rule::Redirect(LIST)), NO_TARGET),
+    (Added::Body(LIST, 1), NO_TARGET),
+    (Added::Filter(Some(KEYS), Rule::Pass), NO_TARGET),
+    (Added::Filter(None, Rule::Redirect(KEYS)), NO_TARGET),
+    (Added::Body(KEYS, 1), NO_TARGET),
+    (Added::Filter(Some(HELPER), Rule::Redirect(ROOT)), Ok(())),
+    (Added::Body(HELPER, 1), Ok(())),
+];
+
 #[test]
-fn limits_of_a_window(rt: HostRuntime) -> Result<(), Fail> {
-    let too_many = Err(ChainFault::TooMany);
+fn handlers_that_are_not_there(rt: HostRuntime) {
     let mut chain = Chain::new(rt.alloc());
-    chain.add_view(None)?;
+    for (added, due) in &NOT_THERE {
+        same!(rt; add(&mut chain, *added), *due, *added);
+    }
+    same!(rt; chain.route(1, HELPER), Route::Unknown);
+}
+
+/// Each is added so many times, and then once more.
+const LIMITS: [(Added, u32); 4] = [
+    (Added::Plain(ROOT), 16),
+    (Added::Filter(None, Rule::Pass), 32),
+    (Added::Filter(Some(ROOT), Rule::Pass), 32),
+    (Added::Filter(Some(KEYS), Rule::Pass), 32),
+];
+
+fn assert_limit(rt: &impl Abort, chain: &mut Chain, added: Added, most: u32) {
+    for count in 0..most {
+        same!(rt; add(chain, added), Ok(()), (added, count));
+    }
+    same!(rt; add(chain, added), TOO_MANY, added);
+}
+
+/// Asserts that a window has 32 views, each within the one before.
+fn assert_views(rt: &impl Abort, chain: &mut Chain) {
+    same!(rt; chain.add_view(None), Ok(()));
     for parent in 0..31 {
-        assert_eq!(rt; chain.add_view(Some(parent)), Ok(()));
+        same!(rt; chain.add_view(Some(parent)), Ok(()), parent);
     }
-    assert_eq!(rt; chain.add_view(Some(31)), too_many);
-    assert_eq!(rt; chain.add_view(Some(32)), Err(ChainFault::NoTarget));
-    for _ in 0..16 {
-        assert_eq!(rt; chain.add_plain(ROOT), Ok(()));
-    }
-    assert_eq!(rt; chain.add_plain(ROOT), too_many);
-    for list in [None, Some(ROOT), Some(KEYS)] {
-        for _ in 0..32 {
-            assert_eq!(rt; chain.add_filter(list, None, Rule::Pass), Ok(()));
-        }
-        assert_eq!(rt; chain.add_filter(list, None, Rule::Pass), too_many);
-    }
+    same!(rt; chain.add_view(Some(31)), TOO_MANY);
+    same!(rt; chain.add_view(Some(32)), NO_TARGET);
+}
+
+/// Asserts that a window has 512 bodies.
+fn assert_bodies(rt: &impl Abort, chain: &mut Chain) {
     for what in 0..512 {
-        assert_eq!(rt; chain.add_body(ITEM, what), Ok(()));
+        same!(rt; chain.add_body(ITEM, what), Ok(()), what);
     }
-    assert_eq!(rt; chain.add_body(ITEM, 512), too_many);
-    assert_eq!(rt; chain.add_body(ROOT, 511), too_many);
-    assert_eq!(rt; chain.add_body(ITEM, 511), Ok(()));
-    assert_eq!(rt; chain.route(511, Target::View(31)), Route::Handler(ITEM));
-    assert_eq!(rt; chain.route(511, LIST), Route::Unknown);
-    Ok(())
+    same!(rt; chain.add_body(ITEM, 512), TOO_MANY);
+    same!(rt; chain.add_body(ROOT, 511), TOO_MANY);
+    same!(rt; chain.add_body(ITEM, 511), Ok(()));
+}
+
+#[test]
+fn limits_of_a_window(rt: HostRuntime) {
+    let mut chain = Chain::new(rt.alloc());
+    assert_views(&rt, &mut chain);
+    for (added, most) in &LIMITS {
+        assert_limit(&rt, &mut chain, *added, *most);
+    }
+    assert_bodies(&rt, &mut chain);
+    same!(rt; chain.route(511, Target::View(31)), Route::Handler(ITEM));
+    same!(rt; chain.route(511, LIST), Route::Unknown);
 }

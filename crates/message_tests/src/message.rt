@@ -66,25 +66,27 @@ fn nested(alloc: Global, depth: u8) -> Result<Message, Fail> {
     Ok(message)
 }
 
+const FINDS: [(&str, Kind, usize, Result<i32, FindFault>); 6] = [
+    ("n", Kind::Int, 0, Ok(5)),
+    ("x", Kind::Int, 0, Err(FindFault::NameNotFound)),
+    ("n", Kind::Text, 0, Err(FindFault::BadType)),
+    ("n", Kind::Int, 1, Err(FindFault::BadIndex)),
+    ("x", Kind::Text, 1, Err(FindFault::NameNotFound)),
+    ("n", Kind::Text, 1, Err(FindFault::BadType)),
+];
+
 #[test]
 fn a_value_is_found_by_name_type_and_number(rt: HostRuntime) -> Result<(), Fail> {
     let mut ping = Message::new(rt.alloc(), PING);
     ping.add("n", Value::Int(5))?;
-    assert_eq!(rt; ping.what(), PING);
-    for (name, kind, index, want) in [
-        ("n", Kind::Int, 0, Ok(5)),
-        ("x", Kind::Int, 0, Err(FindFault::NameNotFound)),
-        ("n", Kind::Text, 0, Err(FindFault::BadType)),
-        ("n", Kind::Int, 1, Err(FindFault::BadIndex)),
-        ("x", Kind::Text, 1, Err(FindFault::NameNotFound)),
-        ("n", Kind::Text, 1, Err(FindFault::BadType)),
-    ] {
-        let found = ping.find(name, kind, index).map(number_in);
-        assert_eq!(rt; found, want, "{name} {index}");
+    same!(rt; ping.what(), PING);
+    for (name, kind, index, want) in &FINDS {
+        let found = ping.find(name, *kind, *index).map(number_in);
+        same!(rt; found, *want, (*name, *index));
     }
     let words = text(rt.alloc(), b"words")?;
-    assert_eq!(rt; answer_to_add(&mut ping, "n", words), Answer::BadType);
-    assert_eq!(rt; ping.count("n"), 1);
+    same!(rt; answer_to_add(&mut ping, "n", words), Answer::BadType);
+    same!(rt; ping.count("n"), 1);
     Ok(())
 }
 
@@ -99,8 +101,8 @@ fn the_first_reason_against_adding_counts(rt: HostRuntime) -> Result<(), Fail> {
         let name = format!(in alloc; "f{number}")?;
         message.add(&name, Value::Int(number))?;
     }
-    assert_eq!(rt; message.field_count(), 255);
-    assert_eq!(rt; message.count("full"), 255);
+    same!(rt; message.field_count(), 255);
+    same!(rt; message.count("full"), 255);
     let long = [b'a'; 1025];
     for (name, value, want) in [
         ("", text(alloc, b"\x1f")?, Answer::BadName),
@@ -113,35 +115,37 @@ fn the_first_reason_against_adding_counts(rt: HostRuntime) -> Result<(), Fail> {
         ("f1", Value::Int(8), Answer::Done),
     ] {
         let answer = answer_to_add(&mut message, name, value);
-        assert_eq!(rt; answer, want, "{name}");
+        same!(rt; answer, want, name);
     }
-    assert_eq!(rt; message.field_count(), 255);
-    assert_eq!(rt; message.count("full"), 255);
-    assert_eq!(rt; number_at(&message, "f1", 1), Ok(8));
+    same!(rt; message.field_count(), 255);
+    same!(rt; message.count("full"), 255);
+    same!(rt; number_at(&message, "f1", 1), Ok(8));
     Ok(())
 }
 
+const NAMES: [(&str, Answer); 14] = [
+    ("", Answer::BadName),
+    ("a", Answer::Done),
+    ("z9_", Answer::Done),
+    ("abcdefghijklmnopqrstuvwxyz012345", Answer::Done),
+    ("abcdefghijklmnopqrstuvwxyz0123456", Answer::BadName),
+    ("0a", Answer::BadName),
+    ("_a", Answer::BadName),
+    ("A", Answer::BadName),
+    ("aB", Answer::BadName),
+    ("a b", Answer::BadName),
+    ("a-b", Answer::BadName),
+    ("a`", Answer::BadName),
+    ("a{", Answer::BadName),
+    ("é", Answer::BadName),
+];
+
 #[test]
 fn names_begin_with_a_letter_and_have_32_characters_at_most(rt: HostRuntime) {
-    for (name, want) in [
-        ("", Answer::BadName),
-        ("a", Answer::Done),
-        ("z9_", Answer::Done),
-        ("abcdefghijklmnopqrstuvwxyz012345", Answer::Done),
-        ("abcdefghijklmnopqrstuvwxyz0123456", Answer::BadName),
-        ("0a", Answer::BadName),
-        ("_a", Answer::BadName),
-        ("A", Answer::BadName),
-        ("aB", Answer::BadName),
-        ("a b", Answer::BadName),
-        ("a-b", Answer::BadName),
-        ("a`", Answer::BadName),
-        ("a{", Answer::BadName),
-        ("é", Answer::BadName),
-    ] {
+    for (name, want) in &NAMES {
         let mut message = Message::new(rt.alloc(), PING);
         let answer = answer_to_add(&mut message, name, Value::Bool(true));
-        assert_eq!(rt; answer, want, "{name}");
+        same!(rt; answer, *want, *name);
     }
 }
 
@@ -161,7 +165,7 @@ fn texts_have_1024_bytes_from_32_to_126_at_most(rt: HostRuntime) -> Result<(), F
         let mut message = Message::new(rt.alloc(), PING);
         let value = text(rt.alloc(), bytes)?;
         let answer = answer_to_add(&mut message, "t", value);
-        assert_eq!(rt; answer, want, "{} bytes", bytes.len());
+        same!(rt; answer, want, bytes.len());
     }
     Ok(())
 }
@@ -171,31 +175,25 @@ fn messages_lie_16_deep_at_most(rt: HostRuntime) -> Result<(), Fail> {
     let alloc = rt.alloc();
     let mut outer = nested(alloc, 15)?;
     let inner = Value::Message(Box::new(alloc, nested(alloc, 15)?)?);
-    assert_eq!(rt; answer_to_add(&mut outer, "m", inner), Answer::Done);
+    same!(rt; answer_to_add(&mut outer, "m", inner), Answer::Done);
     let inner = Value::Message(Box::new(alloc, nested(alloc, 16)?)?);
-    assert_eq!(rt; answer_to_add(&mut outer, "m", inner), Answer::BadValue);
+    same!(rt; answer_to_add(&mut outer, "m", inner), Answer::BadValue);
     let inner = Value::Message(Box::new(alloc, nested(alloc, 16)?)?);
-    assert_eq!(rt;
-        answer_to_replace(&mut outer, "m", 0, inner),
-        Answer::BadValue
-    );
+    same!(rt; answer_to_replace(&mut outer, "m", 0, inner), Answer::BadValue);
     let mut last = Message::new(alloc, PING);
     let copy = Value::Message(Box::new(alloc, outer.copy()?)?);
-    assert_eq!(rt; answer_to_add(&mut last, "m", copy), Answer::BadValue);
+    same!(rt; answer_to_add(&mut last, "m", copy), Answer::BadValue);
     for index in 0..2 {
         let flat = Value::Message(Box::new(alloc, nested(alloc, 1)?)?);
-        assert_eq!(rt;
-            answer_to_replace(&mut outer, "m", index, flat),
-            Answer::Done
-        );
+        same!(rt; answer_to_replace(&mut outer, "m", index, flat), Answer::Done);
     }
     let copy = Value::Message(Box::new(alloc, outer.copy()?)?);
-    assert_eq!(rt; answer_to_add(&mut last, "m", copy), Answer::Done);
+    same!(rt; answer_to_add(&mut last, "m", copy), Answer::Done);
     let mut deepest = nested(alloc, 16)?;
     assert!(rt; deepest.remove("m").is_ok());
     let freed = Value::Message(Box::new(alloc, deepest)?);
-    assert_eq!(rt; answer_to_add(&mut last, "m", freed), Answer::Done);
-    assert_eq!(rt; last.count("m"), 2);
+    same!(rt; answer_to_add(&mut last, "m", freed), Answer::Done);
+    same!(rt; last.count("m"), 2);
     Ok(())
 }
 
@@ -216,12 +214,12 @@ fn the_first_reason_against_replacing_counts(rt: HostRuntime) -> Result<(), Fail
         ("n", 3, Value::Int(9), Answer::BadIndex),
     ] {
         let answer = answer_to_replace(&mut message, name, index, value);
-        assert_eq!(rt; answer, want, "{name} {index}");
+        same!(rt; answer, want, (name, index));
     }
     let old = message.replace("n", 1, Value::Int(7))?;
-    assert_eq!(rt; number_in(&old), 1);
+    same!(rt; number_in(&old), 1);
     for (index, want) in [(0, 0), (1, 7), (2, 2)] {
-        assert_eq!(rt; number_at(&message, "n", index), Ok(want));
+        same!(rt; number_at(&message, "n", index), Ok(want));
     }
     Ok(())
 }
@@ -242,30 +240,30 @@ fn fields_stand_in_order_of_first_adding(rt: HostRuntime) -> Result<(), Fail> {
     message.add("c", Value::Rect(empty))?;
     message.add("a", Value::Int(2))?;
     let before = message.copy()?;
-    assert_eq!(rt; message.remove("x"), Err(NameNotFound));
-    assert_eq!(rt; message.remove("b"), Ok(()));
+    same!(rt; message.remove("x"), Err(NameNotFound));
+    same!(rt; message.remove("b"), Ok(()));
     message.add("b", Value::Bool(false))?;
     let names = [Some("a"), Some("c"), Some("b"), None];
     for (place, want) in names.iter().enumerate() {
-        assert_eq!(rt; message.name_at(place), *want, "at {place}");
+        same!(rt; message.name_at(place), *want, place);
     }
     for (name, count, count_before) in [("a", 2, 2), ("b", 1, 1), ("c", 1, 1), ("x", 0, 0)] {
-        assert_eq!(rt; message.count(name), count, "{name}");
-        assert_eq!(rt; before.count(name), count_before, "{name}");
+        same!(rt; message.count(name), count, name);
+        same!(rt; before.count(name), count_before, name);
     }
     for (field, kind) in before
         .fields()
         .iter()
         .zip([Kind::Int, Kind::Point, Kind::Rect])
     {
-        assert_eq!(rt; field.kind(), kind);
+        same!(rt; field.kind(), kind);
         for value in field.values() {
-            assert_eq!(rt; value.kind(), kind);
+            same!(rt; value.kind(), kind);
         }
     }
-    assert_eq!(rt; before.name_at(1), Some("b"));
-    assert_eq!(rt; before.what(), PING);
-    assert_eq!(rt; number_at(&before, "a", 1), Ok(2));
+    same!(rt; before.name_at(1), Some("b"));
+    same!(rt; before.what(), PING);
+    same!(rt; number_at(&before, "a", 1), Ok(2));
     Ok(())
 }
 
@@ -291,13 +289,13 @@ fn a_field_is_copied_with_all_its_values_and_their_depth(rt: HostRuntime) -> Res
     copy_new(&mut to, &from, "m")?;
     let names = [Some("a"), Some("n"), Some("m"), None];
     for (place, want) in names.iter().enumerate() {
-        assert_eq!(rt; to.name_at(place), *want, "at {place}");
+        same!(rt; to.name_at(place), *want, place);
     }
-    assert_eq!(rt; number_at(&to, "n", 0), Ok(5));
-    assert_eq!(rt; number_at(&to, "n", 1), Ok(6));
-    assert_eq!(rt; to.count("n"), 2);
+    same!(rt; number_at(&to, "n", 0), Ok(5));
+    same!(rt; number_at(&to, "n", 1), Ok(6));
+    same!(rt; to.count("n"), 2);
     let deepest = Value::Message(Box::new(alloc, to)?);
-    assert_eq!(rt; answer_to_add(&mut from, "to", deepest), Answer::BadValue);
-    assert_eq!(rt; answer_to_add(&mut from, "to", flat), Answer::Done);
+    same!(rt; answer_to_add(&mut from, "to", deepest), Answer::BadValue);
+    same!(rt; answer_to_add(&mut from, "to", flat), Answer::Done);
     Ok(())
 }

@@ -220,14 +220,28 @@ pub(crate) fn assert_shows(
 ) -> Result<(), Fail> {
     let mut due = board.picture(alloc)?;
     for (line, after) in steps {
-        assert_eq!(rt; board.execute(alloc, line)?, Outcome::Done, "{line}");
+        same!(rt; board.execute(alloc, line)?, Outcome::Done, line);
         let shown = board.picture(alloc)?;
         if *after != "same" {
             due = String::from_str(alloc, after)?;
         }
-        assert_eq!(rt; shown.as_str(), due.as_str(), "{line}");
+        same!(rt; shown.as_str(), due.as_str(), line);
     }
     Ok(())
+}
+
+/// The same on a new board, in an update of these pixels where there are some.
+pub(crate) fn assert_draws(
+    rt: &impl Abort,
+    alloc: Global,
+    session: Option<Rect>,
+    steps: &[(&str, &str)],
+) -> Result<(), Fail> {
+    let mut board = Board::new(alloc)?;
+    if let Some(session) = session {
+        board.open(alloc, session)?;
+    }
+    assert_shows(rt, alloc, &mut board, steps)
 }
 
 /// Asserts what comes of each of some lines, which are refused and change nothing.
@@ -238,9 +252,9 @@ pub(crate) fn assert_outcomes(
 ) -> Result<(), Fail> {
     let mut board = Board::new(alloc)?;
     for (line, due) in lines {
-        assert_eq!(rt; board.execute(alloc, line)?, *due, "{line}");
+        same!(rt; board.execute(alloc, line)?, *due, line);
     }
     let shown = board.picture(alloc)?;
-    assert_eq!(rt; shown.as_str(), "wwwww|wwwww|www  |     |");
+    same!(rt; shown.as_str(), "wwwww|wwwww|www  |     |");
     Ok(())
 }

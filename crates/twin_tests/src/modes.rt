@@ -31,28 +31,30 @@ fn parts(rgb: Rgb) -> [u8; 3] {
     [rgb.red, rgb.green, rgb.blue]
 }
 
+const LAID_ON: [(&str, &str, &str, [u8; 3]); 16] = [
+    ("c8640a", "copy", "high", [0x64, 0x64, 0x14]),
+    ("c8640a", "copy", "low", [1, 2, 3]),
+    ("c8640a", "over", "high", [0x64, 0x64, 0x14]),
+    ("c8640a", "over", "low", [0xc8, 0x64, 0x0a]),
+    ("c8640a", "erase", "high", [1, 2, 3]),
+    ("c8640a", "invert", "high", [0x37, 0x9b, 0xf5]),
+    ("c8640a", "add", "high", [0xff, 0xc8, 0x1e]),
+    ("c8640a", "subtract", "high", [0x64, 0, 0]),
+    ("c8650b", "blend", "high", [0x96, 0x64, 0x0f]),
+    ("c8640a", "min", "high", [0x64, 0x64, 0x0a]),
+    ("c8640a", "max", "high", [0xc8, 0x64, 0x14]),
+    ("c8640a", "select", "high", [0xc8, 0x64, 0x0a]),
+    ("646414", "select", "high", [1, 2, 3]),
+    ("010203", "select", "high", [0x64, 0x64, 0x14]),
+    ("c8640a", "select", "low", [0xc8, 0x64, 0x0a]),
+    ("c8640a", "add", "low", [0xc8, 0x64, 0x0a]),
+];
+
 #[test]
 fn each_mode_lays_colours_on(rt: HostRuntime) -> Result<(), Fail> {
-    for (old, mode, pattern, due) in [
-        ("c8640a", "copy", "high", [0x64, 0x64, 0x14]),
-        ("c8640a", "copy", "low", [1, 2, 3]),
-        ("c8640a", "over", "high", [0x64, 0x64, 0x14]),
-        ("c8640a", "over", "low", [0xc8, 0x64, 0x0a]),
-        ("c8640a", "erase", "high", [1, 2, 3]),
-        ("c8640a", "invert", "high", [0x37, 0x9b, 0xf5]),
-        ("c8640a", "add", "high", [0xff, 0xc8, 0x1e]),
-        ("c8640a", "subtract", "high", [0x64, 0, 0]),
-        ("c8650b", "blend", "high", [0x96, 0x64, 0x0f]),
-        ("c8640a", "min", "high", [0x64, 0x64, 0x0a]),
-        ("c8640a", "max", "high", [0xc8, 0x64, 0x14]),
-        ("c8640a", "select", "high", [0xc8, 0x64, 0x0a]),
-        ("646414", "select", "high", [1, 2, 3]),
-        ("010203", "select", "high", [0x64, 0x64, 0x14]),
-        ("c8640a", "select", "low", [0xc8, 0x64, 0x0a]),
-        ("c8640a", "add", "low", [0xc8, 0x64, 0x0a]),
-    ] {
+    for (old, mode, pattern, due) in &LAID_ON {
         let laid = filled(rt.alloc(), old, mode, pattern)?;
-        assert_eq!(rt; laid, Some(due), "{mode} of {pattern} on {old}");
+        same!(rt; laid, Some(*due), (*mode, *pattern, *old));
     }
     Ok(())
 }

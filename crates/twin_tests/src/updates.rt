@@ -1,40 +1,39 @@
-use crate::board::{Board, assert_shows, rect};
+use crate::board::{Board, assert_draws, rect};
 use be_geom::Rect;
 use be_update::{UpdateFault, begin, pass, survey};
 use std::alloc::Global;
 use std::process::Abort;
 use std::test::Fail;
 
+const INVALID: [(&str, &str); 10] = [
+    ("viewcolor root ff0000", "same"),
+    ("viewcolor kid 00ff00", "same"),
+    ("clip root 0 0 0 0", "same"),
+    ("invalidate kid 1 -3 3 0", "wwGww|wwwww|www  |     |"),
+    ("origin root 1 0", "same"),
+    ("invalidate root 0 0 2 0", "wGGRw|wwwww|www  |     |"),
+    ("origin root 0 0", "same"),
+    ("invalidate root 0 0 9 9", "RGGRR|RGGRR|RRR  |     |"),
+    ("viewcolor kid 0000ff", "same"),
+    ("invalidate kid 0 0 9 9", "RBBRR|RBBRR|RRR  |     |"),
+];
+
 #[test]
 fn invalid_pixels_get_the_colours_of_their_views(rt: HostRuntime) -> Result<(), Fail> {
-    let mut board = Board::new(rt.alloc())?;
-    board.open(rt.alloc(), rect(0, 0, 0, 0))?;
-    let steps = [
-        ("viewcolor root ff0000", "same"),
-        ("viewcolor kid 00ff00", "same"),
-        ("clip root 0 0 0 0", "same"),
-        ("invalidate kid 1 -3 3 0", "wwGww|wwwww|www  |     |"),
-        ("origin root 1 0", "same"),
-        ("invalidate root 0 0 2 0", "wGGRw|wwwww|www  |     |"),
-        ("origin root 0 0", "same"),
-        ("invalidate root 0 0 9 9", "RGGRR|RGGRR|RRR  |     |"),
-        ("viewcolor kid 0000ff", "same"),
-        ("invalidate kid 0 0 9 9", "RBBRR|RBBRR|RRR  |     |"),
-    ];
-    assert_shows(&rt, rt.alloc(), &mut board, &steps)
+    assert_draws(&rt, rt.alloc(), Some(rect(0, 0, 0, 0)), &INVALID)
 }
+
+const TRANSPARENT: [(&str, &str); 5] = [
+    ("viewcolor root clear", "same"),
+    ("fill root 3 0 9 0 high", "wwwkk|wwwww|www  |     |"),
+    ("invalidate root 2 0 3 2", "wwWKk|wwWWw|wwW  |     |"),
+    ("fill root 0 0 9 9 high", "kwWKk|kwWKk|kkK  |     |"),
+    ("bitmap root pic 0 2", "kwWKk|kwWKk|rkB  |     |"),
+];
 
 #[test]
 fn a_transparent_view_keeps_its_pixels(rt: HostRuntime) -> Result<(), Fail> {
-    let mut board = Board::new(rt.alloc())?;
-    let steps = [
-        ("viewcolor root clear", "same"),
-        ("fill root 3 0 9 0 high", "wwwkk|wwwww|www  |     |"),
-        ("invalidate root 2 0 3 2", "wwWKk|wwWWw|wwW  |     |"),
-        ("fill root 0 0 9 9 high", "kwWKk|kwWKk|kkK  |     |"),
-        ("bitmap root pic 0 2", "kwWKk|kwWKk|rkB  |     |"),
-    ];
-    assert_shows(&rt, rt.alloc(), &mut board, &steps)
+    assert_draws(&rt, rt.alloc(), None, &TRANSPARENT)
 }
 
 /// Asserts which views have pixels that wait after a command, each with the rectangle round them.
@@ -50,10 +49,13 @@ fn assert_listed(
     pane.mark_notified();
     let found = survey(alloc, &pane)?;
     let listed = begin(&mut pane, found);
-    assert_eq!(rt; listed.as_slice(), views, "{line}");
-    assert!(rt; pane.session().is_some());
-    assert!(rt; pane.spans().is_clean());
-    assert!(rt; !pane.notified);
+    same!(rt; listed.as_slice(), views, line);
+    let left = (
+        pane.session().is_some(),
+        pane.spans().is_clean(),
+        pane.notified,
+    );
+    same!(rt; left, (true, true, false), line);
     Ok(())
 }
 
@@ -82,11 +84,11 @@ fn nothing_waits_on_a_clean_pane(rt: HostRuntime) -> Result<(), Fail> {
     let mut pane = Board::new(rt.alloc())?.pane;
     pane.mark_notified();
     let fault = survey(rt.alloc(), &pane).err();
-    assert_eq!(rt; fault, Some(UpdateFault::NothingDirty));
+    same!(rt; fault, Some(UpdateFault::NothingDirty));
     assert!(rt; pane.spans.is_clean());
     assert!(rt; pane.session.is_none());
     pass(&mut pane);
-    assert!(rt; !pane.notified);
+    same!(rt; pane.notified, false);
     Ok(())
 }
 
@@ -97,7 +99,7 @@ fn an_update_is_under_way(rt: HostRuntime) -> Result<(), Fail> {
         let _done = board.execute(rt.alloc(), line)?;
         board.open(rt.alloc(), rect(0, 0, 0, 0))?;
         let fault = survey(rt.alloc(), &board.pane).err();
-        assert_eq!(rt; fault, Some(UpdateFault::InSession), "{line}");
+        same!(rt; fault, Some(UpdateFault::InSession), line);
     }
     Ok(())
 }
