@@ -5,11 +5,10 @@ ghost use Rattle.be_report.specs.Report.{report_of};
 ghost use Rattle.be_runs.specs.Runs.{Leaves};
 
 use crate::status::Status;
-use be_noted::Follower;
 use be_outside::Sink;
 use be_report::{ReportFault, put_lines, report};
 use be_runs::Finished;
-use be_shown::Shown;
+use be_shown::{Shown, Traces};
 use std::alloc::Global;
 
 /// Writes the report of a finished run.
@@ -19,20 +18,14 @@ pub fn answer<K: Sink>(alloc: Global, run: &Finished, sink: &mut K) -> Status
         (turn K.held K.faults sink.old sink.new) result }
 {
     let script = run.world.script();
-    let Ok(mut notes) = Follower::new(alloc, &run.world) else {
+    let parts = run.parts.as_slice();
+    let Ok(notes) = Traces::new(alloc, script, parts) else {
         return Status::NoMemory;
     };
-    let Ok(screen) = Shown::new(alloc, script, run.parts.as_slice()) else {
+    let Ok(screen) = Shown::new(alloc, script, parts) else {
         return Status::NoMemory;
     };
-    match report(
-        alloc,
-        script,
-        run.history.as_slice(),
-        &mut notes,
-        &screen,
-        sink,
-    ) {
+    match report(alloc, script, run.history.as_slice(), &notes, &screen, sink) {
         Ok(()) => Status::Finished,
         Err(ReportFault::WriteFault) => Status::WriteFault,
         Err(ReportFault::NoMemory) => Status::NoMemory,

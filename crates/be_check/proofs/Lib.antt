@@ -7,3 +7,4 @@ pub mod Looking
 pub mod Watched
 pub mod Takers
 pub mod Gathering
+mod Noting

@@ -46,7 +46,7 @@ module _ (d : Declared) (e : Entry) where
       subst (λ (k : ℕ). k < length (all_parts d)) (sym (is ∙ ap (kept_at d) number))
       (there_in (all_parts d) 1 part.input refl)
 
-  touched_below : (s : State) (p : ℕ) → TouchesAt d s e p → p < length (all_parts d)
+  pub touched_below : (s : State) (p : ℕ) → TouchesAt d s e p → p < length (all_parts d)
   touched_below s p (inl is) = kept_below (activity_of d e.actor) p refl is
   touched_below s p (inr touched) = there_in (all_parts d) p touched.part touched.there
 

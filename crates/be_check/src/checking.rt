@@ -3,9 +3,10 @@ ghost use Rattle.be_check.specs.Checking.{IsFaultOf};
 ghost use Rattle.be_runs.specs.Runs.{Leaves};
 
 use crate::fault::CheckFault;
-use crate::stepping::{ends_in_stop, make_if_legal};
+use crate::stepping::{ends_in_stop, note_if_legal};
 use be_hall::Held;
 use be_machine::Entry;
+use be_noted::Noting;
 use be_runs::Finished;
 use be_world::World;
 
@@ -16,12 +17,13 @@ pub fn check(world: World, history: Vec<Entry>) -> Result<Finished, CheckFault>
     ensures history { IfOk result (λ run. run.history.items ≡ history.items) }
     ensures fault { IfErr result (IsFaultOf world history.items) }
 {
-    let opening = world.opening()?;
+    let noting = Noting::new(world);
+    let opening = noting.opening()?;
     let mut held = Held::whole(opening);
     let entries = history.as_slice();
     let mut made = 0;
     for entry in entries {
-        let legal = make_if_legal(&world, &mut held, entry, made)?;
+        let legal = note_if_legal(&noting, &mut held, entry, made)?;
         if !legal {
             return Err(CheckFault::Illegal(made + 1));
         }
@@ -31,7 +33,7 @@ pub fn check(world: World, history: Vec<Entry>) -> Result<Finished, CheckFault>
         return Err(CheckFault::Illegal(made + 1));
     }
     Ok(Finished {
-        world,
+        world: noting.into_world(),
         history,
         parts: held.into_parts(),
     })

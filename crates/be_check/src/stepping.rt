@@ -1,12 +1,13 @@
 //! An entry is tried with all parts in hand.
 ghost use Rattle.std.specs.Prelude.{◌↔◌, IfOk, IsTrue};
-ghost use Rattle.be_check.specs.Stepping.{IsTried};
+ghost use Rattle.be_check.specs.Stepping.{IsTriedNoted, IsTried};
 ghost use Rattle.be_machine.specs.Orderly.{EndsInStop};
 ghost use Rattle.be_noted.specs.Following.{Follows};
 
 use be_geom::NoMemory;
 use be_hall::{Held, Parts, Verdict};
 use be_machine::{Act, Entry};
+use be_noted::Noting;
 use be_parts::Part;
 use be_world::World;
 
@@ -23,6 +24,26 @@ pub(crate) fn make_if_legal(
     match world.prepare(held, entry)? {
         Verdict::Ready(ready) => {
             world.perform(held, ready, made + 1);
+            Ok(true)
+        }
+        Verdict::NotLegal => Ok(false),
+        Verdict::Needs(_) => unreachable!(),
+    }
+}
+
+/// The same, and what its maker notes of it is kept.
+pub(crate) fn note_if_legal(
+    noting: &Noting,
+    held: &mut Held<Part>,
+    entry: &Entry,
+    made: u64,
+) -> Result<bool, NoMemory>
+    requires { Follows noting.now held.old.parts made }
+    ensures { IfOk result (IsTriedNoted noting.now entry.now made held.old.parts held.new.parts) }
+{
+    match noting.prepare(held, entry)? {
+        Verdict::Ready(ready) => {
+            noting.perform(held, ready, made + 1);
             Ok(true)
         }
         Verdict::NotLegal => Ok(false),

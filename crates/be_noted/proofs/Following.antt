@@ -1,5 +1,5 @@
 -- The parts that follow a history, before an entry and after it.
-use Rattle.std.proofs.Common.{◌≡◌, ℕ, zero, ◌+◌, ◌<◌, ◌≤◌, true, List, [], ◌∷◌, map, length, All, Some, refl, sym, ap, ◌∙◌, subst, arith}
+use Rattle.std.proofs.Common.{◌≡◌, ℕ, ◌+◌, ◌<◌, ◌≤◌, true, List, [], map, length, All, Some, refl, sym, ap, ◌∙◌, subst, arith}
 use Rattle.std.proofs.lemmas.List.{length-map}
 use Rattle.be_asking.specs.Wants.{activity_in}
 use Rattle.be_asking.specs.declared.activity.Activity.{Activity}
@@ -14,7 +14,7 @@ use Rattle.be_hall.specs.declared.parts.Verdict.TheVariants as verdict
 use Rattle.be_machine.specs.Activities.{activity_of}
 use Rattle.be_machine.specs.History.{AreLegalFrom, state_from}
 use Rattle.be_machine.specs.Legal.{IsLegal}
-use Rattle.be_machine.specs.State.{State, opening_state}
+use Rattle.be_machine.specs.State.{opening_state}
 use Rattle.be_machine.specs.Step.{step}
 use Rattle.be_machine.specs.declared.Entry.{Entry}
 use Rattle.be_parts.specs.Parts.{log_of, meaning_of, spare_of}
@@ -25,7 +25,6 @@ use Rattle.be_rules.proofs.Lawfully.{back, state, whole_after, whole_next, world
 use Rattle.be_rules.specs.Rules.{IsSound, SliceFits, TouchesAt, kept_at, world_machine}
 use Rattle.be_rules.specs.Shares.{share}
 use Rattle.be_rules.specs.Slices.{Slice, all_parts, slice_of, slices, state_of}
-use Rattle.be_script.specs.Limits.{IsWithinLimits}
 use Rattle.be_script.specs.Script.{Declared}
 use Rattle.be_script.specs.Work.{work_of}
 use Rattle.be_serial.specs.Running.{EachBefore}

@@ -1,9 +1,10 @@
 pub mod Whole
 pub mod Following
+pub mod Texts
+pub mod Claims
 pub mod Makers
-pub mod Traces
 pub mod Letters
 pub mod Updates
-pub mod Memos
-pub mod Foretelling
-pub mod Kept
+pub mod Both
+pub mod Lawful
+mod Noted

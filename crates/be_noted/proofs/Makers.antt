@@ -1,10 +1,10 @@
 -- Whose want it is, and what is noted of an entry by what its maker wants.
-use Rattle.std.proofs.Common.{◌≡◌, ℕ, Bool, true, false, List, [], ◌∷◌, Option, Some, None, refl, sym, ap, ◌∙◌, subst}
+use Rattle.std.proofs.Common.{◌≡◌, ℕ, true, List, [], ◌∷◌, Option, Some, None, refl, sym, ap, ◌∙◌}
 use Rattle.std.specs.Borrow.{Bor}
-use Rattle.std.specs.Prelude.{◌==◌, option_map, option_and_then, option_to_list, if◌then◌else◌}
+use Rattle.std.specs.Prelude.{option_map, option_and_then, option_to_list, if◌then◌else◌}
 use Rattle.std.specs.Option.{option_map_or}
 use Rattle.std.proofs.lemmas.Option.{same_Some}
-use Rattle.be_actor.specs.Drafts.{DraftWords, filled}
+use Rattle.be_actor.specs.Drafts.{DraftWords}
 use Rattle.be_actor.specs.declared.Wish.{Wish}
 use Rattle.be_asking.proofs.Makers.{asked_by, made_by}
 use Rattle.be_asking.specs.Wants.{activity_in, message_of, runner_in, want_in, wish_in}
@@ -21,9 +21,8 @@ use Rattle.be_hall.specs.Machine.{Fits}
 use Rattle.be_machine.proofs.Lists.{is_same_number}
 use Rattle.be_machine.specs.Activities as machine
 use Rattle.be_machine.specs.Activities.{activity_of}
-use Rattle.be_machine.specs.Looper.{reply_for}
 use Rattle.be_machine.specs.State.{State}
-use Rattle.be_machine.specs.Traces.{Trace, got, replied, reply_trace, same_runner, trace_of, wish_trace}
+use Rattle.be_machine.specs.Traces.{Trace, got, noted, replied, same_runner, trace_of, wish_trace}
 use Rattle.be_machine.specs.Wants as wants
 use Rattle.be_machine.specs.Wants.{want_of}
 use Rattle.be_machine.specs.declared.Entry.{Entry}
@@ -36,9 +35,14 @@ use Rattle.be_script.specs.Script.{Declared}
 use Rattle.be_steps.specs.Steps.{IsAllowed}
 use Rattle.be_written.specs.Notings.{maker_trace, noted_by}
 use Rattle.be_written.specs.Runners.{runner_in as as_maker}
-use Rattle.be_noted.specs.Foretold.{IsClaimed, IsForetold, IsReplied}
-use Rattle.be_noted.specs.declared.memo.Memo.{Memo}
-use Rattle.be_noted.specs.declared.memo.Memo.TheVariants as memo
+use Rattle.be_written.specs.Notings.{Says}
+use Rattle.be_written.specs.TraceText.{noted_text}
+use Rattle.be_written.specs.declared.note.Note.{Note}
+use Rattle.be_written.specs.declared.note.Note.TheVariants as note
+use Rattle.be_written.specs.declared.said.Said.TheVariants as spoken
+use Rattle.be_noted.specs.Noted.{IsNoted}
+use Rattle.be_noted.proofs.Claims.{IsClaimed, IsReplied}
+use Rattle.be_noted.proofs.Texts.{no_text, text_by_runner}
 
 -- what an activity notes of a want that is met
 abbrev pub trace_by : Declared → State → machine.Activity → wants.Want → List Trace
@@ -107,8 +111,8 @@ module _ (d : Declared) (parts : List (ℕ × Part)) (it : Activity) (asks : Wan
     maker = same_Some (activity_in it) (activity_in (made_by other)) (sym allowed.asked.number ∙ (asked_by d parts allowed.number it asks allowed.asked other is).number)
 
     -- its maker's is that of the activity
-    pub foretold_back : (memo : Memo) → IsForetold d parts (made_by other) memo → IsForetold d parts it memo
-    foretold_back memo told e number = told e (number ∙ ap (λ (x : machine.Activity). Some x) maker)
+    pub noted_back : (text : List ℕ) → IsNoted d parts (made_by other) text → IsNoted d parts it text
+    noted_back text told e number = told e (number ∙ ap (λ (x : machine.Activity). Some x) maker)
 
 -- what an instruction asks for
 module _ (d : Declared) (parts : List (ℕ × Part)) (r : Runner) (q : Request) (allowed : IsAllowed d parts (who.Runner r) (want.Asks r q)) where
@@ -149,42 +153,98 @@ silent_by s r request.SyncDone note claim reply message = refl
 silent_by s r (request.Draw command) note claim reply message = refl
 
 module _ (d : Declared) (parts : List (ℕ × Part)) (it : Activity) (asks : Want) (allowed : IsAllowed d parts it asks) where
-  pub quiet_foretold : ((r : Runner) (q : Request) → asks ≡ want.Asks r q → ⊥) → ((w : ℕ) → asks ≡ want.Takes w → ⊥) → ((w : ℕ) → asks ≡ want.Begins w → ⊥) → IsForetold d parts it memo.Nothing
-  quiet_foretold na nt nb e number all sound fits =
-      trace_is d parts it asks allowed e number all sound fits
-      ∙ quiet d (state_of d all) (activity_in it) (want_in (message_of (state_of d all) (activity_in it)) asks) (quiet_by asks na nt nb (message_of (state_of d all) (activity_in it)))
+  pub quiet_noted : ((r : Runner) (q : Request) → asks ≡ want.Asks r q → ⊥) → ((w : ℕ) → asks ≡ want.Takes w → ⊥) → ((w : ℕ) → asks ≡ want.Begins w → ⊥) → IsNoted d parts it []
+  quiet_noted na nt nb e number all sound fits =
+      no_text d (state_of d all) e (trace_is d parts it asks allowed e number all sound fits
+      ∙ quiet d (state_of d all) (activity_in it) (want_in (message_of (state_of d all) (activity_in it)) asks) (quiet_by asks na nt nb (message_of (state_of d all) (activity_in it))))
 
 module _ (d : Declared) (parts : List (ℕ × Part)) (r : Runner) (q : Request) (allowed : IsAllowed d parts (who.Runner r) (want.Asks r q)) where
-  pub silent_foretold : ((text : Bor (List ℕ)) → q ≡ request.Note text → ⊥) → (q ≡ request.Claim → ⊥) → ((draft : Bor DraftWords) → q ≡ request.Reply draft → ⊥) → IsForetold d parts (who.Runner r) memo.Nothing
-  silent_foretold note claim reply e number all sound fits =
-      asked_trace d parts r q allowed q refl e number all sound fits
-      ∙ silent_by (state_of d all) (runner_in r) q note claim reply (message_of (state_of d all) (machine.runner (runner_in r)))
+  pub silent_noted : ((text : Bor (List ℕ)) → q ≡ request.Note text → ⊥) → (q ≡ request.Claim → ⊥) → ((draft : Bor DraftWords) → q ≡ request.Reply draft → ⊥) → IsNoted d parts (who.Runner r) []
+  silent_noted note claim reply e number all sound fits =
+      no_text d (state_of d all) e (asked_trace d parts r q allowed q refl e number all sound fits
+      ∙ silent_by (state_of d all) (runner_in r) q note claim reply (message_of (state_of d all) (machine.runner (runner_in r))))
+
+-- ---- by what the code wrote
+
+-- in each sound list the runner notes of its entry what this note says
+abbrev pub SaysOfEach : Declared → List (ℕ × Part) → Runner → Note → Type 0
+SaysOfEach d parts r note =
+    (e : Entry) → activity_of d e.actor ≡ Some (activity_in (who.Runner r))
+    → (all : List Slice) → IsSound d all → Fits all (meant meaning_of parts)
+    → Says note (maker_trace d (state_of d all) e)
+
+-- the lines of what a runner notes, as the code writes them
+abbrev pub IsTextOf : Declared → Runner → Note → List ℕ → Type 0
+IsTextOf d r note text =
+    (traces : List Trace) → Says note traces → text ≡ noted_text d (runner_in r) traces
+
+pub noted_as : (d : Declared) (parts : List (ℕ × Part)) (r : Runner) (note : Note) (text : List ℕ)
+    → IsTextOf d r note text → SaysOfEach d parts r note → IsNoted d parts (who.Runner r) text
+noted_as d parts r note text is says e number all sound fits =
+    text_by_runner d (state_of d all) e (runner_in r) number
+    ∙ sym (is (maker_trace d (state_of d all) e) (says e number all sound fits))
 
 -- ---- claims and replies
 
-module _ (d : Declared) (parts : List (ℕ × Part)) (r : Runner) where
-  claim_told : (m : ℕ) → r ≡ by.App m → (reply : Option Message) → IsAllowed d parts (who.Runner r) (want.Asks r request.Claim) → IsClaimed d parts m reply
-      → (e : Entry) → activity_of d e.actor ≡ Some (activity_in (who.Runner r)) → (all : List Slice) → IsSound d all → Fits all (meant meaning_of parts) → maker_trace d (state_of d all) e ≡ option_to_list (option_map got reply)
-  claim_told m is reply allowed claimed e number all sound fits =
-      asked_trace d parts r request.Claim allowed request.Claim refl e number all sound fits
-      ∙ ap (λ (x : Runner). option_to_list (option_map got (reply_for (state_of d all) (runner_in x)))) is
+module _ (d : Declared) (parts : List (ℕ × Part)) where
+  pub claim_told : (m : ℕ) (reply : Option Message) → IsAllowed d parts (who.Runner (by.App m)) (want.Asks (by.App m) request.Claim) → IsClaimed d parts m reply
+      → (e : Entry) → activity_of d e.actor ≡ Some (activity_in (who.Runner (by.App m))) → (all : List Slice) → IsSound d all → Fits all (meant meaning_of parts) → maker_trace d (state_of d all) e ≡ option_to_list (option_map got reply)
+  claim_told m reply allowed claimed e number all sound fits =
+      asked_trace d parts (by.App m) request.Claim allowed request.Claim refl e number all sound fits
       ∙ ap (λ o. option_to_list (option_map got o)) (claimed all sound fits)
 
-  pub claim_foretold : (m : ℕ) → r ≡ by.App m → (reply : Message) → IsAllowed d parts (who.Runner r) (want.Asks r request.Claim) → IsClaimed d parts m (Some reply) → IsForetold d parts (who.Runner r) (memo.Got reply)
-  claim_foretold m is reply allowed claimed = claim_told m is (Some reply) allowed claimed
+  pub no_claim_noted : (m : ℕ) → IsAllowed d parts (who.Runner (by.App m)) (want.Asks (by.App m) request.Claim) → IsClaimed d parts m None → IsNoted d parts (who.Runner (by.App m)) []
+  no_claim_noted m allowed claimed e number all sound fits =
+      no_text d (state_of d all) e (claim_told m None allowed claimed e number all sound fits)
 
-  pub no_claim_foretold : (m : ℕ) → r ≡ by.App m → IsAllowed d parts (who.Runner r) (want.Asks r request.Claim) → IsClaimed d parts m None → IsForetold d parts (who.Runner r) memo.Nothing
-  no_claim_foretold m is allowed claimed = claim_told m is None allowed claimed
-
-  reply_told : (w : ℕ) → r ≡ by.Looper w → (draft : Bor DraftWords) (reply : Option Message) → IsAllowed d parts (who.Runner r) (want.Asks r (request.Reply draft)) → IsReplied d parts w draft.now reply
-      → (e : Entry) → activity_of d e.actor ≡ Some (activity_in (who.Runner r)) → (all : List Slice) → IsSound d all → Fits all (meant meaning_of parts) → maker_trace d (state_of d all) e ≡ option_to_list (option_map replied reply)
-  reply_told w is draft reply allowed replies e number all sound fits =
-      asked_trace d parts r (request.Reply draft) allowed (request.Reply draft) refl e number all sound fits
-      ∙ ap (λ (x : Runner). reply_trace (state_of d all) (runner_in x) (filled draft.now (message_of (state_of d all) (machine.runner (runner_in x))))) is
+  pub reply_told : (w : ℕ) (draft : Bor DraftWords) (reply : Option Message) → IsAllowed d parts (who.Runner (by.Looper w)) (want.Asks (by.Looper w) (request.Reply draft)) → IsReplied d parts w draft.now reply
+      → (e : Entry) → activity_of d e.actor ≡ Some (activity_in (who.Runner (by.Looper w))) → (all : List Slice) → IsSound d all → Fits all (meant meaning_of parts) → maker_trace d (state_of d all) e ≡ option_to_list (option_map replied reply)
+  reply_told w draft reply allowed replies e number all sound fits =
+      asked_trace d parts (by.Looper w) (request.Reply draft) allowed (request.Reply draft) refl e number all sound fits
       ∙ replies all sound fits
 
-  pub reply_foretold : (w : ℕ) → r ≡ by.Looper w → (draft : Bor DraftWords) (reply : Message) → IsAllowed d parts (who.Runner r) (want.Asks r (request.Reply draft)) → IsReplied d parts w draft.now (Some reply) → IsForetold d parts (who.Runner r) (memo.Replied reply)
-  reply_foretold w is draft reply allowed replies = reply_told w is draft (Some reply) allowed replies
+  pub no_reply_noted : (w : ℕ) (draft : Bor DraftWords) → IsAllowed d parts (who.Runner (by.Looper w)) (want.Asks (by.Looper w) (request.Reply draft)) → IsReplied d parts w draft.now None → IsNoted d parts (who.Runner (by.Looper w)) []
+  no_reply_noted w draft allowed replies e number all sound fits =
+      no_text d (state_of d all) e (reply_told w draft None allowed replies e number all sound fits)
 
-  pub no_reply_foretold : (w : ℕ) → r ≡ by.Looper w → (draft : Bor DraftWords) → IsAllowed d parts (who.Runner r) (want.Asks r (request.Reply draft)) → IsReplied d parts w draft.now None → IsForetold d parts (who.Runner r) memo.Nothing
-  no_reply_foretold w is draft allowed replies = reply_told w is draft None allowed replies
+  -- ---- the text of what the code has
+
+  pub claim_noted : (m : ℕ) (reply : Bor Message) (text : List ℕ)
+      → IsTextOf d (by.App m) (note.Got (spoken.Whole reply)) text
+      → IsAllowed d parts (who.Runner (by.App m)) (want.Asks (by.App m) request.Claim)
+      → IsClaimed d parts m (Some reply.now) → IsNoted d parts (who.Runner (by.App m)) text
+  claim_noted m reply text is allowed claimed =
+      noted_as d parts (by.App m) (note.Got (spoken.Whole reply)) text is
+      (λ e number all sound fits. (
+        reply.now,
+        (
+          refl,
+          claim_told m (Some reply.now) allowed claimed e
+              number all sound fits,
+        ),
+      ))
+
+  pub reply_noted : (w : ℕ) (draft : Bor DraftWords) (reply : Bor Message) (text : List ℕ)
+      → IsTextOf d (by.Looper w) (note.Replied (spoken.Whole reply)) text
+      → IsAllowed d parts (who.Runner (by.Looper w)) (want.Asks (by.Looper w) (request.Reply draft))
+      → IsReplied d parts w draft.now (Some reply.now)
+      → IsNoted d parts (who.Runner (by.Looper w)) text
+  reply_noted w draft reply text is allowed replies =
+      noted_as d parts (by.Looper w) (note.Replied (spoken.Whole reply)) text is
+      (λ e number all sound fits. (
+        reply.now,
+        (
+          refl,
+          reply_told w draft (Some reply.now) allowed
+              replies e number all sound fits,
+        ),
+      ))
+
+  pub word_noted : (r : Runner) (q : Request) → IsAllowed d parts (who.Runner r) (want.Asks r q)
+      → (word : Bor (List ℕ)) → q ≡ request.Note word → (bytes : Bor (List ℕ))
+      → bytes.now ≡ word.now → (text : List ℕ) → IsTextOf d r (note.Word bytes) text
+      → IsNoted d parts (who.Runner r) text
+  word_noted r q allowed word asks bytes same text is =
+      noted_as d parts r (note.Word bytes) text is
+      (λ e number all sound fits. asked_trace d parts r q allowed (request.Note word) asks e number
+      all sound fits ∙ ap (λ w. noted w ∷ []) (sym same))

@@ -1,6 +1,6 @@
 -- The views that an update lists, found in a pane.
-use Rattle.std.proofs.Common.{◌≡◌, ℕ, Bool, true, false, List, [], ◌∷◌, map, Option, Some, None, inl, inr, refl, sym, ap, ◌∙◌, subst}
-use Rattle.std.specs.Prelude.{ℤ, ◌+ℤ◌, ◌==◌, filter_map, option_map, option_and_then, slice_get, unwrap_or, if◌then◌else◌}
+use Rattle.std.proofs.Common.{◌≡◌, ℕ, Bool, true, false, List, [], ◌∷◌, map, Option, Some, None, refl, sym, ap, ◌∙◌, subst}
+use Rattle.std.specs.Prelude.{ℤ, ◌+ℤ◌, filter_map, option_map, option_and_then, unwrap_or, if◌then◌else◌}
 use Rattle.std.specs.List.{cons_option}
 use Rattle.std.proofs.lemmas.Option.{same_Some}
 use Rattle.be_asking.proofs.InHand.{pane_read}
@@ -20,7 +20,7 @@ use Rattle.be_machine.specs.State.{State}
 use Rattle.be_machine.specs.Touched as part
 use Rattle.be_machine.specs.Traces.{listed as line_of}
 use Rattle.be_machine.specs.Update.{listing_of}
-use Rattle.be_machine.specs.Windows.{corner_at, dirty_of, owned, tree_at}
+use Rattle.be_machine.specs.Windows.{dirty_of, owned}
 use Rattle.be_pane.specs.Owed.{IsClean}
 use Rattle.be_pane.specs.StandsFor.{PaneStandsFor}
 use Rattle.be_pane.specs.declared.pane.Pane.{Pane}
@@ -36,7 +36,7 @@ use Rattle.be_ready.proofs.Closed.{pane_there}
 use Rattle.be_rules.proofs.Lawfully.{back, state}
 use Rattle.be_rules.specs.Places.{place_of}
 use Rattle.be_rules.specs.Rules.{IsSound}
-use Rattle.be_rules.specs.Slices.{Shown, Slice, cell, desk, input, link, looper, pane, port, shown_of, state_of}
+use Rattle.be_rules.specs.Slices.{Slice, cell, desk, input, link, looper, pane, port, shown_of, state_of}
 use Rattle.be_script.specs.Script.{Declared}
 use Rattle.be_region.specs.Regions.{region_has}
 use Rattle.be_span.proofs.CellLemmas.{cell_none}
@@ -49,10 +49,12 @@ use Rattle.be_update.specs.Listing.{listed_views, rect_in}
 use Rattle.be_update.specs.Sessions.{is_any, session_of}
 use Rattle.be_update.specs.Surveys.{IsSurveyOf, Surveyed}
 use Rattle.be_views.specs.Trees.{Tree, place_of as view_place, preorder}
-use Rattle.be_noted.proofs.Makers.{trace_is}
-use Rattle.be_noted.specs.Foretold.{IsForetold, IsListed}
-use Rattle.std.specs.Global.{Vec}
-use Rattle.be_noted.specs.declared.memo.Memo.TheVariants as memo
+use Rattle.be_noted.proofs.Makers.{SaysOfEach, trace_is}
+use Rattle.std.specs.Borrow.{Bor}
+use Rattle.be_written.specs.declared.note.Note.TheVariants as note
+use Rattle.be_noted.proofs.Texts.{no_text}
+use Rattle.be_noted.specs.Listed.{IsListed}
+use Rattle.be_noted.specs.Noted.{IsNoted}
 
 -- a survey of one pane is one of another that stands for the same slice
 pub survey_each : SurveyedForEach → (slice : Slice) (p q : Pane) (survey : Surveyed) → PaneIs slice p → PaneIs slice q → IsSurveyOf survey p → IsSurveyOf survey q
@@ -125,11 +127,18 @@ module _ (d : Declared) (parts : List (ℕ × Part)) (w : ℕ) (allowed : IsAllo
         ∙ ap (λ l. listed_views shows.tree (session_of shows.corner l)) none
         ∙ no_views shows.tree (preorder shows.tree)
 
-  pub begin_foretold : (views : Vec (ℕ × Rect)) → IsListed d parts w views.items → IsForetold d parts (who.Runner (by.Looper w)) (memo.Listed views)
-  begin_foretold views is e number all sound fits =
+  -- what is noted of the views
+  pub says_listed : (views : Bor (List (ℕ × Rect))) → IsListed d parts w views.now → SaysOfEach d parts (by.Looper w) (note.Listed views)
+  says_listed views is e number all sound fits =
       trace_is d parts (who.Runner (by.Looper w)) (want.Begins w) allowed e number all sound fits
       ∙ ap (λ b. if b then map (λ p. line_of p.0 p.1) (listing_of (state_of d all) w) else []) (is_same_number w)
       ∙ ap (map (λ p. line_of p.0 p.1)) (is all sound fits)
+
+  pub none_listed : IsListed d parts w [] → IsNoted d parts (who.Runner (by.Looper w)) []
+  none_listed is e number all sound fits =
+      no_text d (state_of d all) e (trace_is d parts (who.Runner (by.Looper w)) (want.Begins w) allowed e number all sound fits
+      ∙ ap (λ b. if b then map (λ p. line_of p.0 p.1) (listing_of (state_of d all) w) else []) (is_same_number w)
+      ∙ ap (map (λ p. line_of p.0 p.1)) (is all sound fits))
 
   -- a survey of the window's pane is one of the pane in hand
   pub survey_here : SurveyedForEach → (k : Kept) → part_at parts (place_of d (part.pane w)) ≡ Some (kinds.Pane k) → (p : Pane) → PaneIs k.slice p → (survey : Surveyed) → IsSurveyedIn d parts w (Some survey) → IsSurveyOf survey p

@@ -1,6 +1,6 @@
 -- All parts in hand, from the first place on.
 use Rattle.std.proofs.Common.{◌≡◌, ℕ, zero, suc, ◌+◌, ◌<◌, ◌≤◌, inl, inr, ⊎_elim, Bool, true, false, List, [], ◌∷◌, ◌++◌, map, length, All, refl, sym, ap, ◌∙◌, subst, arith}
-use Rattle.std.specs.Prelude.{Option, Some, ◌==◌, if◌then◌else◌}
+use Rattle.std.specs.Prelude.{Some, ◌==◌, if◌then◌else◌}
 use Rattle.std.proofs.lemmas.List.Elements.{All-head, All-tail}
 use mathlib.Core.Logic.{dite}
 use mathlib.Core.Option.{some, some-injective}
@@ -9,7 +9,6 @@ use lib.ListN.{get_elem?}
 use Rattle.be_hall.specs.Hands.{meant, numbered, part_at, places_of, up_from}
 use Rattle.be_hall.specs.Logs.{AllBefore, IsAbove, appended}
 use Rattle.be_hall.specs.Machine.{AllFit, Fits, HeldFit, IsHeld}
-use Rattle.be_machine.proofs.Lists.{other_number, same_number}
 use Rattle.be_serial.specs.Running.{EachBefore}
 use Rattle.be_steps.proofs.Making.{by_place_test}
 

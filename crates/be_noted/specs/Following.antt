@@ -4,7 +4,6 @@ use Rattle.be_hall.specs.Hands.{meant, places_of, up_from}
 use Rattle.be_hall.specs.Machine.{HeldFit}
 use Rattle.be_hall.specs.Numbers.{total}
 use Rattle.be_machine.specs.State.{State}
-use Rattle.be_machine.specs.Traces.{Trace}
 use Rattle.be_parts.specs.Parts.{log_of, meaning_of}
 use Rattle.be_parts.specs.declared.part.Part.{Part}
 use Rattle.be_rules.specs.Rules.{IsSound, SliceFits}
@@ -12,16 +11,6 @@ use Rattle.be_rules.specs.Shares.{share}
 use Rattle.be_rules.specs.Slices.{Slice, all_parts, state_of}
 use Rattle.be_script.specs.Script.{Declared}
 use Rattle.be_serial.specs.Running.{EachBefore}
-use Rattle.be_noted.specs.Memos.{IsKept}
-use Rattle.be_noted.specs.declared.memo.Memo.{Memo}
-
--- what is seen of who follows
-pub record Followed : Type 0 where
-  pub script : Declared
-  -- behind the entries that were followed
-  pub state : State
-  -- what was noted of the last of them
-  pub last : List Trace
 
 -- what all parts mean, by place
 abbrev pub now_of : List (ℕ × Part) → List Slice
@@ -39,9 +28,6 @@ pub record Follows (d : Declared) (parts : List (ℕ × Part)) (n : ℕ) : Type 
   -- the numbers of the entries that may still follow are none too great
   pub room : n + total (share d) (now_of parts) ≤ 4611686018427387904
   pub logs : EachBefore (n + 1) (meant log_of parts)
-
-abbrev pub IsFollowing : Declared → List (ℕ × Part) → ℕ → Memo → Type 0
-IsFollowing d parts n memo = Follows d parts n × IsKept parts memo
 
 -- the parts mean the same, and their logs are the same
 pub record SameHand (old new : List (ℕ × Part)) : Type 0 where

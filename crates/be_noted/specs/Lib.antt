@@ -1,3 +1,5 @@
-pub mod Memos
-pub mod Foretold
+pub mod Listed
 pub mod Following
+pub mod Noted
+pub mod Noting
+pub mod NotingLaws

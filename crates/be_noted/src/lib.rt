@@ -1,19 +1,21 @@
-//! What the runners of a script note, told by carrying a history out once more over the server's
-//! parts.
+//! A script's run in which whoever makes an entry keeps what it notes of it: the lines of its trace.
 //!
-//! Each entry is made by the rules of the script's run. What its maker notes is read in the parts
-//! before the entry or after it, and only the last is kept. An entry costs what it costs in a run,
-//! and what it notes: a message that is claimed is copied, a reply is made a second time, and an
-//! update looks at the pixels of its window once more, and copies them.
+//! The lines are text, known before the entry from the parts in hand and from what was made for the
+//! entry, and are kept by the part that keeps the entry. So a run leaves its traces beside its
+//! history, each runner's in one part, and nothing is carried out twice. A note costs its bytes.
 #![tactic(auto)]
 
+mod asking;
 mod claiming;
-mod follower;
-mod foreseeing;
 mod listing;
-mod making;
-mod memo;
+mod noting;
+mod opening;
+mod parts;
 mod replying;
 mod taking;
+mod text;
+mod turns;
+mod wanting;
 
-pub use follower::Follower;
+pub use noting::{NotedMeaning, Noting};
+pub use parts::NotedEntry;

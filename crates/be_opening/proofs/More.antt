@@ -6,16 +6,16 @@ use Rattle.std.proofs.lemmas.List.Elements.{All-push}
 use Rattle.std.proofs.lemmas.List.FromFn.{map-range_with_len_more}
 use Rattle.be_machine.specs.State.{opening_state}
 use Rattle.be_machine.specs.Touched as machine
-use Rattle.be_parts.specs.Parts.{log_of, meaning_of}
+use Rattle.be_parts.specs.Parts.{IsBlank, meaning_of}
 use Rattle.be_parts.specs.declared.part.Part.{Part}
 use Rattle.be_rules.specs.Slices.{Slice, slice_of, slices}
 use Rattle.be_script.specs.Script.{Declared}
 use Rattle.be_opening.specs.Opened.{HasMore}
 
 pub none_more : (d : Declared) (old : List Part) → HasMore d [] old old
-none_more d old = record { meant = sym (append-nil (map meaning_of old)); logs = λ none. none }
+none_more d old = record { meant = sym (append-nil (map meaning_of old)); blank = λ none. none }
 
-one_more : (d : Declared) (more : List machine.Part) (of : machine.Part) (old now : List Part) (part : Part) → HasMore d more old now → meaning_of part ≡ slice_of (opening_state d) of → log_of part ≡ [] → HasMore d (more ++ of ∷ []) old (now ++ part ∷ [])
+one_more : (d : Declared) (more : List machine.Part) (of : machine.Part) (old now : List Part) (part : Part) → HasMore d more old now → meaning_of part ≡ slice_of (opening_state d) of → IsBlank part → HasMore d (more ++ of ∷ []) old (now ++ part ∷ [])
 one_more d more of old now part has means empty = record {
   meant =
       map-append meaning_of now (part ∷ [])
@@ -23,11 +23,11 @@ one_more d more of old now part has means empty = record {
       ∙ append_assoc (map meaning_of old) (map (slice_of (opening_state d)) more) (meaning_of part ∷ [])
       ∙ ap (λ (x : Slice). map meaning_of old ++ (map (slice_of (opening_state d)) more ++ x ∷ [])) means
       ∙ ap (λ (l : List Slice). map meaning_of old ++ l) (sym (map-append (slice_of (opening_state d)) more (of ∷ [])));
-  logs = λ none. All-push (λ (p : Part). log_of p ≡ []) now part (has.logs none) empty;
+  blank = λ none. All-push IsBlank now part (has.blank none) empty;
 }
 
 -- one part more of a kind
-pub next_more : (d : Declared) (f : ℕ → machine.Part) (n : ℕ) (old now new : List Part) (part : Part) → HasMore d (map f (range_with_len 0 n)) old now → new ≡ now ++ part ∷ [] → meaning_of part ≡ slice_of (opening_state d) (f n) → log_of part ≡ [] → HasMore d (map f (range_with_len 0 (n + 1))) old new
+pub next_more : (d : Declared) (f : ℕ → machine.Part) (n : ℕ) (old now new : List Part) (part : Part) → HasMore d (map f (range_with_len 0 n)) old now → new ≡ now ++ part ∷ [] → meaning_of part ≡ slice_of (opening_state d) (f n) → IsBlank part → HasMore d (map f (range_with_len 0 (n + 1))) old new
 next_more d f n old now new part has added means empty =
     let same : 0 + n ≡ n = omega arith in
     let one = one_more d (map f (range_with_len 0 n)) (f n) old now part has means empty in
@@ -41,7 +41,7 @@ then_more d more then old now new first second = record {
       ∙ ap (λ (l : List Slice). l ++ map (slice_of (opening_state d)) then) first.meant
       ∙ append_assoc (map meaning_of old) (map (slice_of (opening_state d)) more) (map (slice_of (opening_state d)) then)
       ∙ ap (λ (l : List Slice). map meaning_of old ++ l) (sym (map-append (slice_of (opening_state d)) more then));
-  logs = λ none. second.logs (first.logs none);
+  blank = λ none. second.blank (first.blank none);
 }
 
 -- all kinds in the order of their places
@@ -78,11 +78,11 @@ two_mean d none first second p q empty pushed then_pushed desk input =
     ∙ ap (λ (x : Slice). x ∷ meaning_of q ∷ []) desk
     ∙ ap (λ (x : Slice). slice_of (opening_state d) machine.desk ∷ x ∷ []) input
 
-none_of_two : (p q : Part) → log_of p ≡ [] → log_of q ≡ [] → All (λ (x : Part). log_of x ≡ []) (p ∷ q ∷ [])
+none_of_two : (p q : Part) → IsBlank p → IsBlank q → All IsBlank (p ∷ q ∷ [])
 none_of_two p q first second =
-    let none : All (λ (x : Part). log_of x ≡ []) [] = λ k d less. absurd (omega arith) in
-    All-push (λ (x : Part). log_of x ≡ []) (p ∷ []) q (All-push (λ (x : Part). log_of x ≡ []) [] p none first) second
+    let none : All IsBlank [] = λ k d less. absurd (omega arith) in
+    All-push IsBlank (p ∷ []) q (All-push IsBlank [] p none first) second
 
-pub two_empty : (none first second : List Part) (p q : Part) → none ≡ [] → first ≡ none ++ p ∷ [] → second ≡ first ++ q ∷ [] → log_of p ≡ [] → log_of q ≡ [] → All (λ (x : Part). log_of x ≡ []) second
+pub two_empty : (none first second : List Part) (p q : Part) → none ≡ [] → first ≡ none ++ p ∷ [] → second ≡ first ++ q ∷ [] → IsBlank p → IsBlank q → All IsBlank second
 two_empty none first second p q empty pushed then_pushed desk input =
-    subst (λ (l : List Part). All (λ (x : Part). log_of x ≡ []) l) (sym (two_are none first second p q empty pushed then_pushed)) (none_of_two p q desk input)
+    subst (λ (l : List Part). All IsBlank l) (sym (two_are none first second p q empty pushed then_pushed)) (none_of_two p q desk input)

@@ -1,6 +1,6 @@
-ghost use Rattle.std.specs.Prelude.{◌≡◌, [], map, All, IfOk};
+ghost use Rattle.std.specs.Prelude.{◌≡◌, map, All, IfOk};
 ghost use Rattle.be_machine.specs.State.{opening_state};
-ghost use Rattle.be_parts.specs.Parts.{log_of, meaning_of};
+ghost use Rattle.be_parts.specs.Parts.{IsBlank, meaning_of};
 ghost use Rattle.be_rules.specs.Slices.{slices};
 ghost use Rattle.be_script.specs.Limits.{IsWithinLimits};
 ghost use Rattle.be_script.specs.Script.{declared_by};
@@ -19,7 +19,7 @@ pub fn opening(alloc: Global, script: &Script) -> Result<Vec<Part>, NoMemory>
     requires { IsWithinLimits (declared_by script.now) }
     ensures meant { IfOk result (λ parts. map meaning_of parts.items
         ≡ slices (declared_by script.now) (opening_state (declared_by script.now))) }
-    ensures logs { IfOk result (λ parts. All (λ part. log_of part ≡ []) parts.items) }
+    ensures blank { IfOk result (λ parts. All IsBlank parts.items) }
 {
     let places = 2 + script.apps.len() + 4 * script.windows.len();
     let mut parts = Vec::with_capacity(alloc, places)?;

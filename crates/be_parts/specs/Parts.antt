@@ -1,6 +1,6 @@
 -- What a part means, and the entries that it keeps. No activity keeps its entries in the desk, in a
 -- port or in a link.
-use Rattle.std.specs.Prelude.{ℕ, List, [], Option, Some, None}
+use Rattle.std.specs.Prelude.{◌≡◌, ℕ, List, [], Option, Some, None}
 use Rattle.std.specs.Option.{option_map_or}
 use Rattle.be_hall.specs.Hands.{Hand, with_part}
 use Rattle.be_machine.specs.declared.Entry.{Entry}
@@ -32,6 +32,14 @@ log_of part = option_map_or (λ log. log.pairs) (logged_of part) []
 
 abbrev pub spare_of : Part → ℕ
 spare_of part = option_map_or (λ log. log.spare) (logged_of part) 0
+
+-- what was noted of the entries
+abbrev pub notes_of : Part → List ℕ
+notes_of part = option_map_or (λ log. log.notes) (logged_of part) []
+
+-- nothing is kept there
+abbrev pub IsBlank : Part → Type 0
+IsBlank part = (log_of part ≡ []) × (notes_of part ≡ [])
 
 -- with another log, where there is one
 abbrev pub with_log : Part → Logged → Part

@@ -1,5 +1,6 @@
 ghost use Rattle.std.specs.Prelude.{◌≡◌, [], Some, false, option_map};
 ghost use Rattle.be_machine.specs.State.{opening_app};
+ghost use Rattle.be_parts.specs.Kept.{IsUnwritten};
 ghost use Rattle.be_parts.specs.Cells.{is_waiting, reply_there};
 ghost use Rattle.be_parts.specs.Effects.{app_at, app_told};
 ghost use Rattle.be_reply.specs.Cells.{claimed, waiting, with_reply};
@@ -43,7 +44,7 @@ impl CellPart {
     /// At its first instruction, waiting for nothing.
     pub fn new(alloc: Global, app: u16) -> CellPart
         ensures slice { result.slice ≡ cell app (Some opening_app) }
-        ensures log { result.log.pairs ≡ [] }
+        ensures log { IsUnwritten result.log }
     {
         CellPart {
             app,

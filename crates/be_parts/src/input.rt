@@ -1,4 +1,5 @@
 ghost use Rattle.std.specs.Prelude.{◌≡◌, ◌-◌, ◌^◌, ◌<◌, [], Some, false, option_map, IfSome};
+ghost use Rattle.be_parts.specs.Kept.{IsUnwritten};
 ghost use Rattle.be_parts.specs.Effects.{input_stopped, input_used};
 ghost use Rattle.be_rules.specs.Slices.{input, input_in};
 
@@ -32,7 +33,7 @@ impl InputPart {
     /// No event was used.
     pub fn new(alloc: Global) -> InputPart
         ensures slice { result.slice ≡ input 0 false }
-        ensures log { result.log.pairs ≡ [] }
+        ensures log { IsUnwritten result.log }
     {
         InputPart {
             used: 0,

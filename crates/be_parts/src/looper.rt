@@ -7,6 +7,7 @@ ghost use Rattle.be_looper.specs.Loopers.{replied};
 ghost use Rattle.be_machine.specs.Looper.{with_duty_by};
 ghost use Rattle.be_machine.specs.State.{ending, free, in_update, locked};
 ghost use Rattle.be_machine.specs.Update.{at_stage};
+ghost use Rattle.be_parts.specs.Kept.{IsUnwritten};
 ghost use Rattle.be_parts.specs.Effects.{buffer_with, looper_with};
 ghost use Rattle.be_parts.specs.Loopers.{at_place, begun_with, buffer_of, duty_in, hand_of, oldest_of, owner_of, stage_in};
 ghost use Rattle.be_parts.specs.Holding.{HasFewViews};
@@ -71,7 +72,7 @@ impl LooperPart {
     pub fn new(alloc: Global, window: u16) -> Result<LooperPart, NoMemory>
         ensures slice { IfOk result (λ part. part.slice
             ≡ looper window (Some free) (Some empty_buffer)) }
-        ensures log { IfOk result (λ part. part.log.pairs ≡ []) }
+        ensures log { IfOk result (λ part. IsUnwritten part.log) }
     {
         Ok(LooperPart {
             window,

@@ -1,5 +1,6 @@
 ghost use Rattle.std.specs.Prelude.{◌≡◌, []};
 ghost use Rattle.be_command.specs.Effects.{effect_of};
+ghost use Rattle.be_parts.specs.Kept.{IsUnwritten};
 ghost use Rattle.be_parts.specs.Begun.{IsBegun, IsPassed};
 ghost use Rattle.be_parts.specs.Changed.{HasSpansOf, IsAsBefore};
 ghost use Rattle.be_parts.specs.Panes.{HasNotified, IsExecuted};
@@ -51,7 +52,7 @@ impl PanePart {
     pub fn new(alloc: Global, kept: Pane, means: Told<Meaning>) -> PanePart
         requires { PaneIs means.value kept }
         ensures slice { result.slice ≡ means.value }
-        ensures log { result.log.pairs ≡ [] }
+        ensures log { IsUnwritten result.log }
     {
         PanePart {
             pane: kept,

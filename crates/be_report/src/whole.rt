@@ -1,11 +1,11 @@
 ghost use Rattle.std.specs.Prelude.{◌≡◌, ◌≤◌, OnOk, OnErr, IfOk};
 ghost use Rattle.be_machine.specs.History.{IsLegalHistory, state_after};
-ghost use Rattle.be_machine.specs.State.{opening_state};
 ghost use Rattle.be_outside.specs.Faults.{FaultsRose};
 ghost use Rattle.be_outside.specs.Telling.{with_end, TakesPrefix};
 ghost use Rattle.be_report.specs.Report.{report_of};
 ghost use Rattle.be_script.specs.Limits.{IsWithinLimits};
 ghost use Rattle.be_script.specs.Script.{declared_by};
+ghost use Rattle.be_written.specs.Notings.{AreTold};
 
 use crate::puts::put_lines;
 use be_geom::NoMemory;
@@ -27,19 +27,18 @@ pub enum ReportFault {
 
 /// Writes the report of a history, each line by one `put`: its entries, what the runners noted of
 /// them, and the screen that they leave. Its text is made before the first put, in a time that is
-/// linear in its bytes and what the notes and the runs of the screen take.
+/// linear in its bytes and what telling the notes and the runs of the screen takes.
 pub fn report<N: Notes, S: Screen, K: Sink>(
     alloc: Global,
     script: &Script,
     history: &[Entry],
-    notes: &mut N,
+    notes: &N,
     screen: &S,
     sink: &mut K,
 ) -> Result<(), ReportFault>
     requires limits { IsWithinLimits (declared_by script.now) }
     requires legal { IsLegalHistory (declared_by script.now) history.now }
-    requires script { N.script notes.old ≡ declared_by script.now }
-    requires opening { N.state notes.old ≡ opening_state (declared_by script.now) }
+    requires told { AreTold (declared_by script.now) history.now (N.told notes.now) }
     requires across { S.across screen.now ≡ (declared_by script.now).width }
     requires down { S.down screen.now ≡ (declared_by script.now).height }
     requires cells { S.cells screen.now
@@ -63,13 +62,12 @@ fn text<N: Notes, S: Screen>(
     alloc: Global,
     script: &Script,
     history: &[Entry],
-    notes: &mut N,
+    notes: &N,
     screen: &S,
 ) -> Result<Page, NoMemory>
     requires limits { IsWithinLimits (declared_by script.now) }
     requires legal { IsLegalHistory (declared_by script.now) history.now }
-    requires script { N.script notes.old ≡ declared_by script.now }
-    requires opening { N.state notes.old ≡ opening_state (declared_by script.now) }
+    requires told { AreTold (declared_by script.now) history.now (N.told notes.now) }
     requires across { S.across screen.now ≡ (declared_by script.now).width }
     requires down { S.down screen.now ≡ (declared_by script.now).height }
     requires cells { S.cells screen.now
@@ -78,7 +76,7 @@ fn text<N: Notes, S: Screen>(
 {
     let mut page = Page::new(alloc);
     write_history(&mut page, script, history)?;
-    write_traces(alloc, &mut page, script, history, notes)?;
+    write_traces(&mut page, script, notes)?;
     write_screen(&mut page, screen)?;
     page.text(b"end")?;
     page.end_line()?;

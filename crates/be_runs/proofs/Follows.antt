@@ -1,10 +1,11 @@
 -- The entries of a run over slices are a history of the machine, and what is left of the parts is
 -- cut from the state after it.
-use Rattle.std.proofs.Common.{◌≡◌, List, [], ◌∷◌, true, refl, ap, subst, ◌∙◌}
+use Rattle.std.proofs.Common.{◌≡◌, List, [], ◌∷◌, true, refl, sym, ap, subst, ◌∙◌}
 use Rattle.be_hall.specs.Machine.{Legal, leads}
 use Rattle.be_machine.proofs.Histories.{state_more}
 use Rattle.be_machine.proofs.ProgressFinished.{ends_finished}
 use Rattle.be_machine.specs.History.{AreLegalFrom, IsFinished, state_after, state_from}
+use Rattle.be_machine.specs.Legal.{IsLegal}
 use Rattle.be_machine.specs.Orderly.{EndsInStop}
 use Rattle.be_machine.specs.State.{opening_state}
 use Rattle.be_machine.specs.Step.{step}
@@ -13,7 +14,7 @@ use Rattle.be_machine.specs.declared.Act.TheVariants.{Post, Take, Note, Reply, C
 use Rattle.be_machine.specs.declared.Act.TheVariants.{Unlock, Draw, Flush, SyncDone, Exec}
 use Rattle.be_machine.specs.declared.Act.TheVariants.{Notify, Begin, Event, End, Stop}
 use Rattle.be_machine.specs.declared.Entry.{Entry}
-use Rattle.be_rules.proofs.Lawfully.{legal_there, sound_after, state}
+use Rattle.be_rules.proofs.Lawfully.{back, legal_there, sound_after, state}
 use Rattle.be_rules.specs.Rules.{IsSound, world_machine}
 use Rattle.be_rules.specs.Slices.{Slice, slices, state_of}
 use Rattle.be_script.specs.Limits.{IsWithinLimits}
@@ -42,6 +43,19 @@ module _ (d : Declared) where
     subst (λ s. AreLegalFrom d s es) (state_next all sound e legal.0)
         (legal_from es (after all e) (sound_after d all sound e legal.0) legal.1),
   )
+
+  -- a history of the machine is one over slices
+  pub legal_to : (h : List Entry) (all : List Slice) (sound : IsSound d all)
+      → AreLegalFrom d (state d all sound) h → Legal (world_machine d) all h
+  unfolding AreLegalFrom
+  legal_to [] all sound legal = tt
+  legal_to (e ∷ es) all sound legal =
+      let first : (world_machine d).permits all e =
+      subst (λ s. IsLegal d s e) (sym (back d all sound)) legal.0 in (
+        first,
+        legal_to es (after all e) (sound_after d all sound e first)
+            (subst (λ s. AreLegalFrom d s es) (sym (state_next all sound e first)) legal.1),
+      )
 
   pub leads_to : (h : List Entry) (all : List Slice) (sound : IsSound d all)
       → Legal (world_machine d) all h

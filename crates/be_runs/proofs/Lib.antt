@@ -1,3 +1,4 @@
 mod Listed
 pub mod Follows
 mod Scheduling
+pub mod Left

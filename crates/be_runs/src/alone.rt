@@ -4,6 +4,7 @@ ghost use Rattle.be_runs.specs.Runs.{Leaves};
 
 use crate::finished::Finished;
 use be_geom::NoMemory;
+use be_noted::Noting;
 use be_serial::run_serial;
 use be_world::World;
 use std::alloc::Global;
@@ -17,10 +18,11 @@ pub fn run_alone(alloc: Global, world: World, seed: u32) -> Result<Finished, NoM
     ensures leaves { IfOk result (Leaves world) }
     ensures scheduled { IfOk result (λ run. IsScheduled world seed run.history.items) }
 {
-    let parts = world.opening()?;
-    let ran = run_serial(alloc, world, parts, MOST_ENTRIES, seed)?;
+    let noting = Noting::new(world);
+    let parts = noting.opening()?;
+    let ran = run_serial(alloc, noting, parts, MOST_ENTRIES, seed)?;
     Ok(Finished {
-        world: ran.rules,
+        world: ran.rules.into_world(),
         history: ran.history,
         parts: ran.parts,
     })

@@ -4,3 +4,4 @@ pub mod Rows
 pub mod Told
 pub mod After
 pub mod DesktopLemmas
+pub mod TraceLemmas

@@ -1,5 +1,6 @@
-//! The screen of a run, told from its parts: each pixel shows what the pane of its window has, and
-//! where there is no window the desktop, whose pixels are counted too.
+//! The screen and the traces of a run, told from its parts. Each pixel shows what the pane of its
+//! window has, and where there is no window the desktop, whose pixels are counted too. A runner's
+//! trace is what was noted in the part that keeps its entries.
 //!
 //! Cells are told by runs of spans. A call asks each pane once, by bisection, how many pixels of the
 //! row it has none of, up to the pane that has the first. No pixel is looked at, and no cell copied.
@@ -10,6 +11,8 @@ mod desktop;
 mod looks;
 mod shown;
 mod stretch;
+mod traces;
 
 pub use desktop::desktop_pixels;
 pub use shown::Shown;
+pub use traces::Traces;

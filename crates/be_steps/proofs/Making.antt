@@ -32,7 +32,7 @@ use Rattle.be_machine.specs.Touched as part
 use Rattle.be_machine.specs.Wants as wants
 use Rattle.be_machine.specs.Wants.{want_of}
 use Rattle.be_parts.specs.Kept.{Logged}
-use Rattle.be_parts.specs.Parts.{log_of, logged_of, meaning_of, spare_of}
+use Rattle.be_parts.specs.Parts.{log_of, logged_of, meaning_of, notes_of, spare_of}
 use Rattle.be_parts.specs.declared.part.Part.{Part}
 use Rattle.be_rules.proofs.Keepers.{own_of, kept_there, kept_touched}
 use Rattle.be_rules.proofs.Known.{leaves_at}
@@ -252,6 +252,7 @@ module _ (d : Declared) (inhand : List (ℕ × Part)) (who : Activity) (want : W
         (λ p h. everywhere e number other sound' (subst (λ l. Fits other (meant meaning_of l)) is fits') p h) fitted;
     logs = made_logs (λ o. option_map_or (λ (log : Logged). log.pairs) o []) d changes inhand new.parts made ∙ ap (meant log_of) (sym is);
     spare = made_logs (λ o. option_map_or (λ (log : Logged). log.spare) o 0) d changes inhand new.parts made ∙ ap (meant spare_of) (sym is);
+    notes = made_logs (λ o. option_map_or (λ (log : Logged). log.notes) o []) d changes inhand new.parts made ∙ ap (meant notes_of) (sym is);
   }
     where
       places : places_of new.parts ≡ places_of inhand

@@ -10,7 +10,7 @@ use Rattle.be_machine.specs.Activities.{activity_of}
 use Rattle.be_machine.specs.declared.Act.{Act}
 use Rattle.be_machine.specs.declared.Entry.{Entry}
 use Rattle.be_machine.specs.Step.{step}
-use Rattle.be_parts.specs.Parts.{log_of, meaning_of, spare_of}
+use Rattle.be_parts.specs.Parts.{log_of, meaning_of, notes_of, spare_of}
 use Rattle.be_parts.specs.declared.part.Part.{Part}
 use Rattle.be_rules.specs.Rules.{IsSound, world_machine}
 use Rattle.be_rules.specs.Slices.{Slice, slices, state_of}
@@ -29,7 +29,8 @@ pub record IsAllowed
 
 -- Whatever the other parts are, an entry of the activity leaves the parts in hand with the new
 -- meanings. That is said of each entry of the activity, whatever its act, since a step goes by who
--- makes it: the act is what the history keeps of it. Room, places, logs and their spare room stay.
+-- makes it: the act is what the history keeps of it. Room, places, logs with
+-- their spare room, and notes stay.
 pub record IsDone (d : Declared) (who : Activity) (old new : Hand Part) : Type 0 where
   pub room : new.room ≡ old.room
   pub places : places_of new.parts ≡ places_of old.parts
@@ -39,6 +40,7 @@ pub record IsDone (d : Declared) (who : Activity) (old new : Hand Part) : Type 0
       → Fits (slices d (step d (state_of d all) e)) (meant meaning_of new.parts)
   pub logs : meant log_of new.parts ≡ meant log_of old.parts
   pub spare : meant spare_of new.parts ≡ meant spare_of old.parts
+  pub notes : meant notes_of new.parts ≡ meant notes_of old.parts
 
 -- what the part at this place means after an entry of the activity, whatever the others are
 abbrev pub LeavesAt : Declared → List (ℕ × Part) → Activity → ℕ → Slice → Type 0

@@ -30,6 +30,8 @@ use Rattle.be_message.proofs.message.Message.TheLaws.TheKnot as message
 use Rattle.be_message.proofs.kind.Kind.TheSendSync as kind
 use Rattle.be_message.proofs.target.Target.TheSendSync as target
 use Rattle.be_message.proofs.text.Text.TheSendSync as text
+use Rattle.be_noted.specs.contracts.noting.Noting as noting
+use Rattle.be_noted.specs.contracts.noting.Noting.TheInside as noting_within
 use Rattle.be_pane.proofs.pane.Pane.TheSendSync as pane
 use Rattle.be_parts.proofs.desk.DeskPart.TheSendSync as desk_part
 use Rattle.be_parts.proofs.input.InputPart.TheSendSync as input_part
@@ -180,5 +182,12 @@ world_inside =
       ),
     )
 
-pub world_sync : IsSync world.the_row
+world_sync : IsSync world.the_row
 world_sync = search (sendable, world_inside)
+
+noting_inside : IsSync noting_within.the_row
+noting_inside =
+    declared_sync noting_within.the_type (search (sendable, world_sync) depth 10, tt)
+
+pub noting_sync : IsSync noting.the_row
+noting_sync = search (sendable, noting_inside)

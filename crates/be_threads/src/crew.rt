@@ -1,16 +1,15 @@
 //! All workers at once.
 ghost use Rattle.std.specs.Prelude.{◌<◌, All};
 ghost use Rattle.be_machine.specs.Activities.{activities};
-ghost use Rattle.be_parts.specs.Parts.{meaning_of};
-ghost use Rattle.be_rules.specs.Rules.{world_machine};
+ghost use Rattle.be_noted.specs.Noting.{noted_of, noting_machine};
 ghost use Rattle.be_workers.specs.Workers.{AreWorkers, IsDone};
 ghost use Rattle.be_world.specs.Turns.{is_last, is_own};
 
 use be_bells::Bells;
 use be_hall::Hall;
+use be_noted::Noting;
 use be_outside::Gate;
 use be_workers::{Worker, work};
-use be_world::World;
 use std::sync::Wait;
 use std::thread;
 use std::thread::Threads;
@@ -19,22 +18,22 @@ use std::thread::Threads;
 pub(crate) fn work_all<R: Threads + Wait + Sync, G: Gate + Sync>(
     rt: &R,
     gate: &G,
-    hall: &Hall<World>,
+    hall: &Hall<Noting>,
     bells: &Bells,
-    workers: &mut [Worker<World>],
+    workers: &mut [Worker<Noting>],
     threads: usize,
 )
     requires threads { 0 < threads }
-    requires workers { AreWorkers (λ it. world_machine it) (λ part. meaning_of part)
+    requires workers { AreWorkers (λ it. noting_machine it) (λ part. noted_of part)
         (λ it activity place. is_own it activity place) (λ it. activities it)
         hall.now workers.old }
-    ensures { All (IsDone (λ part. meaning_of part) (λ entry. is_last entry.act) hall.now)
+    ensures { All (IsDone (λ part. noted_of part) (λ entry. is_last entry.act) hall.now)
         workers.new }
 {
     thread::for_each_mut(
         rt,
         workers,
         threads,
-        &|_, worker: &mut Worker<World>| { work(rt, gate, hall, bells, worker) },
+        &|_, worker: &mut Worker<Noting>| { work(rt, gate, hall, bells, worker) },
     );
 }

@@ -1,17 +1,12 @@
 //! A run of a script.
-ghost use Rattle.std.specs.Prelude.{◌≡◌, ◌<◌, IfOk, map};
-ghost use Rattle.be_machine.specs.State.{opening_state};
-ghost use Rattle.be_parts.specs.Parts.{meaning_of};
-ghost use Rattle.be_rules.specs.Rules.{world_machine};
-ghost use Rattle.be_rules.specs.Slices.{slices};
+ghost use Rattle.std.specs.Prelude.{◌<◌, IfOk};
 ghost use Rattle.be_runs.specs.Runs.{Leaves};
-ghost use Rattle.be_turns.specs.Turning.{IsFinished};
-ghost use Rattle.be_world.specs.Turns.{is_last};
 
 use crate::crew::work_all;
 use be_bells::Bells;
 use be_geom::NoMemory;
 use be_hall::{Hall, Parts};
+use be_noted::Noting;
 use be_outside::Gate;
 use be_runs::Finished;
 use be_turns::Turns;
@@ -59,16 +54,17 @@ fn run<R: Threads + Wait + Sync, G: Gate + Sync>(
     requires { 0 < threads }
     ensures { IfOk result (Leaves world) }
 {
-    let places = world.places();
-    let activities = world.activities();
-    let parts = world.opening()?;
-    let (hall, mut pass) = Hall::open(alloc, world, parts, 1 << 62)?;
+    let noting = Noting::new(world);
+    let places = noting.places();
+    let activities = noting.activities();
+    let parts = noting.opening()?;
+    let (hall, mut pass) = Hall::open(alloc, noting, parts, 1 << 62)?;
     let mut workers = hire(alloc, &hall, &mut pass)?;
     let bells = Bells::new(alloc, activities, places)?;
     work_all(rt, gate, &hall, &bells, workers.as_mut_slice(), threads);
     let closed = finish(rt, alloc, hall, pass, workers)?;
     Ok(Finished {
-        world: closed.rules,
+        world: closed.rules.into_world(),
         history: closed.history,
         parts: closed.parts,
     })

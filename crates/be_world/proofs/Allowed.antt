@@ -129,4 +129,5 @@ module _ (d : Declared) (parts : List (ℕ × Part)) (it : Activity) (asks : Wan
         (number ∙ ap (λ (x : machine.Activity). Some x) same_maker) all sound fits;
     logs = done.logs;
     spare = done.spare;
+    notes = done.notes;
   }

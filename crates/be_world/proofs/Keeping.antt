@@ -17,9 +17,10 @@ use Rattle.be_machine.specs.State.{State}
 use Rattle.be_machine.specs.Wants.{want_of}
 use Rattle.be_machine.specs.declared.Entry.{Entry}
 use Rattle.be_machine.proofs.Histories.{in_range}
+use Rattle.be_noting.specs.Noting.{noted_in}
 use Rattle.be_parts.specs.Kinds.{Kind, kind_of, stored_as, of_desk, of_input, of_cell, of_looper}
 use Rattle.be_parts.specs.Kinds.{of_port, of_link, of_pane}
-use Rattle.be_parts.specs.Parts.{log_of, logged_of, meaning_of, spare_of}
+use Rattle.be_parts.specs.Parts.{log_of, logged_of, meaning_of, notes_of, spare_of}
 use Rattle.be_parts.specs.declared.part.Part.{Part}
 use Rattle.be_parts.specs.declared.part.Part.TheVariants as kinds
 use Rattle.be_rules.proofs.Keepers.{kept_there, own_of}
@@ -29,6 +30,7 @@ use Rattle.be_rules.specs.Rules.{kept_at, world_machine}
 use Rattle.be_rules.specs.Slices.{slice_of}
 use Rattle.be_script.specs.Script.{Declared}
 use Rattle.be_world.specs.Entering.{HasEntered, HasOtherRoom, KeepsEntries, TakesEntry}
+use Rattle.be_world.proofs.NotesWith.{notes_with}
 use Rattle.be_world.proofs.Places.{kept_is}
 
 -- an activity that isn't there has no legal entry
@@ -94,6 +96,10 @@ module _ (place : ℕ) (old new : List (ℕ × Part)) (other : HasOtherRoom plac
   means_same = ap (meant meaning_of) other.after_is
       ∙ meant_with meaning_of old place other.was other.is other.before other.means
 
+  pub notes_same : meant notes_of new ≡ meant notes_of old
+  notes_same = ap (meant notes_of) other.after_is
+      ∙ meant_with notes_of old place other.was other.is other.before other.notes
+
   pub logs_same : meant log_of new ≡ meant log_of old
   logs_same = ap (meant log_of) other.after_is
       ∙ meant_with log_of old place other.was other.is other.before other.log
@@ -115,8 +121,8 @@ takes_entry parts place rises spare =
 
 -- ---- an entry
 
-module _ (place n : ℕ) (e : Entry) (old new : List (ℕ × Part))
-    (entered : HasEntered place n e old new) where
+module _ (place n : ℕ) (e : Entry) (note : List ℕ) (old new : List (ℕ × Part))
+    (entered : HasEntered place n e note old new) where
   pub entered_means : meant meaning_of new ≡ meant meaning_of old
   entered_means = ap (meant meaning_of) entered.after_is
       ∙ meant_with meaning_of old place entered.was entered.is entered.before entered.means
@@ -128,3 +134,9 @@ module _ (place n : ℕ) (e : Entry) (old new : List (ℕ × Part))
       → meant log_of new ≡ appended place (n, e) (meant log_of old)
   entered_logs rises = ap (meant log_of) entered.after_is
       ∙ logs_with log_of 0 old place entered.was entered.is (n, e) rises entered.before entered.log
+
+  pub entered_notes : rises_from 0 (places_of old) ≡ true
+      → meant notes_of new ≡ noted_in place note (meant notes_of old)
+  entered_notes rises = ap (meant notes_of) entered.after_is
+      ∙ notes_with notes_of 0 old place entered.was entered.is note rises entered.before
+      entered.notes

@@ -12,3 +12,4 @@ mod Marked
 mod Marking
 mod Stirred
 mod Untouched
+mod NotesWith

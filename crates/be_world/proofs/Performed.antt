@@ -11,6 +11,7 @@ use Rattle.be_hall.specs.Machine.{Fits, HeldFit}
 use Rattle.be_machine.specs.Activities.{activity_of}
 use Rattle.be_machine.specs.Step.{step}
 use Rattle.be_machine.specs.declared.Entry.{Entry}
+use Rattle.be_noting.specs.Noting.{noted_in}
 use Rattle.be_parts.specs.Parts.{meaning_of, spare_of}
 use Rattle.be_parts.specs.declared.part.Part.{Part}
 use Rattle.be_rules.proofs.Known.{held_fits}
@@ -23,7 +24,8 @@ use Rattle.be_world.specs.Entering.{HasEntered, TakesEntry}
 use Rattle.be_world.specs.Performing.{HasPerformed, MayPerform}
 use Rattle.be_world.specs.Suits.{MayStep}
 use Rattle.be_world.specs.declared.work.Work.{Work}
-use Rattle.be_world.proofs.Keeping.{entered_logs, entered_means, entered_places, takes_entry}
+use Rattle.be_world.proofs.Keeping.{entered_logs, entered_means, entered_notes, entered_places}
+use Rattle.be_world.proofs.Keeping.{takes_entry}
 
 same_places : (parts : List (ℕ × Part)) → map (λ x. x.0) (meant meaning_of parts) ≡ places_of parts
 same_places [] = refl
@@ -60,16 +62,16 @@ module _ (d : Declared) (e : Entry) (made : Work) (n : ℕ) (old : Hand Part)
         (subst (λ (p : ℕ). HasSpare p (meant spare_of old.parts)) (sym kept_here) may.spare))
 
     module _ (new : Hand Part) (room : new.room ≡ mid.room)
-        (entered : HasEntered place n e mid.parts new.parts) where
+        (note : List ℕ) (entered : HasEntered place n e note mid.parts new.parts) where
       after : (all : List Slice) → IsSound d all → Fits all (meant meaning_of old.parts)
           → Fits (slices d (step d (state_of d all) e)) (meant meaning_of new.parts)
       after all sound fits =
           subst (λ h. Fits (slices d (step d (state_of d all) e)) h)
-          (sym (entered_means place n e mid.parts new.parts entered))
+          (sym (entered_means place n e note mid.parts new.parts entered))
           (done.after e number all sound fits)
 
       places : places_of new.parts ≡ places_of old.parts
-      places = entered_places place n e mid.parts new.parts entered ∙ done.places
+      places = entered_places place n e note mid.parts new.parts entered ∙ done.places
 
       next : IsNext d (meant meaning_of old.parts) e (meant meaning_of new.parts)
       next = (same_places new.parts ∙ places ∙ sym (same_places old.parts), after)
@@ -81,13 +83,16 @@ module _ (d : Declared) (e : Entry) (made : Work) (n : ℕ) (old : Hand Part)
           (held_fits d (n - 1) e (meant meaning_of old.parts) (meant meaning_of new.parts)
           may.fitting.0 may.fitting.1 may.fitting.2 may.ready next may.fits)
 
-      pub performed : HasPerformed d e n old new
+      pub performed : HasPerformed d e note n old new
       performed = record {
         room = room ∙ done.room;
         places = places;
         after = after;
         fits = fits;
         logs =
-            entered_logs place n e mid.parts new.parts entered rises_still
+            entered_logs place n e note mid.parts new.parts entered rises_still
             ∙ (λ i. appended (kept_here i) (n, e) (done.logs i));
+        notes =
+            entered_notes place n e note mid.parts new.parts entered rises_still
+            ∙ (λ i. noted_in (kept_here i) note (done.notes i));
       }

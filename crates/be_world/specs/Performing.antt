@@ -7,13 +7,15 @@ use Rattle.be_hall.specs.Machine.{Fits, HeldFit, IsReady, SomeFits}
 use Rattle.be_machine.specs.Activities.{activity_of}
 use Rattle.be_machine.specs.Step.{step}
 use Rattle.be_machine.specs.declared.Entry.{Entry}
-use Rattle.be_parts.specs.Parts.{log_of, meaning_of, spare_of}
+use Rattle.be_noting.specs.Noting.{noted_in}
+use Rattle.be_parts.specs.Parts.{log_of, meaning_of, notes_of, spare_of}
 use Rattle.be_parts.specs.declared.part.Part.{Part}
 use Rattle.be_rules.specs.Rules.{IsSound, SliceFits, kept_at, world_machine}
 use Rattle.be_rules.specs.Slices.{Slice, slices, state_of}
 use Rattle.be_script.specs.Limits.{IsWithinLimits}
 use Rattle.be_script.specs.Script.{Declared}
 use Rattle.be_world.specs.Suits.{IsPrepared}
+use Rattle.be_world.specs.declared.preparing.ReadyEntry.{ReadyEntry}
 use Rattle.be_world.specs.declared.work.Work.{Work}
 
 -- the entry is legal and touches these parts alone, this was made for it, it is number n of its
@@ -30,8 +32,10 @@ pub record MayPerform
   pub spare : HasSpare (kept_at d (activity_of d e.actor)) (meant spare_of parts)
 
 -- whatever the other parts are, those in hand mean what the entry leaves, and its activity's log
--- has it
-pub record HasPerformed (d : Declared) (e : Entry) (n : ℕ) (old new : Hand Part) : Type 0 where
+-- has it, with this note
+pub record HasPerformed
+    (d : Declared) (e : Entry) (note : List ℕ) (n : ℕ) (old new : Hand Part)
+    : Type 0 where
   pub room : new.room ≡ old.room
   pub places : places_of new.parts ≡ places_of old.parts
   pub after :
@@ -41,3 +45,10 @@ pub record HasPerformed (d : Declared) (e : Entry) (n : ℕ) (old new : Hand Par
   pub logs :
       meant log_of new.parts
       ≡ appended (kept_at d (activity_of d e.actor)) (n, e) (meant log_of old.parts)
+  pub notes :
+      meant notes_of new.parts
+      ≡ noted_in (kept_at d (activity_of d e.actor)) note (meant notes_of old.parts)
+
+-- the same of an entry that was made ready
+abbrev pub MayMake : Declared → List (ℕ × Part) → ReadyEntry → ℕ → Type 0
+MayMake d parts ready n = MayPerform d parts ready.entry ready.made n

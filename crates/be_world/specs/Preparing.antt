@@ -11,9 +11,13 @@ use Rattle.be_rules.specs.Slices.{Slice}
 use Rattle.be_script.specs.Script.{Declared}
 use Rattle.be_world.specs.Suits.{IsPrepared}
 use Rattle.be_world.specs.declared.preparing.ReadyEntry.{ReadyEntry}
+use Rattle.be_world.specs.declared.work.Work.{Work}
 
 abbrev pub entry_in : ReadyEntry → Entry
 entry_in ready = ready.entry
+
+abbrev pub work_in : ReadyEntry → Work
+work_in ready = ready.made
 
 -- what the parts meant from which it was seen that the entry may be made
 abbrev pub seen_in : ReadyEntry → List (ℕ × Slice)

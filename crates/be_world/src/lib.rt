@@ -29,4 +29,5 @@ mod work;
 mod world;
 
 pub use preparing::ReadyEntry;
+pub use work::Work;
 pub use world::World;

@@ -1,5 +1,6 @@
 //! The log of a part in hand.
 ghost use Rattle.std.specs.Prelude.{◌≡◌, IfOk};
+ghost use Rattle.be_parts.specs.Kept.{note_in};
 ghost use Rattle.be_world.specs.Entering.{HasEntered, HasOtherRoom, KeepsEntries, TakesEntry};
 
 use be_geom::NoMemory;
@@ -17,11 +18,18 @@ pub(crate) fn make_room_at(held: &mut Held<Part>, place: u32) -> Result<(), NoMe
     held.get_mut(place).unwrap().make_room()
 }
 
-/// The part at this place keeps the entry.
-pub(crate) fn enter_at(held: &mut Held<Part>, place: u32, number: u64, entry: Entry)
+/// The part at this place keeps the entry, with what its maker noted of it.
+pub(crate) fn enter_at(
+    held: &mut Held<Part>,
+    place: u32,
+    number: u64,
+    entry: Entry,
+    note: Option<Vec<u8>>,
+)
     requires { TakesEntry held.old.parts place }
     ensures room { held.new.room ≡ held.old.room }
-    ensures entered { HasEntered place number entry held.old.parts held.new.parts }
+    ensures entered { HasEntered place number entry (note_in note) held.old.parts
+        held.new.parts }
 {
-    held.get_mut(place).unwrap().enter(number, entry);
+    held.get_mut(place).unwrap().enter(number, entry, note);
 }

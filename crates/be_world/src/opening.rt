@@ -4,7 +4,7 @@ ghost use Rattle.std.specs.Prelude.{vec_len};
 ghost use Rattle.be_hall.specs.Machine.{AllFit};
 ghost use Rattle.be_hall.specs.Numbers.{total};
 ghost use Rattle.be_machine.specs.State.{opening_state};
-ghost use Rattle.be_parts.specs.Parts.{log_of, meaning_of};
+ghost use Rattle.be_parts.specs.Parts.{log_of, meaning_of, notes_of};
 ghost use Rattle.be_rules.specs.Rules.{IsSound, SliceFits};
 ghost use Rattle.be_rules.specs.Shares.{share};
 ghost use Rattle.be_rules.specs.Slices.{slices};
@@ -33,6 +33,7 @@ impl World {
             (λ parts. total (share self.now) (map meaning_of parts.items) ≤ work_of self.now) }
         ensures fits { IfOk result (λ parts. AllFit SliceFits 0 (map meaning_of parts.items)) }
         ensures logs { IfOk result (λ parts. All (λ part. log_of part ≡ []) parts.items) }
+        ensures notes { IfOk result (λ parts. All (λ part. notes_of part ≡ []) parts.items) }
     {
         the_opening_is_sound();
         opening(self.alloc, &self.script)

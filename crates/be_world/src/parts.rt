@@ -1,7 +1,6 @@
 //! The server's parts as parts that threads may share.
 use crate::owning::places;
-use crate::performing::perform_entry;
-use crate::preparing::{ReadyEntry, prepare_entry};
+use crate::preparing::ReadyEntry;
 use crate::world::World;
 use be_geom::NoMemory;
 use be_hall::{Held, Parts, Verdict};
@@ -42,31 +41,16 @@ impl Parts for World {
         places(&self.script)
     }
 
-    /// A note's word is copied, a message that is posted is made and flattened, and a change of
-    /// windows is planned.
     fn prepare(
         &self,
         held: &mut Held<Part>,
         entry: &Entry,
     ) -> Result<Verdict<ReadyEntry>, NoMemory> {
-        prepare_entry(self.alloc, &self.script, &self.chains, held, entry)
+        self.ready(held, entry)
     }
 
     fn perform(&self, held: &mut Held<Part>, ready: ReadyEntry, number: u64) {
-        let ReadyEntry {
-            entry,
-            made,
-            seen: _,
-        } = ready;
-        perform_entry(
-            self.alloc,
-            &self.script,
-            &self.bitmaps,
-            held,
-            entry,
-            made,
-            number,
-        );
+        self.make(held, ready, number, None);
     }
 
     fn unlog(&self, part: &mut Part) -> Option<(u64, Entry)> {

@@ -4,18 +4,19 @@ ghost use Rattle.be_asking.specs.Wants.{activity_in};
 ghost use Rattle.be_hall.specs.Hands.{meant, part_at};
 ghost use Rattle.be_hall.specs.Machine.{IsAskable, SomeFits};
 ghost use Rattle.be_machine.specs.Activities.{activity_of};
-ghost use Rattle.be_parts.specs.Parts.{log_of, meaning_of};
+ghost use Rattle.be_parts.specs.Parts.{log_of, meaning_of, notes_of};
 ghost use Rattle.be_ready.specs.Chains.{chains_of};
 ghost use Rattle.be_rules.specs.Rules.{kept_at, world_machine};
 ghost use Rattle.be_script.specs.Limits.{IsWithinLimits};
 ghost use Rattle.be_script.specs.Script.{declared_by};
 ghost use Rattle.be_world.specs.Entering.{KeepsEntries};
-ghost use Rattle.be_world.specs.Preparing.{IsVerdict};
+ghost use Rattle.be_world.specs.Preparing.{IsVerdict, work_in};
 
 use crate::judging::judge;
 use crate::logs::make_room_at;
 use crate::owning::keeper;
 use crate::work::Work;
+use crate::world::World;
 use be_asking::{Activity, activity_of};
 use be_geom::NoMemory;
 use be_hall::{Held, Verdict};
@@ -34,6 +35,35 @@ pub struct ReadyEntry {
     pub(crate) seen: Snapshot<Held<Part>>,
 }
 
+impl World {
+    /// What becomes of the entry with these parts. The log that keeps the entry gets room, whatever
+    /// the answer. A note's word is copied, a message that is posted is made and flattened, and a
+    /// change of windows is planned.
+    pub fn ready(
+        &self,
+        held: &mut Held<Part>,
+        entry: &Entry,
+    ) -> Result<Verdict<ReadyEntry>, NoMemory>
+        requires { IsAskable (world_machine self.now) (meant meaning_of held.old.parts) }
+        ensures room { held.new.room ≡ held.old.room }
+        ensures same { meant meaning_of held.new.parts ≡ meant meaning_of held.old.parts }
+        ensures logs { meant log_of held.new.parts ≡ meant log_of held.old.parts }
+        ensures notes { meant notes_of held.new.parts ≡ meant notes_of held.old.parts }
+        ensures answer { IfOk result (IsVerdict self.now held.new.parts entry.now) }
+    {
+        prepare_entry(self.alloc, &self.script, &self.chains, held, entry)
+    }
+}
+
+impl ReadyEntry {
+    /// What was made for it.
+    pub fn work(&self) -> &Work
+        ensures { result.now ≡ work_in self.now }
+    {
+        &self.made
+    }
+}
+
 /// What becomes of the entry with these parts. The chains are those of the script's windows. The
 /// log that keeps the entry gets room, whatever the answer.
 pub(crate) fn prepare_entry(
@@ -50,6 +80,7 @@ pub(crate) fn prepare_entry(
     ensures room { held.new.room ≡ held.old.room }
     ensures same { meant meaning_of held.new.parts ≡ meant meaning_of held.old.parts }
     ensures logs { meant log_of held.new.parts ≡ meant log_of held.old.parts }
+    ensures notes { meant notes_of held.new.parts ≡ meant notes_of held.old.parts }
     ensures answer { IfOk result (IsVerdict (declared_by script.now) held.new.parts entry.now) }
 {
     let Some(who) = activity_of(script, entry.actor) else {

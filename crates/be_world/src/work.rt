@@ -17,7 +17,7 @@ use be_update::Survey;
 
 /// What an entry needs beside the parts in hand.
 #[derive(Drop)]
-pub(crate) enum Work {
+pub enum Work {
     Nothing,
     /// What is posted.
     Letter(Letter),

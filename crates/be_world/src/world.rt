@@ -54,6 +54,11 @@ impl World {
         })
     }
 
+    /// Where it takes its memory.
+    pub fn alloc(&self) -> Global {
+        self.alloc
+    }
+
     /// The script whose run it is.
     pub fn script(&self) -> &Script
         ensures declared { declared_by result.now ≡ self.now }

@@ -7,5 +7,5 @@ pub mod SpeltValues
 pub mod TakenLemmas
 pub mod NoteLemmas
 pub mod Quiet
-pub mod Gathering
+pub mod OwnTexts
 pub mod RunnerTexts

@@ -1,7 +1,7 @@
 -- The traces, one runner behind the other.
 use Rattle.std.proofs.Common.{◌≡◌, ℕ, ◌+◌, ◌<◌, ◌≤◌, List, [], ◌∷◌, ◌++◌, length, get_or, drop, map, flat_map, codes, refl, sym, ap, ◌∙◌, arith, append_assoc, append-nil}
 use Rattle.std.specs.List.{enumerate_from}
-use Rattle.std.proofs.lemmas.List.{drop_all, drop_more, get_or_read}
+use Rattle.std.proofs.lemmas.List.{drop_all, drop_more}
 use Rattle.be_script.specs.Script.{Declared}
 use Rattle.be_script.specs.declared.AppLine.{AppLine}
 use Rattle.be_script.specs.declared.WindowLine.{WindowLine}
@@ -9,21 +9,20 @@ use Rattle.be_machine.specs.Activities.{Runner, app, looper}
 use Rattle.be_machine.specs.declared.Entry.{Entry}
 use Rattle.be_machine.specs.Traces.{traces_of}
 use Rattle.be_written.specs.Lines.{line_of}
-use Rattle.be_written.specs.Notings.{AreNoted}
-use Rattle.be_written.specs.Runners.{IsRunner, place_of}
+use Rattle.be_written.specs.Notings.{AreTold}
+use Rattle.be_written.specs.Runners.{IsRunner}
 use Rattle.be_written.specs.TraceText.{noted_text, runner_text, apps_text, loopers_text, traces_text}
 
 -- ---- one runner
 
 -- its heading and its lines, before the others
-one_more : (d : Declared) (h : List Entry) (texts : List (List ℕ)) (who : Runner) (kind name text old one new rest : List ℕ)
-    → AreNoted d h texts → IsRunner d who → place_of d who < length texts → text ≡ get_or texts (place_of d who) text
-    → one ≡ old ++ line_of (kind ∷ name ∷ []) → new ≡ one ++ text
+one_more : (d : Declared) (h : List Entry) (told : Runner → List ℕ) (who : Runner) (kind name text old one new rest : List ℕ)
+    → AreTold d h told → IsRunner d who → text ≡ told who → one ≡ old ++ line_of (kind ∷ name ∷ []) → new ≡ one ++ text
     → new ++ rest ≡ old ++ (runner_text d h kind who name ++ rest)
-one_more d h texts who kind name text old one new rest noted there below is first second =
+one_more d h told who kind name text old one new rest noted there is first second =
     let heading = line_of (kind ∷ name ∷ []) in
     let lines = noted_text d who (traces_of d who h) in
-    let same : text ≡ lines = get_or_read texts _ _ below is [] ∙ noted.each who there in
+    let same : text ≡ lines = is ∙ noted who there in
     ap (λ (t : List ℕ). t ++ rest) (second ∙ ap (λ (t : List ℕ). t ++ text) first ∙ ap (λ (t : List ℕ). (old ++ heading) ++ t) same ∙ append_assoc old heading lines)
     ∙ append_assoc old (heading ++ lines) rest
 
@@ -36,13 +35,13 @@ pub apps_begin : (d : Declared) (h : List Entry) (old : List ℕ) → old ++ app
 unfolding apps_text
 apps_begin d h old = refl
 
-pub apps_go_on : (d : Declared) (h : List Entry) (texts : List (List ℕ)) (k : ℕ) (line : AppLine) (text old one new : List ℕ)
-    → AreNoted d h texts → length d.apps ≤ length texts → k < length d.apps → line ≡ get_or d.apps k line → text ≡ get_or texts k text
+pub apps_go_on : (d : Declared) (h : List Entry) (told : Runner → List ℕ) (k : ℕ) (line : AppLine) (text old one new : List ℕ)
+    → AreTold d h told → k < length d.apps → line ≡ get_or d.apps k line → text ≡ told (app k)
     → one ≡ old ++ line_of (codes "app" ∷ line.name ∷ []) → new ≡ one ++ text
     → new ++ apps_left d h (k + 1) (drop (k + 1) d.apps) ≡ old ++ apps_left d h k (drop k d.apps)
-apps_go_on d h texts k line text old one new noted many within at is first second =
+apps_go_on d h told k line text old one new noted within at is first second =
     let rest = apps_left d h (k + 1) (drop (k + 1) d.apps) in
-    one_more d h texts (app k) (codes "app") line.name text old one new rest noted within (omega arith) is first second
+    one_more d h told (app k) (codes "app") line.name text old one new rest noted within is first second
     ∙ ap (λ (n : ℕ). old ++ (runner_text d h (codes "app") (app k) line.name ++ apps_left d h n (drop (k + 1) d.apps))) (omega arith)
     ∙ ap (λ (lines : List AppLine). old ++ apps_left d h k lines) (sym (drop_more d.apps k line within ∙ ap (λ (x : AppLine). x ∷ drop (k + 1) d.apps) (sym at)))
 
@@ -59,13 +58,13 @@ pub loopers_begin : (d : Declared) (h : List Entry) (old : List ℕ) → old ++ 
 unfolding loopers_text
 loopers_begin d h old = refl
 
-pub loopers_go_on : (d : Declared) (h : List Entry) (texts : List (List ℕ)) (k : ℕ) (line : WindowLine) (text old one new : List ℕ)
-    → AreNoted d h texts → length d.apps + length d.windows ≤ length texts → k < length d.windows → line ≡ get_or d.windows k line → text ≡ get_or texts (length d.apps + k) text
+pub loopers_go_on : (d : Declared) (h : List Entry) (told : Runner → List ℕ) (k : ℕ) (line : WindowLine) (text old one new : List ℕ)
+    → AreTold d h told → k < length d.windows → line ≡ get_or d.windows k line → text ≡ told (looper k)
     → one ≡ old ++ line_of (codes "loop" ∷ line.name ∷ []) → new ≡ one ++ text
     → new ++ loopers_left d h (k + 1) (drop (k + 1) d.windows) ≡ old ++ loopers_left d h k (drop k d.windows)
-loopers_go_on d h texts k line text old one new noted many within at is first second =
+loopers_go_on d h told k line text old one new noted within at is first second =
     let rest = loopers_left d h (k + 1) (drop (k + 1) d.windows) in
-    one_more d h texts (looper k) (codes "loop") line.name text old one new rest noted within (omega arith) is first second
+    one_more d h told (looper k) (codes "loop") line.name text old one new rest noted within is first second
     ∙ ap (λ (n : ℕ). old ++ (runner_text d h (codes "loop") (looper k) line.name ++ loopers_left d h n (drop (k + 1) d.windows))) (omega arith)
     ∙ ap (λ (lines : List WindowLine). old ++ loopers_left d h k lines) (sym (drop_more d.windows k line within ∙ ap (λ (x : WindowLine). x ∷ drop (k + 1) d.windows) (sym at)))
 

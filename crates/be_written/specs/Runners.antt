@@ -1,5 +1,5 @@
 -- The runners of a script: the applications, and behind them the loopers (this project's own).
-use Rattle.std.specs.Prelude.{ℕ, ◌+◌, ◌<◌, ◌≤◌, length, Option, Some, None}
+use Rattle.std.specs.Prelude.{ℕ, ◌<◌, ◌≤◌, length, Option, Some, None}
 use Rattle.be_script.specs.Script.{Declared}
 use Rattle.be_machine.specs.Activities.{Runner, app, looper, Activity, runner, twin, input, closing, activity_of}
 
@@ -12,11 +12,6 @@ pub record AreFew (d : Declared) : Type 0 where
 abbrev pub IsRunner : Declared → Runner → Type 0
 IsRunner d (app m) = m < length d.apps
 IsRunner d (looper w) = w < length d.windows
-
--- its place among them
-abbrev pub place_of : Declared → Runner → ℕ
-place_of d (app m) = m
-place_of d (looper w) = length d.apps + w
 
 -- the runner that an activity is, if it is one
 abbrev pub as_runner : Activity → Option Runner

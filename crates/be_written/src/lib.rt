@@ -2,12 +2,13 @@
 //! and a screen.
 //!
 //! Each piece is written behind the others on a page, in a time that is linear in its bytes, but
-//! for the names of handlers, each of which is looked for among all views or all plain handlers. A
-//! history is gone through once for all that is noted of it. A screen is written in one pass over
-//! its cells.
+//! for the names of handlers, each of which is looked for among all views or all plain handlers.
+//! What a runner notes is written when its entry is made; what all of them noted is put together at
+//! the end. A screen is written in one pass over its cells.
 #![tactic(auto)]
 
 mod cut;
+mod laws;
 mod message;
 mod note;
 mod page;
@@ -19,6 +20,7 @@ mod taken;
 mod traces;
 mod writing;
 
+pub use laws::a_runner_notes_its_own_entries;
 pub use message::write_message;
 pub use note::{Note, write_note};
 pub use page::Page;

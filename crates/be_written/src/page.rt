@@ -37,6 +37,12 @@ impl Page {
         self.bytes.as_slice()
     }
 
+    pub fn into_bytes(self) -> Vec<u8>
+        ensures { result.items ≡ self }
+    {
+        self.bytes
+    }
+
     /// Adds a text.
     pub fn text(&mut self, text: &[u8]) -> Result<(), NoMemory>
         ensures { OnOk result (self.new ≡ self.old ++ text.now) }

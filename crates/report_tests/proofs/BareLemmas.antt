@@ -1,21 +1,18 @@
 -- What the machine of a screen alone does, computed.
-use Rattle.std.proofs.Common.{◌≡◌, ℕ, zero, suc, ◌+◌, ◌*◌, ◌<◌, Bool, true, false, [], ◌∷◌, replicate, Some, refl, ap, sym, arith}
-use Rattle.std.specs.Prelude.{slice_get, option_and_then}
-use Rattle.std.specs.Option.{option_map_or}
+use Rattle.std.proofs.Common.{◌≡◌, ℕ, zero, suc, ◌+◌, ◌*◌, ◌<◌, [], ◌∷◌, replicate, Some, refl, arith}
+use Rattle.std.specs.Prelude.{slice_get}
 use Rattle.be_span.specs.Cells.{desktop_cell}
 use Rattle.be_script.specs.Limits.{IsWithinLimits}
 use Rattle.be_script.specs.Names.{are_names}
 use Rattle.be_script.specs.Work.{work_of}
-use Rattle.be_machine.specs.Activities.{activity_of}
-use Rattle.be_machine.specs.declared.Entry.{Entry}
+use Rattle.be_machine.specs.Activities.{activity_of, app, looper}
 use Rattle.be_machine.specs.History.{AreLegalFrom, IsLegalHistory, state_from, state_after}
 use Rattle.be_machine.specs.Legal.{legal_act, want_act}
 use Rattle.be_machine.specs.State.{opening_state}
 use Rattle.be_machine.specs.Step.{step, met}
 use Rattle.be_machine.specs.Wants.{want_of}
-use Rattle.be_written.specs.Notings.{maker_trace, noted_by}
-use Rattle.be_written.specs.Runners.{runner_at}
-use Rattle.report_tests.specs.Bare.{bare, bare_state, bare_history}
+use Rattle.be_written.specs.Notings.{AreTold}
+use Rattle.report_tests.specs.Bare.{bare, bare_history}
 
 pub bare_limits : IsWithinLimits bare
 unfolding work_of are_names
@@ -49,18 +46,10 @@ pub bare_legal : IsLegalHistory bare bare_history
 unfolding AreLegalFrom legal_act want_act want_of activity_of opening_state
 bare_legal = (refl, tt)
 
--- its closing activity is the second
-pub stops : (e : Entry) (b : Bool) → e.actor ≡ 1 → bare_state true ≡ step bare (bare_state b) e
-unfolding step met want_of activity_of
-stops e b is = ap (λ (a : ℕ). option_map_or (met bare (bare_state b)) (option_and_then (want_of bare (bare_state b)) (activity_of bare a)) (bare_state b)) (sym is)
-
-pub notes_none : (e : Entry) (b : Bool) → e.actor ≡ 1 → [] ≡ maker_trace bare (bare_state b) e
-unfolding activity_of
-notes_none e b is = ap (λ (a : ℕ). noted_by bare (bare_state b) e (runner_at bare a)) (sym is)
-
-pub first_state : bare_state false ≡ opening_state bare
-unfolding opening_state
-first_state = refl
+-- it has no runner
+pub told_none : AreTold bare bare_history (λ who. [])
+told_none (app m) there = absurd (omega arith)
+told_none (looper w) there = absurd (omega arith)
 
 pub last_screen : replicate 12 desktop_cell ≡ (state_after bare bare_history).screen
 unfolding opening_state state_from step met want_of activity_of

@@ -1,9 +1,8 @@
 -- A script that declares a screen of 4 by 3 pixels and nothing else, and its machine.
-use Rattle.std.specs.Prelude.{Bool, List, [], ◌∷◌}
+use Rattle.std.specs.Prelude.{List, [], ◌∷◌}
 use Rattle.be_script.specs.Script.{Declared}
 use Rattle.be_machine.specs.declared.Act.TheVariants.{Stop}
 use Rattle.be_machine.specs.declared.Entry.{Entry}
-use Rattle.be_machine.specs.State.{State, opening_state}
 
 abbrev pub bare : Declared
 bare = record {
@@ -19,10 +18,6 @@ bare = record {
   apps = [];
   input = [];
 }
-
--- before and behind its one entry
-abbrev pub bare_state : Bool → State
-bare_state stopped = record (opening_state bare) { stopped = stopped }
 
 -- what it does: it stops
 abbrev pub bare_history : List Entry

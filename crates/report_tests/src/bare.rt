@@ -1,15 +1,12 @@
 ghost use Rattle.std.specs.Prelude.{◌≡◌, [], replicate};
-ghost use Rattle.be_machine.specs.Traces.{Trace};
 ghost use Rattle.be_script.specs.Script.{declared_by};
 ghost use Rattle.be_span.specs.Cells.{desktop_cell};
-ghost use Rattle.report_tests.specs.Bare.{bare, bare_state};
+ghost use Rattle.report_tests.specs.Bare.{bare};
 
 use be_color::Rgb;
-use be_geom::NoMemory;
-use be_machine::Entry;
 use be_script::Script;
 use be_span::Cell;
-use be_written::{Note, Notes, Screen};
+use be_written::{Notes, Runner, Screen};
 use std::alloc::Global;
 
 /// A screen of 4 by 3 pixels, and nothing else.
@@ -32,27 +29,13 @@ pub(crate) fn script(alloc: Global) -> Script
 
 /// Where there is no runner, nothing is noted.
 #[derive(Drop)]
-pub(crate) struct Nobody {
-    pub(crate) stopped: bool,
-}
+pub(crate) struct Nobody;
 
 impl Notes for Nobody {
-    ghost script = { λ it. bare };
+    ghost told = { λ it who. [] };
 
-    ghost state = { λ it. bare_state it.stopped };
-
-    ghost last = { λ it. [] };
-
-    fn follow(&mut self, entry: &Entry) -> Result<(), NoMemory> {
-        if entry.actor != 1 {
-            return Err(NoMemory);
-        }
-        self.stopped = true;
-        Ok(())
-    }
-
-    fn noted(&self) -> Note<'_> {
-        Note::Nothing
+    fn told(&self, _runner: Runner) -> &[u8] {
+        b""
     }
 }
 

@@ -4,6 +4,8 @@
 #[cfg(test)]
 mod bare;
 #[cfg(test)]
+mod buttons;
+#[cfg(test)]
 mod history;
 #[cfg(test)]
 mod message;
@@ -15,5 +17,7 @@ mod pixels;
 mod screen;
 #[cfg(test)]
 mod taken;
+#[cfg(test)]
+mod traces;
 #[cfg(test)]
 mod whole;

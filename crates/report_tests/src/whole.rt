@@ -22,8 +22,7 @@ fn reported(alloc: Global, sink: &mut MemorySink) -> Result<(), ReportFault> {
         actor: 1,
         act: Act::Stop,
     }];
-    let mut notes = Nobody { stopped: false };
-    report(alloc, &script, &history, &mut notes, &Desktop, sink)
+    report(alloc, &script, &history, &Nobody, &Desktop, sink)
 }
 
 #[test]

@@ -6,7 +6,7 @@ use Rattle.be_script.specs.Script.{declared_by}
 use Rattle.be_steps.proofs.Owned.{not_missing}
 use Rattle.be_steps.specs.Surveyed.{IsSurveyedIn}
 use Rattle.be_noted.proofs.Updates.{listed_none, listed_some, survey_here}
-use Rattle.be_noted.specs.Foretold.{IsListed}
+use Rattle.be_noted.specs.Listed.{IsListed}
 use Rattle.be_noted.proofs.listing.listed.Goals as goal
 
 pub find_pane-requires : goal.find_pane-requires

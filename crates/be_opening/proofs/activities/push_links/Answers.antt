@@ -14,4 +14,4 @@ pub loop-w-preserved : goal.loop-w-preserved
 loop-w-preserved c =
     let less : c.loop-w.w < length c.args.script.now.windows.items = search rules in
     next_more (declared_by c.args.script.now) (λ w. part.link w) c.loop-w.w c.args.parts.now.items c.loop-w.parts.items c.push.new.self.items (parts.Link c.in_ok-new.field-0)
-    c.loop-w.invariant c.in_ok-push.ensures.items (c.in_ok-new.ensures ∙ link_is (declared_by c.args.script.now) c.loop-w.w less) refl
+    c.loop-w.invariant c.in_ok-push.ensures.items (c.in_ok-new.ensures ∙ link_is (declared_by c.args.script.now) c.loop-w.w less) (refl, refl)

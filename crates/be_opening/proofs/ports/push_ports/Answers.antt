@@ -15,4 +15,4 @@ pub loop-w-preserved : goal.loop-w-preserved
 loop-w-preserved c =
     let got = got_seen c.args.script.now.windows.items c.deref-line-items.result.now c.loop-w.w c.line-item.result c.deref-line-items.ensures.value c.loop-w-test.true c.line-item.is in
     next_more (declared_by c.args.script.now) (λ w. part.port w) c.loop-w.w c.args.parts.now.items c.loop-w.parts.items c.push.new.self.items (parts.Port c.in_ok-new.field-0)
-    c.loop-w.invariant c.in_ok-push.ensures.items (c.in_ok-new.ensures ∙ c.told_port-means.ensures ∙ port_is (declared_by c.args.script.now) c.loop-w.w c.line-item.result got) refl
+    c.loop-w.invariant c.in_ok-push.ensures.items (c.in_ok-new.ensures ∙ c.told_port-means.ensures ∙ port_is (declared_by c.args.script.now) c.loop-w.w c.line-item.result got) (refl, refl)

@@ -19,4 +19,4 @@ returns g c =
     ∙ ap (λ cells. traces ++ screen_text d.width d.height cells) c.requires.cells in
     report_parts (history_text d h) (traces_text d h) (screen_text d.width d.height (state_after d h).screen)
     c.new-page.result c.write_history.new.page traces c.write_screen.new.page c.text.new.self c.end_line.new.self
-    c.new-page.ensures c.in_ok-write_history.ensures c.in_ok-write_traces.ensures screen c.in_ok-text.ensures c.in_ok-end_line.ensures
+    c.new-page.ensures c.in_ok-write_history.ensures (c.in_ok-write_traces.ensures h c.requires.told) screen c.in_ok-text.ensures c.in_ok-end_line.ensures

@@ -3,7 +3,7 @@ use Rattle.std.proofs.Crossing.{crosses}
 use Rattle.be_bells.proofs.Bells.TheSendSync as bells
 use Rattle.be_hall.proofs.hall.Hall.TheSendSync as hall
 use Rattle.be_workers.proofs.worker.Worker.TheSendSync as worker
-use Rattle.be_threads.proofs.Crossing.{part_send, world_sync}
+use Rattle.be_threads.proofs.Crossing.{part_send, noting_sync}
 use Rattle.be_threads.proofs.crew.work_all.Goals as goal
 
 pub for_each_mut-requires-send-T : goal.for_each_mut-requires-send-T
@@ -12,4 +12,4 @@ for_each_mut-requires-send-T g c κs =
 
 pub for_each_mut-requires-sync-F : goal.for_each_mut-requires-sync-F
 for_each_mut-requires-sync-F g c κs =
-    search (sendable, crosses, hall.the_sync, bells.the_sync, part_send, world_sync) depth 20
+    search (sendable, crosses, hall.the_sync, bells.the_sync, part_send, noting_sync) depth 20

@@ -1,6 +1,7 @@
 use Rattle.std.proofs.Common.{◌∙◌, ap, sym}
 use Rattle.std.specs.Prelude.{option_map}
 use Rattle.be_asking.specs.Wants.{activity_in}
+use Rattle.be_parts.specs.Kept.{note_in}
 use Rattle.be_rules.specs.Slices.{state_of}
 use Rattle.be_script.specs.Script.{declared_by}
 use Rattle.be_world.proofs.Keeping.{nobody_acts}
@@ -31,4 +32,4 @@ returns c =
     performed (declared_by c.args.script.now) c.args.entry c.args.made c.args.number
     c.args.held.now c.requires.may c.in-Some.who (sym c.in-Some.ensures) c.ascends.ensures
     c.keeper-place.result c.keeper-place.ensures c.carry_out.new.held c.carry_out.ensures
-    c.enter_at.new.held c.enter_at.ensures.room c.enter_at.ensures.entered
+    c.enter_at.new.held c.enter_at.ensures.room (note_in c.args.note) c.enter_at.ensures.entered

@@ -13,7 +13,8 @@ use Rattle.be_script.specs.Script.{declared_by}
 use Rattle.be_world.specs.Judging.{IsJudged}
 use Rattle.be_world.specs.Suits.{IsPrepared}
 use Rattle.be_world.specs.declared.work.Work.{Work}
-use Rattle.be_world.proofs.Keeping.{logs_same, means_same, nobody_acts, spare_is}
+use Rattle.be_world.proofs.Keeping.{logs_same, means_same, nobody_acts, notes_same}
+use Rattle.be_world.proofs.Keeping.{spare_is}
 use Rattle.be_world.proofs.preparing.prepare_entry.Goals as goal
 
 pub returns-in_default-clause-answer : goal.returns-in_default-clause-answer
@@ -57,6 +58,11 @@ returns-in_err-make_room_at-clause-logs c =
     logs_same c.keeper-place.result c.args.held.now.parts c.make_room_at.new.held.parts
     c.make_room_at.ensures.same
 
+pub returns-in_err-make_room_at-clause-notes : goal.returns-in_err-make_room_at-clause-notes
+returns-in_err-make_room_at-clause-notes c =
+    notes_same c.keeper-place.result c.args.held.now.parts c.make_room_at.new.held.parts
+    c.make_room_at.ensures.same
+
 -- ---- with the answer
 
 pub returns-in_err-judge-clause-same : goal.returns-in_err-judge-clause-same
@@ -69,6 +75,11 @@ returns-in_err-judge-clause-logs c =
     logs_same c.keeper-place.result c.args.held.now.parts c.make_room_at.new.held.parts
     c.make_room_at.ensures.same
 
+pub returns-in_err-judge-clause-notes : goal.returns-in_err-judge-clause-notes
+returns-in_err-judge-clause-notes c =
+    notes_same c.keeper-place.result c.args.held.now.parts c.make_room_at.new.held.parts
+    c.make_room_at.ensures.same
+
 pub returns-in-NotLegal-clause-same : goal.returns-in-NotLegal-clause-same
 returns-in-NotLegal-clause-same c =
     means_same c.keeper-place.result c.args.held.now.parts c.make_room_at.new.held.parts
@@ -77,6 +88,11 @@ returns-in-NotLegal-clause-same c =
 pub returns-in-NotLegal-clause-logs : goal.returns-in-NotLegal-clause-logs
 returns-in-NotLegal-clause-logs c =
     logs_same c.keeper-place.result c.args.held.now.parts c.make_room_at.new.held.parts
+    c.make_room_at.ensures.same
+
+pub returns-in-NotLegal-clause-notes : goal.returns-in-NotLegal-clause-notes
+returns-in-NotLegal-clause-notes c =
+    notes_same c.keeper-place.result c.args.held.now.parts c.make_room_at.new.held.parts
     c.make_room_at.ensures.same
 
 pub returns-in-Needs-clause-same : goal.returns-in-Needs-clause-same
@@ -89,6 +105,11 @@ returns-in-Needs-clause-logs c =
     logs_same c.keeper-place.result c.args.held.now.parts c.make_room_at.new.held.parts
     c.make_room_at.ensures.same
 
+pub returns-in-Needs-clause-notes : goal.returns-in-Needs-clause-notes
+returns-in-Needs-clause-notes c =
+    notes_same c.keeper-place.result c.args.held.now.parts c.make_room_at.new.held.parts
+    c.make_room_at.ensures.same
+
 pub returns-in-Ready-clause-same : goal.returns-in-Ready-clause-same
 returns-in-Ready-clause-same c =
     means_same c.keeper-place.result c.args.held.now.parts c.make_room_at.new.held.parts
@@ -97,6 +118,11 @@ returns-in-Ready-clause-same c =
 pub returns-in-Ready-clause-logs : goal.returns-in-Ready-clause-logs
 returns-in-Ready-clause-logs c =
     logs_same c.keeper-place.result c.args.held.now.parts c.make_room_at.new.held.parts
+    c.make_room_at.ensures.same
+
+pub returns-in-Ready-clause-notes : goal.returns-in-Ready-clause-notes
+returns-in-Ready-clause-notes c =
+    notes_same c.keeper-place.result c.args.held.now.parts c.make_room_at.new.held.parts
     c.make_room_at.ensures.same
 
 pub returns-in-Ready-clause-answer : goal.returns-in-Ready-clause-answer

@@ -6,23 +6,23 @@ use Rattle.be_written.proofs.RunnerTexts.{apps_begin, apps_go_on, apps_ended}
 use Rattle.be_written.proofs.traces.write_apps.Goals as goal
 
 pub loop-place-init : goal.loop-place-init
-loop-place-init c = λ h noted. apps_begin (declared_by c.args.script.now) h c.args.page.now
+loop-place-init g c = λ h noted. apps_begin (declared_by c.args.script.now) h c.args.page.now
 
 pub loop-place-preserved : goal.loop-place-preserved
-loop-place-preserved c = λ h noted.
+loop-place-preserved g c = λ h noted.
     let k = c.loop-place.place in
     let line = c.app-item.result in
     let lines = c.deref-app-items.ensures.value in
-    apps_go_on (declared_by c.args.script.now) h c.args.texts.now k line c.index-texts-place.result c.loop-place.page c.write_line.new.page c.text.new.self
-    noted c.requires
+    apps_go_on (declared_by c.args.script.now) h (g.N.Notes.told c.args.notes.now) k line c.told.result.now c.loop-place.page c.write_line.new.page c.text.new.self
+    noted
     (subst (λ (ls : List AppLine). k < length ls) lines c.loop-place-test.true)
     (subst (λ (ls : List AppLine). line ≡ get_or ls k line) lines c.app-item.is)
-    c.index-texts-place.is
+    c.told.ensures
     (c.in_ok-write_line.ensures ∙ ap (λ (name : List ℕ). c.loop-place.page ++ line_of (codes "app" ∷ name ∷ [])) c.as_slice.ensures)
-    (c.in_ok-text.ensures ∙ ap (λ text. c.write_line.new.page ++ text) c.as_slice-in-loop-place.ensures)
+    c.in_ok-text.ensures
     ∙ c.loop-place.invariant h noted
 
 pub returns : goal.returns
-returns c = λ h noted.
+returns g c = λ h noted.
     apps_ended (declared_by c.args.script.now) h c.loop-place.place c.loop-place.page _ (c.loop-place.invariant h noted)
     (subst (λ (ls : List AppLine). length ls ≤ c.loop-place.place) c.deref-app-items.ensures.value c.loop-place-test.false)

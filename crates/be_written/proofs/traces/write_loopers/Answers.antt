@@ -1,4 +1,4 @@
-use Rattle.std.proofs.Common.{◌≡◌, codes, [], ◌∷◌, ℕ, ◌+◌, ◌<◌, ◌≤◌, List, ◌++◌, length, get_or, ap, subst, ◌∙◌, arith}
+use Rattle.std.proofs.Common.{◌≡◌, codes, [], ◌∷◌, ℕ, ◌<◌, ◌≤◌, List, ◌++◌, length, get_or, ap, subst, ◌∙◌}
 use Rattle.be_script.specs.Script.{declared_by}
 use Rattle.be_script.specs.declared.WindowLine.{WindowLine}
 use Rattle.be_written.specs.Lines.{line_of}
@@ -6,25 +6,23 @@ use Rattle.be_written.proofs.RunnerTexts.{loopers_begin, loopers_go_on, loopers_
 use Rattle.be_written.proofs.traces.write_loopers.Goals as goal
 
 pub loop-place-init : goal.loop-place-init
-loop-place-init c = λ h noted. loopers_begin (declared_by c.args.script.now) h c.args.page.now
+loop-place-init g c = λ h noted. loopers_begin (declared_by c.args.script.now) h c.args.page.now
 
 pub loop-place-preserved : goal.loop-place-preserved
-loop-place-preserved c = λ h noted.
+loop-place-preserved g c = λ h noted.
     let k = c.loop-place.place in
     let line = c.window-item.result in
-    let text = c.index-texts-apps.result in
-    let apps : c.len-apps.result ≡ length c.args.script.now.apps.items = omega (arith, c.len-apps.ensures, c.args.script.now.apps.ok.0) in
     let lines = c.deref-window-items.ensures.value in
-    loopers_go_on (declared_by c.args.script.now) h c.args.texts.now k line text c.loop-place.page c.write_line.new.page c.text.new.self
-    noted c.requires
+    loopers_go_on (declared_by c.args.script.now) h (g.N.Notes.told c.args.notes.now) k line c.told.result.now c.loop-place.page c.write_line.new.page c.text.new.self
+    noted
     (subst (λ (ls : List WindowLine). k < length ls) lines c.loop-place-test.true)
     (subst (λ (ls : List WindowLine). line ≡ get_or ls k line) lines c.window-item.is)
-    (subst (λ (n : ℕ). text ≡ get_or c.args.texts.now (n + k) text) apps c.index-texts-apps.is)
+    c.told.ensures
     (c.in_ok-write_line.ensures ∙ ap (λ (name : List ℕ). c.loop-place.page ++ line_of (codes "loop" ∷ name ∷ [])) c.as_slice.ensures)
-    (c.in_ok-text.ensures ∙ ap (λ bytes. c.write_line.new.page ++ bytes) c.as_slice-in-loop-place.ensures)
+    c.in_ok-text.ensures
     ∙ c.loop-place.invariant h noted
 
 pub returns : goal.returns
-returns c = λ h noted.
+returns g c = λ h noted.
     loopers_ended (declared_by c.args.script.now) h c.loop-place.place c.loop-place.page _ (c.loop-place.invariant h noted)
     (subst (λ (ls : List WindowLine). length ls ≤ c.loop-place.place) c.deref-window-items.ensures.value c.loop-place-test.false)

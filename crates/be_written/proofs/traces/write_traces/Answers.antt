@@ -1,7 +1,7 @@
-use Rattle.std.proofs.Common.{◌≡◌, List, ◌++◌, sym, subst}
+use Rattle.std.proofs.Common.{◌≡◌, List, ◌++◌}
 use Rattle.be_machine.specs.declared.Entry.{Entry}
 use Rattle.be_script.specs.Script.{declared_by}
-use Rattle.be_written.specs.Notings.{AreNoted}
+use Rattle.be_written.specs.Notings.{AreTold}
 use Rattle.be_written.specs.TraceText.{loopers_text, traces_text}
 use Rattle.be_written.proofs.RunnerTexts.{traces_written}
 use Rattle.be_written.proofs.WriteLemmas.{mapped}
@@ -10,11 +10,9 @@ use Rattle.be_written.proofs.traces.write_traces.Goals as goal
 pub returns : goal.returns
 returns g c =
     let d = declared_by c.args.script.now in
-    let h = c.args.history.now in
+    let told = g.N.Notes.told c.args.notes.now in
     let apps = c.write_apps.new.page in
     let new = c.write_loopers.new.page in
-    let first : AreNoted d h c.deref.result.now = subst (AreNoted d h) (sym c.deref.ensures.value) c.in_ok-texts.ensures in
-    let second : AreNoted d h c.deref-2.result.now = subst (AreNoted d h) (sym c.deref-2.ensures.value) c.in_ok-texts.ensures in
-    mapped c.write_loopers.result ((es : List Entry) → AreNoted d es c.deref-2.result.now → new ≡ apps ++ loopers_text d es) (new ≡ c.args.page.now ++ traces_text d h) c.write_loopers.ensures
-    (λ loopers. traces_written d h c.args.page.now c.text.new.self c.end_line.new.self apps new
-    c.in_ok-text.ensures c.in_ok-end_line.ensures (c.in_ok-write_apps.ensures h first) (loopers h second))
+    mapped c.write_loopers.result ((h : List Entry) → AreTold d h told → new ≡ apps ++ loopers_text d h) ((h : List Entry) → AreTold d h told → new ≡ c.args.page.now ++ traces_text d h) c.write_loopers.ensures
+    (λ loopers h noted. traces_written d h c.args.page.now c.text.new.self c.end_line.new.self apps new
+    c.in_ok-text.ensures c.in_ok-end_line.ensures (c.in_ok-write_apps.ensures h noted) (loopers h noted))

@@ -1,9 +1,9 @@
-use Rattle.std.proofs.Common.{◌≡◌, ◌<◌, ◌≤◌, false, Global, Vec, IfOk, arith, map, subst, vec_len}
+use Rattle.std.proofs.Common.{◌≡◌, ◌<◌, ◌≤◌, [], false, All, Global, Vec, IfOk, arith, map, subst, vec_len}
 use Rattle.std.proofs.lemmas.Result.{IfOk-weaker}
 use Rattle.be_hall.specs.Machine.{AllFit}
 use Rattle.be_hall.specs.Numbers.{total}
 use Rattle.be_machine.specs.State.{opening_state}
-use Rattle.be_parts.specs.Parts.{meaning_of}
+use Rattle.be_parts.specs.Parts.{IsBlank, log_of, meaning_of, notes_of}
 use Rattle.be_parts.specs.declared.part.Part.{Part}
 use Rattle.be_rules.specs.Rules.{SliceFits}
 use Rattle.be_rules.specs.Shares.{share}
@@ -54,3 +54,15 @@ returns-clause-unclosed c =
     subst (λ (d : Declared). IfOk c.opening.result (IsUnclosed d)) c.self.view_is
     (IfOk-weaker c.opening.result (Mean d) (IsUnclosed d)
     (λ parts mean. unclosed d c.self.invariant.limits parts.items mean) c.opening.ensures.meant)
+
+pub returns-clause-logs : goal.returns-clause-logs
+returns-clause-logs c =
+    IfOk-weaker c.opening.result (λ (parts : Vec Part Global). All IsBlank parts.items)
+    (λ (parts : Vec Part Global). All (λ part. log_of part ≡ []) parts.items)
+    (λ parts blank. λ k x less. (blank k x less).0) c.opening.ensures.blank
+
+pub returns-clause-notes : goal.returns-clause-notes
+returns-clause-notes c =
+    IfOk-weaker c.opening.result (λ (parts : Vec Part Global). All IsBlank parts.items)
+    (λ (parts : Vec Part Global). All (λ part. notes_of part ≡ []) parts.items)
+    (λ parts blank. λ k x less. (blank k x less).1) c.opening.ensures.blank
