@@ -4,7 +4,7 @@ use Rattle.std.specs.Prelude.{if◌then◌else◌, ◌&&◌, ◌==◌, not}
 use Rattle.std.proofs.lemmas.Bool.{cases_lt, eqb-true}
 use Rattle.std.specs.List.{slice_get}
 use Rattle.std.specs.Fmt.{decimal}
-use Rattle.std.proofs.lemmas.List.{drop-drop, drop_all, length-take}
+use Rattle.std.proofs.lemmas.List.{drop-drop, drop_all, length-drop, length-take, length-take-le}
 use Rattle.be_color.specs.declared.colors.Rgb.{Rgb}
 use Rattle.be_span.specs.declared.Cell.{Cell}
 use Rattle.be_written.specs.Lines.{behind, line_of}
@@ -50,6 +50,21 @@ strip_colored cells some first from column place end rgb told colored at within 
     ap (rgb_at cells) is
     ∙ ap (λ (c : Option Cell). elim c [ Some x ↦ Some x.rgb | None ↦ None ]) (told j (omega arith))
     ∙ colored j (omega arith) (omega arith)
+
+-- a block of cells of one colour is such a run
+pub block_colored : (cells : List Cell) (from end : ℕ) (rgb : Rgb) → from ≤ end → end ≤ length cells
+    → AreColored (take (end - from) (drop from cells)) 0
+    (length (take (end - from) (drop from cells))) rgb
+    → AreColored cells from end rgb
+block_colored cells from end rgb rises within block k low high =
+    let n = end - from in
+    let j = k - from in
+    let rest : length (drop from cells) ≡ length cells - from = length-drop from cells in
+    let long : length (take n (drop from cells)) ≡ n =
+    length-take-le n (drop from cells) (omega arith) in
+    let at = get_take n (drop from cells) j (omega arith) ∙ get_drop from cells j k (omega arith) in
+    ap (λ (c : Option Cell). elim c [ Some x ↦ Some x.rgb | None ↦ None ]) (sym at)
+    ∙ block j (omega arith) (omega arith)
 
 -- ---- the longest run
 

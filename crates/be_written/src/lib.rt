@@ -12,6 +12,7 @@ mod laws;
 mod message;
 mod note;
 mod page;
+mod plain;
 mod runner;
 mod said;
 mod screen;

@@ -5,6 +5,7 @@ ghost use Rattle.be_color.specs.declared.colors.Rgb.{Rgb};
 ghost use Rattle.be_written.specs.Screens.{AreCellsOf, AreColored, IsLongest, IsStrip, rgb_at, row_at};
 
 use crate::page::Page;
+use crate::plain::run_end;
 use be_color::Rgb;
 use be_geom::NoMemory;
 use be_span::Cell;
@@ -48,7 +49,8 @@ struct Strip<'a> {
 }
 
 /// Writes the screen's size, and each row as its longest runs of one colour. It looks at each cell
-/// twice at most, and asks the screen once for cells that lie side by side.
+/// twice and at sixteen more for each run, at most, and asks the screen once for cells that lie
+/// side by side.
 pub fn write_screen<S: Screen>(page: &mut Page, screen: &S) -> Result<(), NoMemory>
     ensures { let s = screen.now in OnOk result
         (page.new ≡ page.old ++ screen_text (S.across s) (S.down s) (S.cells s)) }
@@ -154,22 +156,6 @@ fn strip_with<'a, S: Screen>(screen: &'a S, row: u32, column: u32, held: Strip<'
             cells: screen.row_from(row, column),
         }
     }
-}
-
-/// The place behind the cells from this one on that have its colour.
-fn run_end(cells: &[Cell], place: usize) -> usize
-    requires { place < length cells.now }
-    ensures begins { place < result }
-    ensures ends { result ≤ length cells.now }
-    ensures colored { (rgb : Rgb) → rgb_at cells.now place ≡ Some rgb
-        → AreColored cells.now place result rgb }
-{
-    let rgb = cells[place].rgb;
-    let mut end = place + 1;
-    while end < cells.len() && cells[end].rgb == rgb {
-        end += 1;
-    }
-    end
 }
 
 /// A word for so many pixels, behind other words.

@@ -1,5 +1,5 @@
-//! Writes a history, notes or a screen over and over, or reads a history, as the words on the
-//! command line say; and writes what came of it last. `bench/report` times it.
+//! Writes a history, notes, a screen or a history with a screen over and over, or reads a history,
+//! as the words on the command line say; and writes what came of it last. `bench/report` times it.
 #![tactic(auto)]
 
 mod board;
@@ -8,14 +8,14 @@ mod rounds;
 use be_geom::NoMemory;
 use be_outside::MemorySink;
 use board::Board;
-use rounds::{note_rounds, screen_rounds, told_rounds};
+use rounds::{note_rounds, screen_rounds, told_rounds, whole_rounds};
 use std::alloc::Global;
 use std::io::{Read, Write};
 use std::process::ExitCode;
 use std::{env, io};
 
 const USAGE: &str =
-    "usage: write_reports history|read|notes COUNT|(plain|checkered) WIDTH HEIGHT ROUNDS";
+    "usage: write_reports history|read|notes COUNT|(screen|whole) (plain|checkered) WIDTH HEIGHT ROUNDS";
 
 /// A script and its history are read from standard input. Other words than those of the usage end
 /// with status 2; a script or a history that is refused, and want of memory, with 1.
@@ -48,7 +48,17 @@ enum Work {
     History,
     Read,
     Notes(u32),
-    Screen(u16, u16, Look),
+    Screen(Shown),
+    /// A history, and a screen behind it.
+    Whole(Shown),
+}
+
+/// A screen's sizes, and what it shows.
+#[derive(Clone, Copy, Debug, PartialEq, Eq)]
+struct Shown {
+    width: u16,
+    height: u16,
+    look: Look,
 }
 
 /// What a screen shows.
@@ -66,17 +76,24 @@ fn work_of(words: &[String]) -> Option<(Work, u32)> {
         ("history", []) => Work::History,
         ("read", []) => Work::Read,
         ("notes", [count]) => Work::Notes(count.parse::<u32>().ok()?),
-        ("plain", [width, height]) => screen_of(width, height, Look::Plain)?,
-        ("checkered", [width, height]) => screen_of(width, height, Look::Checkered)?,
+        ("screen", [look, width, height]) => Work::Screen(shown_by(look, width, height)?),
+        ("whole", [look, width, height]) => Work::Whole(shown_by(look, width, height)?),
         _ => return None,
     };
     Some((work, rounds))
 }
 
-fn screen_of(width: &str, height: &str, look: Look) -> Option<Work> {
-    let width = width.parse::<u16>().ok()?;
-    let height = height.parse::<u16>().ok()?;
-    Some(Work::Screen(width, height, look))
+fn shown_by(look: &str, width: &str, height: &str) -> Option<Shown> {
+    let look = match look {
+        "plain" => Look::Plain,
+        "checkered" => Look::Checkered,
+        _ => return None,
+    };
+    Some(Shown {
+        width: width.parse::<u16>().ok()?,
+        height: height.parse::<u16>().ok()?,
+        look,
+    })
 }
 
 fn done(alloc: Global, work: Work, input: &[u8], rounds: u32) -> Result<MemorySink, NoMemory> {
@@ -84,9 +101,13 @@ fn done(alloc: Global, work: Work, input: &[u8], rounds: u32) -> Result<MemorySi
         Work::History => told_rounds(alloc, input, rounds, 0),
         Work::Read => told_rounds(alloc, input, 0, rounds),
         Work::Notes(count) => note_rounds(alloc, count, rounds),
-        Work::Screen(width, height, look) => {
-            let board = Board::new(alloc, width, height, look)?;
+        Work::Screen(shown) => {
+            let board = Board::new(alloc, shown.width, shown.height, shown.look)?;
             screen_rounds(alloc, &board, rounds)
+        }
+        Work::Whole(shown) => {
+            let board = Board::new(alloc, shown.width, shown.height, shown.look)?;
+            whole_rounds(alloc, input, &board, rounds)
         }
     }
 }

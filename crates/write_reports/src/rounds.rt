@@ -137,3 +137,35 @@ fn shown(alloc: Global, board: &Board) -> Result<MemorySink, NoMemory> {
     write_screen(&mut page, board)?;
     put(alloc, &page)
 }
+
+// ---- reports of a history and a screen
+
+/// Writes the history and the screen behind it in each of the rounds.
+pub fn whole_rounds(
+    alloc: Global,
+    input: &[u8],
+    board: &Board,
+    rounds: u32,
+) -> Result<MemorySink, NoMemory> {
+    let (text, told) = input.split_at(script_end(input));
+    let Ok(script) = read(alloc, text) else {
+        return Err(NoMemory);
+    };
+    let history = history_after(alloc, told, &script, 0)?;
+    for _round in 0..rounds {
+        both(alloc, &script, &history, board)?;
+    }
+    both(alloc, &script, &history, board)
+}
+
+fn both(
+    alloc: Global,
+    script: &Script,
+    history: &[Entry],
+    board: &Board,
+) -> Result<MemorySink, NoMemory> {
+    let mut page = Page::new(alloc);
+    write_history(&mut page, script, history)?;
+    write_screen(&mut page, board)?;
+    put(alloc, &page)
+}

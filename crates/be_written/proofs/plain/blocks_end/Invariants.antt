@@ -1,6 +1,6 @@
 use Rattle.std.proofs.Common.{◌-◌, ◌<◌, ◌≤◌, length}
 use Rattle.be_written.specs.Screens.{AreColored}
-use Rattle.be_written.proofs.screen.run_end.Given as goal
+use Rattle.be_written.proofs.plain.blocks_end.Given as goal
 
 abbrev pub invariant-loop-end : goal.invariant-loop-end
 invariant-loop-end l = record {

@@ -1,0 +1,55 @@
+//! How far cells of one colour lie side by side.
+ghost use Rattle.std.specs.Prelude.{◌≡◌, ◌<◌, ◌≤◌, true, length, Some};
+ghost use Rattle.be_color.specs.declared.colors.Rgb.{Rgb};
+ghost use Rattle.be_written.specs.Screens.{AreColored, rgb_at};
+
+use be_color::Rgb;
+use be_span::Cell;
+
+/// How many cells are compared without a branch between them.
+const BLOCK: usize = 16;
+
+/// The place behind the cells from this one on that have its colour.
+pub(crate) fn run_end(cells: &[Cell], place: usize) -> usize
+    requires { place < length cells.now }
+    ensures begins { place < result }
+    ensures ends { result ≤ length cells.now }
+    ensures colored { (rgb : Rgb) → rgb_at cells.now place ≡ Some rgb
+        → AreColored cells.now place result rgb }
+{
+    let rgb = cells[place].rgb;
+    let mut end = blocks_end(cells, place, rgb);
+    while end < cells.len() && cells[end].rgb == rgb {
+        end += 1;
+    }
+    end
+}
+
+/// The place behind the whole blocks of this colour that follow the cell of this colour.
+fn blocks_end(cells: &[Cell], place: usize, rgb: Rgb) -> usize
+    requires place { place < length cells.now }
+    requires rgb { rgb_at cells.now place ≡ Some rgb }
+    ensures begins { place < result }
+    ensures ends { result ≤ length cells.now }
+    ensures colored { AreColored cells.now place result rgb }
+{
+    let mut end = place + 1;
+    while cells.len() - end >= BLOCK
+        && cells[end].rgb == rgb
+        && is_plain(&cells[end..end + BLOCK], rgb)
+    {
+        end += BLOCK;
+    }
+    end
+}
+
+/// Whether all cells have this colour.
+fn is_plain(cells: &[Cell], rgb: Rgb) -> bool
+    ensures { result ≡ true → AreColored cells.now 0 (length cells.now) rgb }
+{
+    let mut plain = true;
+    for cell in cells {
+        plain &= cell.rgb == rgb;
+    }
+    plain
+}
