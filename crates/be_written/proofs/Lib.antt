@@ -2,6 +2,7 @@ pub mod ActorNames
 pub mod WriteLemmas
 pub mod MessageLemmas
 pub mod ScreenRows
+pub mod WordLemmas
 pub mod SpeltLemmas
 pub mod SpeltValues
 pub mod TakenLemmas

@@ -76,7 +76,8 @@ act_words d (act.SyncDone w) = codes "syncdone" ∷ window_name d w ∷ []
 act_words d (act.Exec n outcome) = codes "exec" ∷ decimal n ∷ outcome_word outcome ∷ []
 act_words d (act.Notify n) = codes "notify" ∷ decimal n ∷ []
 act_words d (act.Begin opens) = codes "begin" ∷ begin_word opens ∷ []
-act_words d (act.Event k first second) = codes "event" ∷ decimal k ∷ delivery_words d first ++ delivery_words d second
+act_words d (act.Event k first second) =
+    codes "event" ∷ decimal k ∷ delivery_words d first ++ delivery_words d second
 act_words d (act.End answer) = codes "end" ∷ end_word answer ∷ []
 act_words d act.Stop = codes "stop" ∷ []
 

@@ -38,7 +38,9 @@ unfoldable mutual
   -- each field behind a space: its name, its type's letters and its values
   pub fields_text : Fields → List ℕ
   fields_text no_fields = []
-  fields_text (field name kind vs rest) = codes " " ++ name ++ codes "=" ++ code_of kind ++ codes ":" ++ values_text vs ++ fields_text rest
+  fields_text (field name kind vs rest) =
+      codes " " ++ name ++ codes "=" ++ code_of kind ++ codes ":" ++ values_text vs
+      ++ fields_text rest
 
   -- with commas between them
   pub values_text : Values → List ℕ

@@ -1,4 +1,5 @@
--- What is noted of an entry, as the code has it, and the texts of what runners note (this project's own).
+-- What is noted of an entry, as the code has it, and the texts of what runners note (this project's
+-- own).
 use Rattle.std.specs.Prelude.{◌≡◌, ℕ, Bool, false, List, [], ◌∷◌, ◌++◌, map, Option, Some, None, if◌then◌else◌}
 use Rattle.std.specs.Option.{option_map_or}
 use Rattle.be_looper.specs.Duties.{Hand}
@@ -31,7 +32,8 @@ abbrev pub Says : Note → List Trace → Type 0
 Says note.Nothing traces = traces ≡ []
 Says (note.Word word) traces = traces ≡ noted word.now ∷ []
 Says (note.Got said) traces = (m : Message) × (IsSaid said m × (traces ≡ got m ∷ []))
-Says (note.Took n taken) traces = (hand : Hand Message) × (Tells taken hand × (traces ≡ took n hand ∷ []))
+Says (note.Took n taken) traces =
+    (hand : Hand Message) × (Tells taken hand × (traces ≡ took n hand ∷ []))
 Says (note.Listed views) traces = traces ≡ map (λ p. listed p.0 p.1) views.now
 Says (note.Replied said) traces = (m : Message) × (IsSaid said m × (traces ≡ replied m ∷ []))
 
@@ -41,7 +43,8 @@ abbrev pub text_by : Declared → Option Runner → List Trace → List ℕ
 text_by d (Some who) traces = noted_text d who traces
 text_by d None traces = []
 
--- the lines of what the maker of an entry notes of it, in the state before it; other activities note nothing
+-- the lines of what the maker of an entry notes of it, in the state before it; other activities note
+-- nothing
 abbrev pub entry_text : Declared → State → Entry → List ℕ
 entry_text d s e = text_by d (runner_at d e.actor) (maker_trace d s e)
 
@@ -52,7 +55,8 @@ is_made_by d who e = option_map_or (same_runner who) (runner_at d e.actor) false
 -- the texts of the runner's own entries, one behind the other, from the state s on
 unfoldable pub own_texts_from : Declared → Runner → State → List Entry → List ℕ
 own_texts_from d who s [] = []
-own_texts_from d who s (e ∷ es) = (if is_made_by d who e then entry_text d s e else []) ++ own_texts_from d who (step d s e) es
+own_texts_from d who s (e ∷ es) =
+    (if is_made_by d who e then entry_text d s e else []) ++ own_texts_from d who (step d s e) es
 
 -- ---- a history
 

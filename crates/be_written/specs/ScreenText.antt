@@ -1,5 +1,5 @@
--- The text of a screen, as the report has it: its rows, each as its longest runs of one colour (this
--- project's own).
+-- The text of a screen, as the report has it: its rows, each as its longest runs of one colour
+-- (this project's own).
 use Rattle.std.specs.Prelude.{ℕ, zero, suc, ◌+◌, ◌==◌, ◌&&◌, Bool, List, [], ◌∷◌, ◌++◌, map, take, drop, codes, if◌then◌else◌}
 use Rattle.std.specs.Fmt.{decimal}
 use Rattle.be_color.specs.declared.colors.Rgb.{Rgb}
@@ -18,7 +18,9 @@ same_rgb a b = (a.red == b.red) && (a.green == b.green) && (a.blue == b.blue)
 -- one more pixel before the runs: it makes the first run longer, or a run of its own
 abbrev pub before_runs : Rgb → List Colored → List Colored
 before_runs rgb [] = record { count = 1; rgb = rgb } ∷ []
-before_runs rgb (r ∷ rs) = if same_rgb rgb r.rgb then record { count = r.count + 1; rgb = rgb } ∷ rs else record { count = 1; rgb = rgb } ∷ r ∷ rs
+before_runs rgb (r ∷ rs) =
+    if same_rgb rgb r.rgb then record { count = r.count + 1; rgb = rgb } ∷ rs
+    else record { count = 1; rgb = rgb } ∷ r ∷ rs
 
 unfoldable pub runs_of : List Cell → List Colored
 runs_of [] = []
@@ -33,8 +35,10 @@ row_text y row = line_of (decimal y ∷ map run_word (runs_of row))
 -- n rows of a screen, of which the first is row y
 unfoldable pub rows_from : ℕ → ℕ → ℕ → List Cell → List ℕ
 rows_from width y zero cells = []
-rows_from width y (suc n) cells = row_text y (take width cells) ++ rows_from width (y + 1) n (drop width cells)
+rows_from width y (suc n) cells =
+    row_text y (take width cells) ++ rows_from width (y + 1) n (drop width cells)
 
 -- its size, and its rows
 unfoldable pub screen_text : ℕ → ℕ → List Cell → List ℕ
-screen_text width height cells = line_of (codes "screen" ∷ decimal width ∷ decimal height ∷ []) ++ rows_from width 0 height cells
+screen_text width height cells =
+    line_of (codes "screen" ∷ decimal width ∷ decimal height ∷ []) ++ rows_from width 0 height cells

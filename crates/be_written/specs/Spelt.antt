@@ -16,7 +16,8 @@ IsSaid (said.Spelt bytes) body = Spells bytes.now body
 
 -- ---- what bytes begin with, messages in it being at most so many deep
 
-pub record StartsDatum (bytes : List ℕ) (levels : ℕ) (kind : Kind) (d : Datum) (behind : List ℕ) : Type 0 where
+pub record StartsDatum (bytes : List ℕ) (levels : ℕ) (kind : Kind) (d : Datum) (behind : List ℕ)
+    : Type 0 where
   pub front : List ℕ
   pub parts : bytes ≡ front ++ behind
   pub spells : SpellsDatum front d
@@ -24,7 +25,8 @@ pub record StartsDatum (bytes : List ℕ) (levels : ℕ) (kind : Kind) (d : Datu
   pub deep : datum_depth d ≤ levels
 
 -- so many values of one type
-pub record StartsValues (bytes : List ℕ) (levels : ℕ) (kind : Kind) (count : ℕ) (vs : Values) (behind : List ℕ) : Type 0 where
+pub record StartsValues (bytes : List ℕ) (levels : ℕ) (kind : Kind) (count : ℕ) (vs : Values)
+    (behind : List ℕ) : Type 0 where
   pub front : List ℕ
   pub parts : bytes ≡ front ++ behind
   pub spells : SpellsValues kind front vs
@@ -32,14 +34,17 @@ pub record StartsValues (bytes : List ℕ) (levels : ℕ) (kind : Kind) (count :
   pub deep : values_depth vs ≤ levels
 
 -- a field with its values
-pub record StartsField (bytes : List ℕ) (levels : ℕ) (name : List ℕ) (kind : Kind) (vs : Values) (behind : List ℕ) : Type 0 where
+pub record StartsField (bytes : List ℕ) (levels : ℕ) (name : List ℕ) (kind : Kind) (vs : Values)
+    (behind : List ℕ) : Type 0 where
   pub values : List ℕ
-  pub parts : bytes ≡ code_of kind ++ (length name ∷ (name ++ (value_count vs ∷ (values ++ behind))))
+  pub parts : bytes
+      ≡ code_of kind ++ (length name ∷ (name ++ (value_count vs ∷ (values ++ behind))))
   pub spells : SpellsValues kind values vs
   pub deep : values_depth vs ≤ levels
 
 -- so many fields
-pub record StartsFields (bytes : List ℕ) (levels count : ℕ) (fs : Fields) (behind : List ℕ) : Type 0 where
+pub record StartsFields (bytes : List ℕ) (levels count : ℕ) (fs : Fields) (behind : List ℕ)
+    : Type 0 where
   pub front : List ℕ
   pub parts : bytes ≡ front ++ behind
   pub spells : SpellsFields front fs

@@ -57,7 +57,9 @@ listed_name d (looper w) v = view_name d w v
 listed_name d (app m) v = []
 
 abbrev pub edge_words : Rect → List (List ℕ)
-edge_words r = signed_decimal r.left ∷ signed_decimal r.top ∷ signed_decimal r.right ∷ signed_decimal r.bottom ∷ []
+edge_words r =
+    signed_decimal r.left ∷ signed_decimal r.top ∷ signed_decimal r.right
+    ∷ signed_decimal r.bottom ∷ []
 
 abbrev pub trace_words : Declared → Runner → Trace → List (List ℕ)
 trace_words d who (noted word) = codes "note" ∷ word ∷ []
@@ -77,10 +79,13 @@ runner_text d h kind who name =
 
 -- all applications, and all loopers
 unfoldable pub apps_text : Declared → List Entry → List ℕ
-apps_text d h = flat_map (λ p. runner_text d h (codes "app") (app p.0) p.1) (enumerate_from 0 (app_names d))
+apps_text d h =
+    flat_map (λ p. runner_text d h (codes "app") (app p.0) p.1) (enumerate_from 0 (app_names d))
 
 unfoldable pub loopers_text : Declared → List Entry → List ℕ
-loopers_text d h = flat_map (λ p. runner_text d h (codes "loop") (looper p.0) p.1) (enumerate_from 0 (window_names d))
+loopers_text d h =
+    flat_map (λ p. runner_text d h (codes "loop") (looper p.0) p.1)
+    (enumerate_from 0 (window_names d))
 
 unfoldable pub traces_text : Declared → List Entry → List ℕ
 traces_text d h = line_of (codes "traces" ∷ []) ++ apps_text d h ++ loopers_text d h

@@ -1,7 +1,7 @@
 //! How far cells of one colour lie side by side.
 ghost use Rattle.std.specs.Prelude.{◌≡◌, ◌<◌, ◌≤◌, true, length, Some};
 ghost use Rattle.be_color.specs.declared.colors.Rgb.{Rgb};
-ghost use Rattle.be_written.specs.Screens.{AreColored, rgb_at};
+ghost use Rattle.be_written.specs.Screens.{AreColored, rgb_at, tone};
 
 use be_color::Rgb;
 use be_span::Cell;
@@ -43,13 +43,26 @@ fn blocks_end(cells: &[Cell], place: usize, rgb: Rgb) -> usize
     end
 }
 
-/// Whether all cells have this colour.
+/// Whether all cells have this colour. No cell decides alone, so several are compared at once.
 fn is_plain(cells: &[Cell], rgb: Rgb) -> bool
     ensures { result ≡ true → AreColored cells.now 0 (length cells.now) rgb }
 {
-    let mut plain = true;
+    let sought = word(Cell { rgb, dirty: false });
+    let mut other = 0;
     for cell in cells {
-        plain &= cell.rgb == rgb;
+        other |= word(*cell) ^ sought;
     }
-    plain
+    other % (1 << 24) == 0
+}
+
+/// The cell's bytes as one number, those of its colour lowest.
+fn word(cell: Cell) -> u32
+    ensures { cell.rgb ≡ tone result }
+{
+    u32::from_le_bytes([
+        cell.rgb.red,
+        cell.rgb.green,
+        cell.rgb.blue,
+        u8::from(cell.dirty),
+    ])
 }
