@@ -4,23 +4,25 @@
 //! No clause of a run rests on who sleeps and who is woken, so nothing is said of either.
 #![tactic(auto)]
 
+mod bell;
+
 use be_geom::NoMemory;
+use bell::Bell;
 use std::alloc::Global;
 use std::sync::Wait;
 use std::sync::atomic::{AtomicU64, Ordering};
 
 /// A bell for each activity, watchers for each place, and who is awake and who has begun.
 ///
-/// A bell's lowest bit is 1 while its worker sleeps or is about to. The other bits count how often
-/// it was rung. A worker that hasn't begun counts as awake.
+/// A worker that hasn't begun counts as awake, and so does one that was woken and has yet to run.
 #[derive(Drop)]
 pub struct Bells {
-    bells: Vec<AtomicU64>,
+    bells: Vec<Bell>,
     // Two words for each place: a bit for each activity.
     watchers: Vec<AtomicU64>,
+    // Two words for each activity: a bit for each that it rang and left asleep.
+    left: Vec<AtomicU64>,
     awake: AtomicU64,
-    // For each activity 1 once its worker has begun, and for how many it is 0.
-    begun: Vec<AtomicU64>,
     unbegun: AtomicU64,
     activities: u32,
 }
@@ -28,11 +30,15 @@ pub struct Bells {
 impl Bells {
     /// All workers are awake, and none has begun. There are at most 128 activities.
     pub fn new(alloc: Global, activities: u32, places: u32) -> Result<Bells, NoMemory> {
+        let mut bells = Vec::with_capacity(alloc, activities as usize)?;
+        for _ in 0..activities {
+            bells.push(Bell::new())?;
+        }
         Ok(Bells {
-            bells: words(alloc, activities as usize)?,
+            bells,
             watchers: words(alloc, places as usize * 2)?,
+            left: words(alloc, activities as usize * 2)?,
             awake: AtomicU64::new(u64::from(activities)),
-            begun: words(alloc, activities as usize)?,
             unbegun: AtomicU64::new(u64::from(activities)),
             activities,
         })
@@ -40,16 +46,16 @@ impl Bells {
 
     /// The activity's worker has begun.
     pub fn begin(&self, who: u32) {
-        if let Some(word) = self.begun.get(who as usize) {
-            if word.swap(1, Ordering::SeqCst) == 0 {
+        if let Some(bell) = self.bells.get(who as usize) {
+            if bell.begin() {
                 self.unbegun.fetch_sub(1, Ordering::SeqCst);
             }
         }
     }
 
     pub fn has_begun(&self, who: u32) -> bool {
-        match self.begun.get(who as usize) {
-            Some(word) => word.load(Ordering::SeqCst) == 1,
+        match self.bells.get(who as usize) {
+            Some(bell) => bell.has_begun(),
             None => true,
         }
     }
@@ -61,45 +67,65 @@ impl Bells {
     /// What the activity's bell shows. It is asked for before the turn takes parts.
     pub fn shown(&self, who: u32) -> u64 {
         match self.bells.get(who as usize) {
-            Some(bell) => bell.load(Ordering::SeqCst),
+            Some(bell) => bell.shown(),
             None => 0,
         }
     }
 
-    /// The activity looks at this place, which its pass has in hand: whoever changes it rings.
+    /// The activity looks at this place, which its pass has in hand: whoever changes it rings. The
+    /// closing one is rung when all others sleep, and by no change.
     pub fn watch(&self, who: u32, place: u32) {
-        if let Some(word) = self.watchers.get(place as usize * 2 + who as usize / 64) {
-            // No other thread has the place, so none writes this word meanwhile.
-            let seen = word.load(Ordering::SeqCst);
-            word.store(seen | 1 << (who % 64), Ordering::SeqCst);
+        if who != self.activities.saturating_sub(1) {
+            add_bit(&self.watchers, place, who);
         }
     }
 
-    /// Rings the bells of those that look at this place, which the caller has changed and has in
-    /// hand.
-    pub fn changed(&self, place: u32) {
+    /// The worker made an entry.
+    pub fn made(&self, who: u32) {
+        if let Some(bell) = self.bells.get(who as usize) {
+            bell.made();
+        }
+    }
+
+    /// Rings the bells of those that look at this place, which the worker has changed and has in
+    /// hand. One that was woken for nothing again and again is left asleep for some rings.
+    pub fn changed(&self, who: u32, place: u32) {
         for half in 0..2u32 {
             let Some(word) = self.watchers.get(place as usize * 2 + half as usize) else {
                 return;
             };
-            if word.load(Ordering::SeqCst) == 0 {
+            let watching = word.load(Ordering::SeqCst);
+            if watching == 0 {
                 continue;
             }
-            let watching = word.swap(0, Ordering::SeqCst);
+            let mut still = 0;
             for bit in 0..64u32 {
-                if (watching >> bit) % 2 == 1 {
-                    self.ring(half * 64 + bit);
+                if (watching >> bit) % 2 == 1 && self.leaves_asleep(who, half * 64 + bit) {
+                    still |= 1 << bit;
                 }
             }
+            word.store(still, Ordering::SeqCst);
         }
+    }
+
+    // Rings a bell. Whether its worker is left asleep: then it is woken before this one sleeps.
+    fn leaves_asleep(&self, who: u32, other: u32) -> bool {
+        let Some(bell) = self.bells.get(other as usize) else {
+            return false;
+        };
+        let rung = bell.ring();
+        if bell.sleeps_on(rung) {
+            add_bit(&self.left, who, other);
+            return true;
+        }
+        self.wake(bell, rung);
+        false
     }
 
     /// Rings one bell, and wakes its worker where that sleeps.
     pub fn ring(&self, who: u32) {
         if let Some(bell) = self.bells.get(who as usize) {
-            if bell.fetch_add(2, Ordering::SeqCst) % 2 == 1 {
-                bell.wake_one();
-            }
+            self.wake(bell, bell.ring());
         }
     }
 
@@ -110,45 +136,91 @@ impl Bells {
         }
     }
 
+    // Wakes a worker whose bell shows this, unless it is awake.
+    fn wake(&self, bell: &Bell, shown: u64) {
+        if bell.rouse(shown) {
+            self.awake.fetch_add(1, Ordering::SeqCst);
+            bell.wake_one();
+        }
+    }
+
+    // Wakes those that the worker rang and left asleep.
+    fn wake_left(&self, who: u32) {
+        for half in 0..2u32 {
+            let Some(word) = self.left.get(who as usize * 2 + half as usize) else {
+                return;
+            };
+            let left = word.load(Ordering::SeqCst);
+            if left == 0 {
+                continue;
+            }
+            word.store(0, Ordering::SeqCst);
+            for bit in 0..64u32 {
+                if (left >> bit) % 2 == 1 {
+                    if let Some(bell) = self.bells.get(half as usize * 64 + bit as usize) {
+                        self.wake(bell, bell.shown());
+                    }
+                }
+            }
+        }
+    }
+
     /// Sleeps until the bell is rung, if it still shows this. The last to fall asleep rings for the
-    /// closing one.
+    /// closing one. Who would leave nobody awake to go on stays awake: the closing one, and anyone
+    /// before that has begun.
     pub fn sleep<R: Wait>(&self, rt: &R, who: u32, shown: u64) {
+        self.wake_left(who);
         let Some(bell) = self.bells.get(who as usize) else {
             return;
         };
-        let asleep = shown | 1;
-        if bell
-            .compare_exchange(shown, asleep, Ordering::SeqCst, Ordering::SeqCst)
-            .is_err()
-        {
+        if !bell.lie_down(shown) {
             return;
         }
-        self.leave(who);
-        for _ in rt.forever() {
-            if bell.load(Ordering::SeqCst) != asleep {
-                break;
-            }
-            bell.park(rt, (asleep % 4294967296) as u32);
+        if self.is_last_to_go() && !self.ring_closing(who) && bell.rouse(shown | 1) {
+            self.awake.fetch_add(1, Ordering::SeqCst);
+            return;
         }
-        bell.fetch_sub(1, Ordering::SeqCst);
-        self.awake.fetch_add(1, Ordering::SeqCst);
+        bell.sleep(rt);
     }
 
-    /// This worker is awake no more. Where one other at most is awake, it rings for the closing
-    /// one, which does not ring for itself.
+    /// This worker has ended. Where it leaves nobody awake it rings for the closing one, and before
+    /// that has begun for everyone.
     pub fn leave(&self, who: u32) {
-        let awake = self.awake.fetch_sub(1, Ordering::SeqCst);
-        let unbegun = self.unbegun.load(Ordering::SeqCst);
-        let last = self.activities.saturating_sub(1);
-        if who != last && awake <= unbegun.saturating_add(2) {
-            self.ring(last);
+        self.wake_left(who);
+        if self.is_last_to_go() && !self.ring_closing(who) {
+            self.ring_all();
         }
+    }
+
+    // The caller is awake no more. Whether no other is, of those that have begun: of two that go at
+    // once the later one is told so.
+    fn is_last_to_go(&self) -> bool {
+        let awake = self.awake.fetch_sub(1, Ordering::SeqCst);
+        awake <= self.unbegun.load(Ordering::SeqCst).saturating_add(1)
+    }
+
+    // Rings for the closing worker, if that is another one and has begun.
+    fn ring_closing(&self, who: u32) -> bool {
+        let closing = self.activities.saturating_sub(1);
+        if who == closing || !self.has_begun(closing) {
+            return false;
+        }
+        self.ring(closing);
+        true
     }
 
     /// Whether nobody but the caller is awake, of those that have begun.
     pub fn is_quiet(&self) -> bool {
         let unbegun = self.unbegun.load(Ordering::SeqCst);
         self.awake.load(Ordering::SeqCst) <= unbegun.saturating_add(1)
+    }
+}
+
+// Sets a bit in the two words of one number. No other thread writes them meanwhile.
+fn add_bit(words: &[AtomicU64], number: u32, bit: u32) {
+    if let Some(word) = words.get(number as usize * 2 + bit as usize / 64) {
+        let seen = word.load(Ordering::SeqCst);
+        word.store(seen | 1 << (bit % 64), Ordering::SeqCst);
     }
 }
 

@@ -86,8 +86,9 @@ fn ask<G: Gate, W: Turns + Drop>(
 fn tell(bells: &Bells, watcher: u32, places: &[u32], asked: &Result<Asked, NoMemory>) {
     match asked {
         Ok(Asked::Came(Did::Made | Did::Closed)) => {
+            bells.made(watcher);
             for place in places {
-                bells.changed(*place);
+                bells.changed(watcher, *place);
             }
         }
         Ok(Asked::Came(Did::Nothing)) => {

@@ -34,7 +34,7 @@ pub struct Worker<W: Turns> {
     pub pass: Pass<W>,
     pub wants: Wants,
     pub end: End,
-    /// How often it still looks whether the closing worker begins before it stands in for others.
+    /// How often it still looks whether others begin before it stands in for them.
     pub(crate) patience: u32,
 }
 
@@ -43,8 +43,8 @@ pub struct Worker<W: Turns> {
 // they look.
 const LOOKS: u32 = 2;
 
-// How often a worker looks whether the closing worker begins. That takes some milliseconds, and
-// threads start in less, but where none can be started.
+// How often a worker looks whether others begin: the closing one whether all do, the others whether
+// the closing one does. That takes some milliseconds, and threads start in less.
 pub(crate) const PATIENCE: u32 = 10_000;
 
 impl<W: Turns + Drop> Worker<W> {
@@ -69,15 +69,14 @@ impl<W: Turns + Drop> Worker<W> {
             if hall.stopped(&mut self.pass) {
                 return End::Over;
             }
-            if who == closing && !tools.bells.is_quiet() {
-                tools.bells.sleep(tools.rt, who, shown);
+            if who == closing && holds_back(tools, closing, shown, &mut self.patience) {
                 continue;
             }
             match self.step(tools, hall) {
                 Ok(Did::Made) => {}
                 Ok(Did::Nothing) => {
                     self.patience = self.patience.saturating_sub(1);
-                    pause(tools, who, closing, shown);
+                    pause(tools, who, shown);
                 }
                 Ok(Did::Over) => return End::Over,
                 Ok(Did::Closed) => {
@@ -173,19 +172,36 @@ impl<W: Turns + Drop> Worker<W> {
     }
 }
 
+// The closing worker waits while others begin, but not for ever, and sleeps while others are awake.
+// Whether it did either.
+fn holds_back<R: Wait, G>(
+    tools: &Tools<'_, R, G>,
+    closing: u32,
+    shown: u64,
+    patience: &mut u32,
+) -> bool {
+    if *patience > 0 && !tools.bells.all_begun() {
+        *patience -= 1;
+        thread::yield_now();
+        return true;
+    }
+    if tools.bells.is_quiet() {
+        return false;
+    }
+    tools.bells.sleep(tools.rt, closing, shown);
+    true
+}
+
 // Lets others run until the bell is rung, and sleeps after some such looks. Who changes a part
-// rings those that look at it, and the last to fall asleep rings the closing worker: while that
-// hasn't begun nobody sleeps.
-fn pause<R: Wait, G>(tools: &Tools<'_, R, G>, who: u32, closing: u32, shown: u64) {
+// rings those that look at it.
+fn pause<R: Wait, G>(tools: &Tools<'_, R, G>, who: u32, shown: u64) {
     for _look in 0..LOOKS {
         if tools.bells.shown(who) != shown {
             return;
         }
         thread::yield_now();
     }
-    if tools.bells.has_begun(closing) {
-        tools.bells.sleep(tools.rt, who, shown);
-    }
+    tools.bells.sleep(tools.rt, who, shown);
 }
 
 // Tells all workers to stop, and wakes them.
