@@ -17,8 +17,8 @@ use Rattle.be_machine.specs.Orderly.{EndsInStop}
 use Rattle.be_machine.specs.State.{opening_state}
 use Rattle.be_machine.specs.Step.{step}
 use Rattle.be_machine.specs.declared.Entry.{Entry}
-use Rattle.be_noted.proofs.Following.{follows_opening, state_opening}
-use Rattle.be_noted.specs.Following.{Follows, now_of, state_in}
+use Rattle.be_check.proofs.Following.{follows_opening, state_opening}
+use Rattle.be_check.specs.Following.{Follows, now_of, state_in}
 use Rattle.be_parts.specs.Parts.{log_of, meaning_of}
 use Rattle.be_parts.specs.declared.part.Part.{Part}
 use Rattle.be_rules.proofs.Lawfully.{back}

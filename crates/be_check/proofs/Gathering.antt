@@ -10,7 +10,7 @@ use Rattle.be_machine.specs.State.{Looper, State, opening_state}
 use Rattle.be_machine.specs.Touched as part
 use Rattle.be_machine.specs.declared.Entry.{Entry}
 use Rattle.be_message.specs.Messages.{Message}
-use Rattle.be_noted.specs.Following.{now_of, state_in}
+use Rattle.be_check.specs.Following.{now_of, state_in}
 use Rattle.be_parts.specs.Kept.{Kept}
 use Rattle.be_parts.specs.Loopers.{owner_in, owner_of}
 use Rattle.be_parts.specs.Stands.{PortIs}

@@ -1,3 +1,5 @@
+pub mod Whole
+pub mod Following
 pub mod Trying
 pub mod Coming
 pub mod Illegal

@@ -17,8 +17,8 @@ use Rattle.be_machine.specs.Pixels.{color_at, owner_in, pixel_at}
 use Rattle.be_machine.specs.State.{State}
 use Rattle.be_machine.specs.Touched as part
 use Rattle.be_machine.specs.Windows.{owned, width_of}
-use Rattle.be_noted.proofs.Whole.{fits_from, held_at}
-use Rattle.be_noted.specs.Following.{now_of, state_in}
+use Rattle.be_check.proofs.Whole.{fits_from, held_at}
+use Rattle.be_check.specs.Following.{now_of, state_in}
 use Rattle.be_pane.specs.declared.pane.Pane.{Pane}
 use Rattle.be_parts.specs.Kept.{Kept}
 use Rattle.be_parts.specs.Parts.{meaning_of}

@@ -18,12 +18,12 @@ use Rattle.be_machine.specs.Orderly.{EndsInStop}
 use Rattle.be_machine.specs.State.{opening_state}
 use Rattle.be_machine.specs.Step.{step}
 use Rattle.be_machine.specs.declared.Entry.{Entry}
-use Rattle.be_noted.proofs.Following.{fits_last, one_more, state_then}
+use Rattle.be_check.proofs.Following.{fits_last, one_more, state_then}
 use Rattle.be_noted.proofs.Lawful.{means_of}
 use Rattle.be_noted.specs.NotingLaws.{noting_is_lawful}
-use Rattle.be_noted.proofs.Whole.{each_appended, fits_from, held_at, is_above}
-use Rattle.be_noted.proofs.Whole.{numbered_means, same_firsts, whole}
-use Rattle.be_noted.specs.Following.{Follows, now_of, state_in}
+use Rattle.be_check.proofs.Whole.{each_appended, fits_from, held_at, is_above}
+use Rattle.be_check.proofs.Whole.{numbered_means, same_firsts, whole}
+use Rattle.be_check.specs.Following.{Follows, now_of, state_in}
 use Rattle.be_noted.specs.Noting.{IsNotedVerdict, noted_entry, noted_of, noted_seen}
 use Rattle.be_noted.specs.Noting.{noting_machine, told_of}
 use Rattle.be_noted.specs.declared.parts.NotedEntry.{NotedEntry}

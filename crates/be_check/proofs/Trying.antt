@@ -14,8 +14,8 @@ use Rattle.be_machine.specs.State.{State}
 use Rattle.be_machine.specs.Step.{step}
 use Rattle.be_machine.specs.Touched as part
 use Rattle.be_machine.specs.declared.Entry.{Entry}
-use Rattle.be_noted.proofs.Following.{all_held, fits_now, follows, now_is, state_then}
-use Rattle.be_noted.specs.Following.{Follows, now_of, state_in}
+use Rattle.be_check.proofs.Following.{all_held, fits_now, follows, now_is, state_then}
+use Rattle.be_check.specs.Following.{Follows, now_of, state_in}
 use Rattle.be_parts.specs.Parts.{log_of, meaning_of, spare_of}
 use Rattle.be_parts.specs.declared.part.Part.{Part}
 use Rattle.be_rules.proofs.Keepers.{kept_there, own_of}

@@ -11,7 +11,7 @@ use Rattle.be_machine.specs.Pixels.{color_at}
 use Rattle.be_machine.specs.State.{opening_state}
 use Rattle.be_machine.specs.Step.{step}
 use Rattle.be_machine.specs.declared.Entry.{Entry}
-use Rattle.be_noted.specs.Following.{state_in}
+use Rattle.be_check.specs.Following.{state_in}
 use Rattle.be_parts.specs.declared.part.Part.{Part}
 use Rattle.be_script.specs.Script.{Declared}
 use Rattle.be_check.specs.Explaining.{explained, last_change, last_from, same_color}

@@ -1,3 +1,4 @@
+pub mod Following
 pub mod Checking
 pub mod Explaining
 pub mod Stepping

@@ -4,7 +4,7 @@ use Rattle.be_hall.specs.Hands.{places_of, up_from}
 use Rattle.be_machine.specs.Legal.{IsLegal}
 use Rattle.be_machine.specs.Step.{step}
 use Rattle.be_machine.specs.declared.Entry.{Entry}
-use Rattle.be_noted.specs.Following.{Follows, now_of, state_in}
+use Rattle.be_check.specs.Following.{Follows, now_of, state_in}
 use Rattle.be_noted.specs.Noting.{noted_of, noting_machine}
 use Rattle.be_noting.specs.Noting.{Noted}
 use Rattle.be_parts.specs.declared.part.Part.{Part}

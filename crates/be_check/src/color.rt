@@ -4,7 +4,7 @@ ghost use Rattle.be_check.specs.Stepping.{HasAll};
 ghost use Rattle.be_desk.specs.Desks.{desk_of};
 ghost use Rattle.be_machine.specs.Pixels.{color_at};
 ghost use Rattle.be_machine.specs.Touched as part;
-ghost use Rattle.be_noted.specs.Following.{state_in};
+ghost use Rattle.be_check.specs.Following.{state_in};
 ghost use Rattle.be_parts.specs.Stands.{PaneIs};
 ghost use Rattle.be_rules.specs.Slices.{slice_of};
 ghost use Rattle.be_script.specs.Script.{declared_by};

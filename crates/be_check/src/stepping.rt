@@ -2,7 +2,7 @@
 ghost use Rattle.std.specs.Prelude.{◌↔◌, IfOk, IsTrue};
 ghost use Rattle.be_check.specs.Stepping.{IsTriedNoted, IsTried};
 ghost use Rattle.be_machine.specs.Orderly.{EndsInStop};
-ghost use Rattle.be_noted.specs.Following.{Follows};
+ghost use Rattle.be_check.specs.Following.{Follows};
 
 use be_geom::NoMemory;
 use be_hall::{Held, Parts, Verdict};

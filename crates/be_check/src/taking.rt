@@ -8,7 +8,7 @@ ghost use Rattle.be_check.specs.Stepping.{HasAll};
 ghost use Rattle.be_check.specs.Taking.{looper_in, IsFrontPort, TakesNow};
 ghost use Rattle.be_machine.specs.Activities.{activity_of};
 ghost use Rattle.be_machine.specs.History.{IsFinished};
-ghost use Rattle.be_noted.specs.Following.{state_in};
+ghost use Rattle.be_check.specs.Following.{state_in};
 ghost use Rattle.be_parts.specs.Loopers.{owner_in};
 ghost use Rattle.be_pressed.specs.Taken.{letters_taken, taken_from};
 ghost use Rattle.be_script.specs.Limits.{IsWithinLimits};

@@ -4,7 +4,7 @@ ghost use Rattle.be_check.specs.Explaining.{same_color};
 ghost use Rattle.be_check.specs.Stepping.{HasAll};
 ghost use Rattle.be_machine.specs.PixelLaws.{is_painting};
 ghost use Rattle.be_machine.specs.Pixels.{color_at};
-ghost use Rattle.be_noted.specs.Following.{state_in};
+ghost use Rattle.be_check.specs.Following.{state_in};
 ghost use Rattle.be_script.specs.Script.{declared_by};
 
 use crate::color::color_of;

@@ -1,5 +1,3 @@
-pub mod Whole
-pub mod Following
 pub mod Texts
 pub mod Claims
 pub mod Makers

@@ -239,12 +239,3 @@ module _ (d : Declared) (parts : List (ℕ × Part)) where
               replies e number all sound fits,
         ),
       ))
-
-  pub word_noted : (r : Runner) (q : Request) → IsAllowed d parts (who.Runner r) (want.Asks r q)
-      → (word : Bor (List ℕ)) → q ≡ request.Note word → (bytes : Bor (List ℕ))
-      → bytes.now ≡ word.now → (text : List ℕ) → IsTextOf d r (note.Word bytes) text
-      → IsNoted d parts (who.Runner r) text
-  word_noted r q allowed word asks bytes same text is =
-      noted_as d parts r (note.Word bytes) text is
-      (λ e number all sound fits. asked_trace d parts r q allowed (request.Note word) asks e number
-      all sound fits ∙ ap (λ w. noted w ∷ []) (sym same))

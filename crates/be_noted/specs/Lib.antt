@@ -1,5 +1,4 @@
 pub mod Listed
-pub mod Following
 pub mod Noted
 pub mod Noting
 pub mod NotingLaws

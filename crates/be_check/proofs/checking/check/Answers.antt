@@ -3,7 +3,7 @@ use Rattle.std.proofs.Common.{refl, sym, subst, ◌∙◌, arith}
 use Rattle.be_machine.specs.History.{IsFinished, state_after}
 use Rattle.be_machine.specs.declared.Entry.{Entry}
 use Rattle.be_noted.proofs.Lawful.{budgets_of, means_of}
-use Rattle.be_noted.specs.Following.{Follows}
+use Rattle.be_check.specs.Following.{Follows}
 use Rattle.be_parts.specs.Parts.{meaning_of}
 use Rattle.be_rules.specs.Rules.{IsSound}
 use Rattle.be_rules.specs.Slices.{slices}

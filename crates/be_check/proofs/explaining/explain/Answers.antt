@@ -2,7 +2,7 @@ use Rattle.std.proofs.Common.{◌≡◌, ℕ, ◌+◌, Bool, true, false, length
 use Rattle.std.proofs.Common.{refl, sym, ap, subst, ◌∙◌, arith, rules}
 use Rattle.std.specs.Prelude.{pos}
 use Rattle.be_machine.specs.Pixels.{color_at}
-use Rattle.be_noted.specs.Following.{state_in}
+use Rattle.be_check.specs.Following.{state_in}
 use Rattle.be_script.specs.Script.{Declared, declared_by}
 use Rattle.be_check.specs.Stepping.{IsMade, IsTried}
 use Rattle.be_check.proofs.Coming.{come_further, come_opening, illegal_here, is_finished}

@@ -1,5 +1,5 @@
 use Rattle.std.proofs.Common.{arith}
-use Rattle.be_noted.proofs.Following.{above, fits_last, one_more, permitted, some_fits, some_mid}
+use Rattle.be_check.proofs.Following.{above, fits_last, one_more, permitted, some_fits, some_mid}
 use Rattle.be_check.proofs.Trying.{is_legal, is_made, never_needs, not_legal}
 use Rattle.be_check.proofs.stepping.make_if_legal.Goals as goal
 

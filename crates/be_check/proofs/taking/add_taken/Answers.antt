@@ -1,7 +1,7 @@
 use Rattle.std.proofs.Common.{refl}
 use Rattle.std.proofs.lemmas.Result.{on_ok_weaker}
 use Rattle.be_asking.proofs.Takes.{owned}
-use Rattle.be_noted.specs.Following.{state_in}
+use Rattle.be_check.specs.Following.{state_in}
 use Rattle.be_script.specs.Script.{declared_by}
 use Rattle.be_check.proofs.Takers.{takes_busy, takes_front, takes_none, window_there}
 use Rattle.be_check.proofs.taking.add_taken.Goals as goal

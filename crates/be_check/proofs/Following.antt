@@ -31,8 +31,8 @@ use Rattle.be_serial.specs.Running.{EachBefore}
 use Rattle.be_world.specs.Preparing.{IsPreparedEntry, entry_in, seen_in}
 use Rattle.be_world.specs.Suits.{MayStep}
 use Rattle.be_world.specs.declared.preparing.ReadyEntry.{ReadyEntry}
-use Rattle.be_noted.specs.Following.{Follows, SameHand, now_of, state_in}
-use Rattle.be_noted.proofs.Whole.{each_appended, fits_from, held_at, is_above, numbered_fit, numbered_logs, numbered_means, numbered_places, same_firsts, same_seconds, whole}
+use Rattle.be_check.specs.Following.{Follows, SameHand, now_of, state_in}
+use Rattle.be_check.proofs.Whole.{each_appended, fits_from, held_at, is_above, numbered_fit, numbered_logs, numbered_means, numbered_places, same_firsts, same_seconds, whole}
 
 module _ (d : Declared) (parts : List (ℕ × Part)) (n : ℕ) (f : Follows d parts n) where
   abbrev pub held : List (ℕ × Slice)
