@@ -1,4 +1,5 @@
-//! A script's run in which whoever makes an entry keeps what it notes of it: the lines of its trace.
+//! A script's run in which whoever makes an entry keeps what it notes of it: the lines of its
+//! trace.
 //!
 //! The lines are text, known before the entry from the parts in hand and from what was made for the
 //! entry, and are kept by the part that keeps the entry. So a run leaves its traces beside its

@@ -56,10 +56,14 @@ abbrev pub spelt : {X : Type 0} → (X → List ℕ) → X → List ℕ × X
 spelt word x = (word x, x)
 
 abbrev pub replies : List (List ℕ × Replied)
-replies = spelt replied_word reply.Accepted ∷ spelt replied_word reply.Duplicate ∷ spelt replied_word reply.Unwanted ∷ []
+replies =
+    spelt replied_word reply.Accepted ∷ spelt replied_word reply.Duplicate
+    ∷ spelt replied_word reply.Unwanted ∷ []
 
 abbrev pub answers : List (List ℕ × Answered)
-answers = spelt answered_word answered.Reply ∷ spelt answered_word answered.NoReply ∷ spelt answered_word answered.Unknown ∷ []
+answers =
+    spelt answered_word answered.Reply ∷ spelt answered_word answered.NoReply
+    ∷ spelt answered_word answered.Unknown ∷ []
 
 abbrev pub outcomes : List (List ℕ × Outcome)
 outcomes =
@@ -120,7 +124,8 @@ act_of d kind.Exec = count >>= λ n. one_of outcomes >>= λ outcome. gives (act.
 act_of d kind.Notify = count >>= λ n. gives (act.Notify n)
 act_of d kind.Begin = one_of begins >>= λ opens. gives (act.Begin opens)
 act_of d kind.Event =
-    count >>= λ k. optional (delivery d) >>= λ first. optional (delivery d) >>= λ second. gives (act.Event k first second)
+    count >>= λ k. optional (delivery d) >>= λ first. optional (delivery d) >>= λ second.
+    gives (act.Event k first second)
 act_of d kind.End = one_of ends >>= λ answer. gives (act.End answer)
 act_of d kind.Stop = gives act.Stop
 

@@ -17,7 +17,8 @@ use Rattle.be_report.specs.Told.{told_by, entries_of}
 -- the words of an entry that can be written down say it
 abbrev pub WordsSayTheirEntry : Type 0
 WordsSayTheirEntry =
-    (d : Declared) (k : ℕ) (e : Entry) → IsWithinLimits d → IsPossible d e → entry_of d k (entry_words d k e) ≡ Some e
+    (d : Declared) (k : ℕ) (e : Entry) → IsWithinLimits d → IsPossible d e
+    → entry_of d k (entry_words d k e) ≡ Some e
 
 -- and no other words do
 abbrev pub NoOtherWords : Type 0
@@ -37,20 +38,24 @@ TextTellsHistory =
 abbrev pub OnlyItsText : Type 0
 OnlyItsText =
     (d : Declared) (h : List Entry) (text : List ℕ) → IsCount (length h) → told_by d text ≡ Some h
-    → (rest : List ℕ) × ((text ≡ history_text d h ++ line_of (codes "traces" ∷ []) ++ rest) × ArePossible d h)
+    → (rest : List ℕ)
+    × ((text ≡ history_text d h ++ line_of (codes "traces" ∷ []) ++ rest) × ArePossible d h)
 
 -- every entry of a legal history can be written down
 abbrev pub LegalIsPossible : Type 0
-LegalIsPossible = (d : Declared) (h : List Entry) → IsWithinLimits d → IsLegalHistory d h → ArePossible d h
+LegalIsPossible =
+    (d : Declared) (h : List Entry) → IsWithinLimits d → IsLegalHistory d h → ArePossible d h
 
 -- a legal history's report tells it, so different legal histories have different reports
 abbrev pub ReportTellsHistory : Type 0
 ReportTellsHistory =
-    (d : Declared) (h : List Entry) → IsWithinLimits d → IsLegalHistory d h → told_by d (report_of d h) ≡ Some h
+    (d : Declared) (h : List Entry) → IsWithinLimits d → IsLegalHistory d h
+    → told_by d (report_of d h) ≡ Some h
 
 -- ---- a text that tells none
 
 -- the line that breaks it is one of its lines or the one behind them
 abbrev pub BreaksAtALine : Type 0
 BreaksAtALine =
-    (d : Declared) (text : List ℕ) (line : ℕ) → entries_of d text ≡ Err line → (1 ≤ line) × (line ≤ length (lines_of text) + 1)
+    (d : Declared) (text : List ℕ) (line : ℕ) → entries_of d text ≡ Err line
+    → (1 ≤ line) × (line ≤ length (lines_of text) + 1)

@@ -22,7 +22,8 @@ IsSaid due (Err (line.Bad reason)) = (due ≡ None) × (reason ≡ BadEntry)
 IsSaid due (Err line.NoMemory) = Unit {0}
 
 -- the same of the words before, where these are left
-abbrev pub ReadsOr : {X : Type 0} → Reader X → List (List ℕ) → Result X LineFault → List (List ℕ) → Type 0
+abbrev pub ReadsOr : {X : Type 0}
+    → Reader X → List (List ℕ) → Result X LineFault → List (List ℕ) → Type 0
 ReadsOr read before (Ok x) after = read before ≡ Some (x, after)
 ReadsOr read before (Err (line.Bad reason)) after = (read before ≡ None) × (reason ≡ BadEntry)
 ReadsOr read before (Err line.NoMemory) after = Unit {0}

@@ -1,5 +1,5 @@
--- Entries that can be written down: their numbers fit the types of the code, and what they name is declared (this project's
--- own).
+-- Entries that can be written down: their numbers fit the types of the code, and what they name is
+-- declared (this project's own).
 use Rattle.std.specs.Prelude.{◌≡◌, true, ℕ, ◌^◌, ◌<◌, List, Option, Some, None, All, length}
 use Rattle.be_port.specs.declared.Posted.{Posted}
 use Rattle.be_port.specs.declared.Posted.TheVariants.{Accepted, WouldBlock, BadPort, TooDeep}

@@ -55,15 +55,17 @@ place_in names = next_word (number_in names)
 -- the number from 0 on that a word is, where it fits so many bits
 abbrev pub number_within : ℕ → List ℕ → Option ℕ
 number_within bits word =
-    if is_number word && between (pos 0) (number_of word) (pos (2 ^ bits - 1)) then Some (unsigned_abs (number_of word))
-    else None
+    if is_number word && between (pos 0) (number_of word) (pos (2 ^ bits - 1))
+    then Some (unsigned_abs (number_of word)) else None
 
 abbrev pub number : ℕ → Reader ℕ
 number bits = next_word (number_within bits)
 
 -- a number from 0 on, of any size
 abbrev pub natural_of : List ℕ → Option ℕ
-natural_of word = if is_number word && not (slice_index word 0 == 45) then Some (unsigned_abs (number_of word)) else None
+natural_of word =
+    if is_number word && not (slice_index word 0 == 45)
+    then Some (unsigned_abs (number_of word)) else None
 
 -- the word of a note
 abbrev pub note_of : List ℕ → Option (List ℕ)

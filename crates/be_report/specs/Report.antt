@@ -11,4 +11,5 @@ use Rattle.be_written.specs.TraceText.{traces_text}
 -- its entries, what applications and loopers note of them, and the screen that they leave
 abbrev pub report_of : Declared → List Entry → List ℕ
 report_of d h =
-    history_text d h ++ traces_text d h ++ screen_text d.width d.height (state_after d h).screen ++ line_of (codes "end" ∷ [])
+    history_text d h ++ traces_text d h ++ screen_text d.width d.height (state_after d h).screen
+    ++ line_of (codes "end" ∷ [])

@@ -1,5 +1,5 @@
--- Which history a text tells, and which line breaks it where it tells none (this project's own). The form is exact: one space
--- between words and none beside them, a line feed behind each line.
+-- Which history a text tells, and which line breaks it where it tells none (this project's own).
+-- The form is exact: one space between words and none beside them, a line feed behind each line.
 use Rattle.std.specs.Prelude.{ℕ, ◌+◌, Bool, ◌&&◌, nat_lt, nat_le, if◌then◌else◌, List, [], ◌∷◌, length, Option, Some, None, Result, Ok, Err, codes}
 use Rattle.std.specs.Result.{result_ok}
 use Rattle.std.specs.Str.{bytes_eq}
@@ -16,7 +16,8 @@ use Rattle.be_report.specs.Readers.{Reader, ◌>>=◌, all_of, exactly, next_wor
 abbrev pub heading : Reader ℕ
 heading = exactly (codes "history") >>= λ _. next_word natural_of
 
--- how many entries the first line promises; it has at most 2048 bytes, as no other line can have more
+-- how many entries the first line promises; it has at most 2048 bytes, as no other line can have
+-- more
 unfoldable pub count_in : List ℕ → Option ℕ
 count_in bytes = if nat_le (length bytes) 2048 then all_of heading (words_between bytes) else None
 
@@ -42,8 +43,8 @@ abbrev pub entry_then : ℕ → Option Entry → Result (List Entry) ℕ → Res
 entry_then line (Some e) rest = before_entries e rest
 entry_then line None rest = Err line
 
--- The entries from the k-th on, up to the last one, and then the line `traces`; or the number of the first line that breaks
--- this. The k-th entry is in line k + 1.
+-- The entries from the k-th on, up to the last one, and then the line `traces`; or the number of
+-- the first line that breaks this. The k-th entry is in line k + 1.
 unfoldable pub entries_in : Declared → ℕ → ℕ → List Line → Result (List Entry) ℕ
 entries_in d last k [] = Err (k + 1)
 entries_in d last k (line ∷ lines) =
@@ -58,7 +59,8 @@ abbrev pub history_in : Declared → List Line → Result (List Entry) ℕ
 history_in d [] = Err 1
 history_in d (line ∷ lines) = promised_in d (promised line) lines
 
--- the entries that a text spells up to its line `traces`, or the number of the first line that breaks this
+-- the entries that a text spells up to its line `traces`, or the number of the first line that
+-- breaks this
 unfoldable pub entries_of : Declared → List ℕ → Result (List Entry) ℕ
 entries_of d text = history_in d (lines_of text)
 

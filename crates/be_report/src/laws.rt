@@ -2,8 +2,8 @@ ghost use Rattle.be_report.specs.Laws.{WordsSayTheirEntry, NoOtherWords, TextTel
 
 // What holds of reports. Each law is the contract of a function with an empty body.
 
-/// The words of an entry say it, and no other words do: of each kind of entries, with every name and
-/// every number that it can have.
+/// The words of an entry say it, and no other words do: of each kind of entries, with every name
+/// and every number that it can have.
 pub fn an_entry_has_one_line()
     ensures says { WordsSayTheirEntry }
     ensures alone { NoOtherWords }
@@ -23,8 +23,8 @@ pub fn a_report_tells_its_history()
     ensures tells { ReportTellsHistory }
 {}
 
-/// Where a text tells no history, the number that is told is that of one of its lines, or of the one
-/// behind them.
+/// Where a text tells no history, the number that is told is that of one of its lines, or of the
+/// one behind them.
 pub fn a_text_that_tells_none_breaks_at_a_line()
     ensures { BreaksAtALine }
 {}

@@ -10,8 +10,8 @@ use be_picture::{OffScreen, Picture};
 use be_written::{Page, write_screen};
 use std::alloc::Global;
 
-/// Draws a picture on white pixels, at least one and at most 256 in each direction, and writes them:
-/// their numbers, the rows by runs of one colour, and `end`.
+/// Draws a picture on white pixels, at least one and at most 256 in each direction, and writes
+/// them: their numbers, the rows by runs of one colour, and `end`.
 pub fn draw(alloc: Global, picture: Picture, width: u16, height: u16) -> Result<Page, NoMemory>
     requires sized { IsSized width height }
     requires pens { All (λ c. HasPen (effect_of c)) picture }

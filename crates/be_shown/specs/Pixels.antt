@@ -19,4 +19,5 @@ HasNone slice x y n = (k : ℕ) → k < n → pixel_in slice (pos (x + k)) (pos 
 
 -- it has the pixels from this one on to the right, with these cells
 abbrev pub HasCells : Slice → ℕ → ℕ → List Cell → Type 0
-HasCells slice x y cells = (k : ℕ) → k < length cells → pixel_in slice (pos (x + k)) (pos y) ≡ slice_get cells k
+HasCells slice x y cells =
+    (k : ℕ) → k < length cells → pixel_in slice (pos (x + k)) (pos y) ≡ slice_get cells k

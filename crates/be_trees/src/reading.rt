@@ -15,8 +15,8 @@ use std::alloc::Global;
 
 const LINE_BYTES: usize = 1_048_576;
 
-/// The tree of whose archive the text is the line. It is too long on line 0, or has no such shape on
-/// line 1.
+/// The tree of whose archive the text is the line. It is too long on line 0, or has no such shape
+/// on line 1.
 #[tactic(auto, unfolding(crate::specs::Reading::tree_of_line))]
 pub fn read_archive(alloc: Global, text: &[u8]) -> Result<ViewTree, ScriptFault>
     ensures { IsRead (tree_of_line text.now) result }

@@ -14,8 +14,8 @@ use std::io::{Read, Write};
 use std::process::ExitCode;
 use std::{env, io};
 
-const USAGE: &str =
-    "usage: write_reports history|read|notes COUNT|(screen|whole) (plain|checkered) WIDTH HEIGHT ROUNDS";
+const USAGE: &str = "usage: write_reports history|read|notes COUNT\
+    |(screen|whole) (plain|checkered) WIDTH HEIGHT ROUNDS";
 
 /// A script and its history are read from standard input. Other words than those of the usage end
 /// with status 2; a script or a history that is refused, and want of memory, with 1.
