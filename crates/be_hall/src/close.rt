@@ -1,5 +1,6 @@
 //! How a hall is closed.
 ghost use Rattle.std.specs.Prelude.{◌≡◌, ◌≢◌, ◌++◌, ◌+◌, ◌≤◌, ℕ, List, [], map, length, vec_len, vec_capacity, IfOk, IfErr};
+ghost use Rattle.std.specs.List.Sorted.{IsNonDecreasingBy, IsPermutation};
 ghost use Rattle.be_hall.specs.Hands.{places_of, up_from};
 ghost use Rattle.be_hall.specs.Numbers.{once};
 ghost use Rattle.be_hall.specs.Views.{gathered};
@@ -117,8 +118,22 @@ fn in_order<E: Drop>(mut pairs: Vec<(u64, E)>, history: &mut Vec<E>)
     requires empty { history.old.items ≡ [] }
     ensures { (h : List E) → InHistory h pairs.items → ((n : ℕ) → logged n pairs.items ≡ once (length h) n) → history.new.items ≡ h }
 {
-    pairs.sort_unstable_by_key(|pair| pair.0);
+    sort_pairs(&mut pairs);
     put_entries(pairs, history);
+}
+
+// Puts the pairs in the order of their numbers. Those of one part stand in order already, and the
+// first sort goes by such runs: it costs the pairs times the logarithm of the parts. Where it finds
+// no memory the second one does without.
+fn sort_pairs<E: Drop>(pairs: &mut Vec<(u64, E)>)
+    ensures permutation { IsPermutation pairs.old.items pairs.new.items }
+    ensures len { vec_len pairs.new ≡ vec_len pairs.old }
+    ensures sorted { IsNonDecreasingBy (λ x. x.0) pairs.new.items }
+{
+    match pairs.sort_by_key(|pair| pair.0) {
+        Ok(()) => {}
+        Err(_) => pairs.sort_unstable_by_key(|pair| pair.0),
+    }
 }
 
 fn put_entries<E: Drop>(pairs: Vec<(u64, E)>, history: &mut Vec<E>)
