@@ -2,16 +2,17 @@
 
 use std::sync::Wait;
 use std::sync::atomic::{AtomicU64, Ordering};
+use std::time::Duration;
 
 /// A bell, and what its worker came to by it.
 #[derive(Drop)]
 pub(crate) struct Bell {
     /// Its lowest bit is 1 while the worker sleeps or is about to. The others count the rings.
     word: AtomicU64,
-    /// What the word shows once a change wakes the sleeper.
-    wakes_at: AtomicU64,
     /// 1 once the worker has begun.
     begun: AtomicU64,
+    /// 1 while the worker dozes until it may have a part.
+    waits: AtomicU64,
     /// 1 from when it was woken until it made an entry or sleeps again. The worker alone writes
     /// this, and what follows.
     woken: AtomicU64,
@@ -19,21 +20,18 @@ pub(crate) struct Bell {
     fruitless: AtomicU64,
 }
 
-/// So much oftener it may be woken for nothing before it sleeps through some rings.
-const FRUITLESS: u64 = 4;
+/// So much oftener it may be woken for nothing before it rests once it is woken.
+const FRUITLESS: u64 = 2;
 
-/// More than that isn't counted: after some entries each ring wakes it again.
-const MOST: u64 = 6;
-
-/// How many rings it takes then. A link that is full has room for a buffer after twice as many.
-const RINGS: u64 = 16;
+/// More than that isn't counted: after some entries it rests no more.
+const MOST: u64 = 5;
 
 impl Bell {
     pub(crate) fn new() -> Bell {
         Bell {
             word: AtomicU64::new(0),
-            wakes_at: AtomicU64::new(0),
             begun: AtomicU64::new(0),
+            waits: AtomicU64::new(0),
             woken: AtomicU64::new(0),
             fruitless: AtomicU64::new(0),
         }
@@ -55,11 +53,6 @@ impl Bell {
     /// What the bell shows once it was rung.
     pub(crate) fn ring(&self) -> u64 {
         self.word.fetch_add(2, Ordering::SeqCst).wrapping_add(2)
-    }
-
-    /// Whether the worker sleeps and takes more rings than those that the bell shows.
-    pub(crate) fn sleeps_on(&self, shown: u64) -> bool {
-        shown % 2 == 1 && shown < self.wakes_at.load(Ordering::SeqCst)
     }
 
     /// The worker sleeps no more, if the bell still shows this. Of several that ring at once the
@@ -89,18 +82,14 @@ impl Bell {
 
     /// The worker is about to sleep, if the bell still shows this. Whether it is.
     pub(crate) fn lie_down(&self, shown: u64) -> bool {
-        let mut fruitless = self.fruitless.load(Ordering::SeqCst);
         if self.woken.load(Ordering::SeqCst) == 1 {
             self.woken.store(0, Ordering::SeqCst);
-            fruitless = fruitless.saturating_add(1).min(MOST);
-            self.fruitless.store(fruitless, Ordering::SeqCst);
+            let fruitless = self.fruitless.load(Ordering::SeqCst);
+            self.fruitless
+                .store(fruitless.saturating_add(1).min(MOST), Ordering::SeqCst);
         }
-        let asleep = shown | 1;
-        let rings = if fruitless < FRUITLESS { 1 } else { RINGS };
-        self.wakes_at
-            .store(asleep.saturating_add(2 * rings), Ordering::SeqCst);
         self.word
-            .compare_exchange(shown, asleep, Ordering::SeqCst, Ordering::SeqCst)
+            .compare_exchange(shown, shown | 1, Ordering::SeqCst, Ordering::SeqCst)
             .is_ok()
     }
 
@@ -112,7 +101,39 @@ impl Bell {
                 self.woken.store(1, Ordering::SeqCst);
                 return;
             }
-            self.word.park(rt, (shown % 4294967296) as u32);
+            self.word.park(rt, low(shown));
         }
     }
+
+    /// The worker dozes where it was woken for nothing again and again, the longer the oftener: a
+    /// link that was full has room for a whole buffer after many commands, of which each rings.
+    pub(crate) fn rest<R: Wait>(&self, rt: &R) {
+        let fruitless = self.fruitless.load(Ordering::SeqCst);
+        if fruitless >= FRUITLESS {
+            self.doze(rt, 25 << fruitless.min(MOST));
+        }
+    }
+
+    /// Dozes for so many microseconds, or less. No ring wakes it.
+    pub(crate) fn doze<R: Wait>(&self, rt: &R, micros: u64) {
+        self.word
+            .park_timeout(rt, low(self.shown()), Duration::from_micros(micros));
+    }
+
+    /// Dozes for so many microseconds, or until it is rung.
+    pub(crate) fn wait<R: Wait>(&self, rt: &R, micros: u64) {
+        self.waits.store(1, Ordering::SeqCst);
+        self.doze(rt, micros);
+        self.waits.store(0, Ordering::SeqCst);
+    }
+
+    /// Whether it dozes until it is rung.
+    pub(crate) fn waits(&self) -> bool {
+        self.waits.load(Ordering::SeqCst) == 1
+    }
+}
+
+// What a thread that sleeps compares of the word.
+fn low(shown: u64) -> u32 {
+    (shown % (1 << 32)) as u32
 }

@@ -5,9 +5,11 @@
 #![tactic(auto)]
 
 mod bell;
+mod sets;
 
 use be_geom::NoMemory;
 use bell::Bell;
+use sets::Sets;
 use std::alloc::Global;
 use std::sync::Wait;
 use std::sync::atomic::{AtomicU64, Ordering};
@@ -18,14 +20,17 @@ use std::sync::atomic::{AtomicU64, Ordering};
 #[derive(Drop)]
 pub struct Bells {
     bells: Vec<Bell>,
-    // Two words for each place: a bit for each activity.
-    watchers: Vec<AtomicU64>,
-    // Two words for each activity: a bit for each that it rang and left asleep.
-    left: Vec<AtomicU64>,
+    // Who is rung once the part at a place is changed. Whoever has that in hand alone writes this.
+    watchers: Sets,
+    // Who dozes until it may have the part at a place.
+    waiting: Sets,
     awake: AtomicU64,
     unbegun: AtomicU64,
     activities: u32,
 }
+
+// How many microseconds a worker dozes that would leave nobody awake.
+const ALONE: u64 = 50;
 
 impl Bells {
     /// All workers are awake, and none has begun. There are at most 128 activities.
@@ -36,8 +41,8 @@ impl Bells {
         }
         Ok(Bells {
             bells,
-            watchers: words(alloc, places as usize * 2)?,
-            left: words(alloc, activities as usize * 2)?,
+            watchers: Sets::new(alloc, places)?,
+            waiting: Sets::new(alloc, places)?,
             awake: AtomicU64::new(u64::from(activities)),
             unbegun: AtomicU64::new(u64::from(activities)),
             activities,
@@ -75,8 +80,8 @@ impl Bells {
     /// The activity looks at this place, which its pass has in hand: whoever changes it rings. The
     /// closing one is rung when all others sleep, and by no change.
     pub fn watch(&self, who: u32, place: u32) {
-        if who != self.activities.saturating_sub(1) {
-            add_bit(&self.watchers, place, who);
+        if who != self.closing() {
+            self.watchers.add(place, who);
         }
     }
 
@@ -87,39 +92,39 @@ impl Bells {
         }
     }
 
-    /// Rings the bells of those that look at this place, which the worker has changed and has in
-    /// hand. One that was woken for nothing again and again is left asleep for some rings.
-    pub fn changed(&self, who: u32, place: u32) {
-        for half in 0..2u32 {
-            let Some(word) = self.watchers.get(place as usize * 2 + half as usize) else {
-                return;
-            };
-            let watching = word.load(Ordering::SeqCst);
-            if watching == 0 {
-                continue;
+    /// Rings the bells of those that look at this place, which the caller has changed and has in
+    /// hand.
+    pub fn changed(&self, place: u32) {
+        let watchers = self.watchers.take(place);
+        if watchers.is_empty() {
+            return;
+        }
+        for who in 0..self.activities {
+            if watchers.has(who) {
+                self.ring(who);
             }
-            let mut still = 0;
-            for bit in 0..64u32 {
-                if (watching >> bit) % 2 == 1 && self.leaves_asleep(who, half * 64 + bit) {
-                    still |= 1 << bit;
-                }
-            }
-            word.store(still, Ordering::SeqCst);
         }
     }
 
-    // Rings a bell. Whether its worker is left asleep: then it is woken before this one sleeps.
-    fn leaves_asleep(&self, who: u32, other: u32) -> bool {
-        let Some(bell) = self.bells.get(other as usize) else {
-            return false;
-        };
-        let rung = bell.ring();
-        if bell.sleeps_on(rung) {
-            add_bit(&self.left, who, other);
-            return true;
+    /// Wakes those that doze until they may have this place's part: the caller, which has it in
+    /// hand, gives it back and sleeps.
+    pub fn leaves(&self, place: u32) {
+        let waiting = self.waiting.take(place);
+        if waiting.is_empty() {
+            return;
         }
-        self.wake(bell, rung);
-        false
+        for who in 0..self.activities {
+            if waiting.has(who) && self.waits(who) {
+                self.ring(who);
+            }
+        }
+    }
+
+    fn waits(&self, who: u32) -> bool {
+        match self.bells.get(who as usize) {
+            Some(bell) => bell.waits(),
+            None => false,
+        }
     }
 
     /// Rings one bell, and wakes its worker where that sleeps.
@@ -136,40 +141,20 @@ impl Bells {
         }
     }
 
-    // Wakes a worker whose bell shows this, unless it is awake.
+    // Wakes a worker whose bell shows this, where it sleeps or dozes for a part.
     fn wake(&self, bell: &Bell, shown: u64) {
         if bell.rouse(shown) {
             self.awake.fetch_add(1, Ordering::SeqCst);
             bell.wake_one();
+        } else if bell.waits() {
+            bell.wake_one();
         }
     }
 
-    // Wakes those that the worker rang and left asleep.
-    fn wake_left(&self, who: u32) {
-        for half in 0..2u32 {
-            let Some(word) = self.left.get(who as usize * 2 + half as usize) else {
-                return;
-            };
-            let left = word.load(Ordering::SeqCst);
-            if left == 0 {
-                continue;
-            }
-            word.store(0, Ordering::SeqCst);
-            for bit in 0..64u32 {
-                if (left >> bit) % 2 == 1 {
-                    if let Some(bell) = self.bells.get(half as usize * 64 + bit as usize) {
-                        self.wake(bell, bell.shown());
-                    }
-                }
-            }
-        }
-    }
-
-    /// Sleeps until the bell is rung, if it still shows this. The last to fall asleep rings for the
-    /// closing one. Who would leave nobody awake to go on stays awake: the closing one, and anyone
-    /// before that has begun.
+    /// Sleeps until the bell is rung, if it still shows this, and rests then where it was woken for
+    /// nothing again and again. The last to fall asleep rings for the closing one. Who would leave
+    /// nobody awake to go on only dozes: the closing one, and anyone before that has begun.
     pub fn sleep<R: Wait>(&self, rt: &R, who: u32, shown: u64) {
-        self.wake_left(who);
         let Some(bell) = self.bells.get(who as usize) else {
             return;
         };
@@ -178,18 +163,42 @@ impl Bells {
         }
         if self.is_last_to_go() && !self.ring_closing(who) && bell.rouse(shown | 1) {
             self.awake.fetch_add(1, Ordering::SeqCst);
+            bell.doze(rt, ALONE);
             return;
         }
         bell.sleep(rt);
+        if who != self.closing() {
+            bell.rest(rt);
+        }
+    }
+
+    /// Dozes for so many microseconds, or less, and counts as awake meanwhile. No ring wakes it.
+    pub fn doze<R: Wait>(&self, rt: &R, who: u32, micros: u64) {
+        if let Some(bell) = self.bells.get(who as usize) {
+            bell.doze(rt, micros);
+        }
+    }
+
+    /// Dozes until it may have the part at this place, which another has in hand, and for so many
+    /// microseconds at most.
+    pub fn wait_for<R: Wait>(&self, rt: &R, who: u32, place: u32, micros: u64) {
+        if let Some(bell) = self.bells.get(who as usize) {
+            self.waiting.add(place, who);
+            bell.wait(rt, micros);
+        }
     }
 
     /// This worker has ended. Where it leaves nobody awake it rings for the closing one, and before
     /// that has begun for everyone.
     pub fn leave(&self, who: u32) {
-        self.wake_left(who);
         if self.is_last_to_go() && !self.ring_closing(who) {
             self.ring_all();
         }
+    }
+
+    // The last activity is the closing one.
+    fn closing(&self) -> u32 {
+        self.activities.saturating_sub(1)
     }
 
     // The caller is awake no more. Whether no other is, of those that have begun: of two that go at
@@ -201,7 +210,7 @@ impl Bells {
 
     // Rings for the closing worker, if that is another one and has begun.
     fn ring_closing(&self, who: u32) -> bool {
-        let closing = self.activities.saturating_sub(1);
+        let closing = self.closing();
         if who == closing || !self.has_begun(closing) {
             return false;
         }
@@ -214,20 +223,4 @@ impl Bells {
         let unbegun = self.unbegun.load(Ordering::SeqCst);
         self.awake.load(Ordering::SeqCst) <= unbegun.saturating_add(1)
     }
-}
-
-// Sets a bit in the two words of one number. No other thread writes them meanwhile.
-fn add_bit(words: &[AtomicU64], number: u32, bit: u32) {
-    if let Some(word) = words.get(number as usize * 2 + bit as usize / 64) {
-        let seen = word.load(Ordering::SeqCst);
-        word.store(seen | 1 << (bit % 64), Ordering::SeqCst);
-    }
-}
-
-fn words(alloc: Global, many: usize) -> Result<Vec<AtomicU64>, NoMemory> {
-    let mut list = Vec::with_capacity(alloc, many)?;
-    for _ in 0..many {
-        list.push(AtomicU64::new(0))?;
-    }
-    Ok(list)
 }

@@ -128,8 +128,8 @@ module _ {P T E R M : Type 0} {g : _} where
       (P → Machine M E) → (P → List M → ℕ → Option E) → Hall P T E R M g → ℕ → Type 0
   HasNone machine legal hall who = IsIdle (machine (rules_of hall)) (legal (rules_of hall)) who
 
-  -- Why a turn made no entry: the activity has none, or it is the closing one, which doesn't wait for
-  -- parts. It is over only where it has none.
+  -- Why a turn made no entry: the activity has none, or it is the closing one, which doesn't wait
+  -- for parts. It is over only where it has none.
   abbrev pub NoneBy :
       (P → Machine M E) → (P → List M → ℕ → Option E) → (P → ℕ) → Hall P T E R M g → ℕ
       → Did → Type 0

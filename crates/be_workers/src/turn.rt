@@ -10,10 +10,11 @@ use crate::tools::Tools;
 use crate::wants::Wants;
 use be_bells::Bells;
 use be_geom::NoMemory;
-use be_hall::{Hall, Pass, Verdict};
+use be_hall::{Busy, Hall, Pass, Verdict};
 use be_outside::{Gate, Spot};
 use be_turns::{Turn, Turns};
 use std::sync::Wait;
+use std::thread;
 
 /// What came of a turn.
 #[derive(Clone, Copy, Debug, PartialEq, Eq)]
@@ -88,22 +89,60 @@ fn tell(bells: &Bells, watcher: u32, places: &[u32], asked: &Result<Asked, NoMem
         Ok(Asked::Came(Did::Made | Did::Closed)) => {
             bells.made(watcher);
             for place in places {
-                bells.changed(watcher, *place);
+                bells.changed(*place);
             }
         }
         Ok(Asked::Came(Did::Nothing)) => {
             for place in places {
                 bells.watch(watcher, *place);
+                bells.leaves(*place);
             }
         }
         Ok(Asked::Came(Did::Over) | Asked::Needs(_)) | Err(NoMemory) => {}
     }
 }
 
-// Takes the parts at these places. The closing activity, which wants all, doesn't wait for them.
-fn grab<R: Wait, W: Turns + Drop>(
-    rt: &R,
+// How many microseconds a worker dozes at most each time that another has a part in hand which it
+// wants. For none it lets others run.
+const WAITS: [u64; 6] = [0, 0, 100, 200, 400, 800];
+
+// Tries some times to take the parts at these places. Whether it has them. To sleep at the part
+// itself costs more: who has it in hand wakes a thread each time that it gives it back, which mostly
+// finds it in hand again, as who draws wants it for each command.
+fn try_again<R: Wait, G, W: Turns + Drop>(
+    tools: &Tools<'_, R, G>,
     hall: &Hall<W>,
+    watcher: u32,
+    pass: &mut Pass<W>,
+    places: &[u32],
+) -> bool
+    requires pass { IsFree W.meaning hall.now pass.old }
+    requires rising { rises_from 0 places.now ≡ true }
+    requires below { All (λ p. p < (W.machine (rules_of hall.now)).places) places.now }
+    ensures hall { IsPassOf W.meaning hall.now pass.new }
+    ensures kept { KeepsCommits pass.old pass.new }
+    ensures held { result ≡ true → places_of (in_hand pass.new) ≡ places.now }
+    ensures none { result ≡ false → in_hand pass.new ≡ [] }
+    ensures askable { result ≡ true → MayAsk W.machine W.meaning hall.now pass.new }
+{
+    for micros in WAITS {
+        let Err(Busy { place }) = hall.try_take(pass, places) else {
+            return true;
+        };
+        if micros == 0 {
+            thread::yield_now();
+        } else {
+            tools.bells.wait_for(tools.rt, watcher, place, micros);
+        }
+    }
+    false
+}
+
+// Takes the parts at these places. The closing activity, which wants all, doesn't wait for them.
+fn grab<R: Wait, G, W: Turns + Drop>(
+    tools: &Tools<'_, R, G>,
+    hall: &Hall<W>,
+    watcher: u32,
     who: u32,
     pass: &mut Pass<W>,
     places: &[u32],
@@ -123,7 +162,9 @@ fn grab<R: Wait, W: Turns + Drop>(
     if who + 1 == many {
         return hall.try_take(pass, places).is_ok();
     }
-    hall.take(rt, pass, places);
+    if !try_again(tools, hall, watcher, pass, places) {
+        hall.take(tools.rt, pass, places);
+    }
     true
 }
 
@@ -151,7 +192,7 @@ pub(crate) fn take_turn<R: Wait, G: Gate, W: Turns + Drop>(
     let rules = hall.rules();
     wants.own(rules, who);
     loop {
-        if !grab(tools.rt, hall, who, pass, wants.places()) {
+        if !grab(tools, hall, watcher, who, pass, wants.places()) {
             return Ok(Did::Nothing);
         }
         let asked = ask(tools.gate, hall, who, pass);

@@ -44,8 +44,13 @@ pub struct Worker<W: Turns> {
 const LOOKS: u32 = 2;
 
 // How often a worker looks whether others begin: the closing one whether all do, the others whether
-// the closing one does. That takes some milliseconds, and threads start in less.
+// the closing one does. That takes some milliseconds at least, and threads start in less.
 pub(crate) const PATIENCE: u32 = 10_000;
+
+// How many microseconds the closing worker dozes between two looks, and for how many they count.
+const BETWEEN: u64 = 100;
+
+const COUNTS: u32 = 50;
 
 impl<W: Turns + Drop> Worker<W> {
     /// Makes turns until it is told to stop, its activity is over, the closing entry was made or it
@@ -181,8 +186,8 @@ fn holds_back<R: Wait, G>(
     patience: &mut u32,
 ) -> bool {
     if *patience > 0 && !tools.bells.all_begun() {
-        *patience -= 1;
-        thread::yield_now();
+        *patience = patience.saturating_sub(COUNTS);
+        tools.bells.doze(tools.rt, closing, BETWEEN);
         return true;
     }
     if tools.bells.is_quiet() {
