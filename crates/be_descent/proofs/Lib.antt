@@ -1,0 +1,14 @@
+pub mod PaintLemmas
+pub mod MarkLemmas
+pub mod CutLemmas
+pub mod BandLemmas
+pub mod PartLemmas
+pub mod WalkLemmas
+pub mod ClipLemmas
+pub mod SpanLemmas
+pub mod ShownLemmas
+pub mod CountLemmas
+pub mod FrameLemmas
+pub mod AddLemmas
+pub mod ReachLemmas
+pub mod DrawLemmas

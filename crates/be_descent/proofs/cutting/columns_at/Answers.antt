@@ -1,0 +1,16 @@
+use Rattle.std.proofs.Common.{pos, ◌-ℤ◌, SFits, w16, rules}
+use Rattle.std.proofs.lemmas.Int.{to_z-of_z}
+use Rattle.be_descent.proofs.CutLemmas.{columns_halved}
+use Rattle.be_descent.proofs.cutting.columns_at.Goals as goal
+
+pub returns-clause-halves : goal.returns-clause-halves
+returns-clause-halves c =
+    let z = c.ranges.column in
+    let al : SFits w16 c.args.area.left = search rules in
+    let ar : SFits w16 c.args.area.right = search rules in
+    let at : SFits w16 c.args.area.top = search rules in
+    let ab : SFits w16 c.args.area.bottom = search rules in
+    let low = c.requires.behind in
+    let edge : SFits w16 (c.args.column -ℤ pos 1) = search rules in
+    simp to_z-of_z (columns_halved c.args.area c.args.column c.requires.down c.requires.behind
+    c.requires.inside)

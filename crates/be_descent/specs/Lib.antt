@@ -1,0 +1,7 @@
+pub mod Painting
+pub mod Marks
+pub mod Cutting
+pub mod Places
+pub mod Clips
+pub mod Fronts
+pub mod Drawing
