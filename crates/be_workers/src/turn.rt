@@ -14,7 +14,6 @@ use be_hall::{Busy, Hall, Pass, Verdict};
 use be_outside::{Gate, Spot};
 use be_turns::{Turn, Turns};
 use std::sync::Wait;
-use std::thread;
 
 /// What came of a turn.
 #[derive(Clone, Copy, Debug, PartialEq, Eq)]
@@ -103,8 +102,8 @@ fn tell(bells: &Bells, watcher: u32, places: &[u32], asked: &Result<Asked, NoMem
 }
 
 // How many microseconds a worker dozes at most each time that another has a part in hand which it
-// wants. For none it lets others run.
-const WAITS: [u64; 6] = [0, 0, 100, 200, 400, 800];
+// wants.
+const WAITS: [u64; 4] = [100, 200, 400, 800];
 
 // Tries some times to take the parts at these places. Whether it has them. To sleep at the part
 // itself costs more: who has it in hand wakes a thread each time that it gives it back, which mostly
@@ -129,11 +128,7 @@ fn try_again<R: Wait, G, W: Turns + Drop>(
         let Err(Busy { place }) = hall.try_take(pass, places) else {
             return true;
         };
-        if micros == 0 {
-            thread::yield_now();
-        } else {
-            tools.bells.wait_for(tools.rt, watcher, place, micros);
-        }
+        tools.bells.wait_for(tools.rt, watcher, place, micros);
     }
     false
 }
