@@ -12,3 +12,8 @@ pub mod FrameLemmas
 pub mod AddLemmas
 pub mod ReachLemmas
 pub mod DrawLemmas
+pub mod BitLemmas
+pub mod InkLemmas
+pub mod RegionLemmas
+pub mod RowLemmas
+pub mod HullLemmas

@@ -5,3 +5,4 @@ pub mod Places
 pub mod Clips
 pub mod Fronts
 pub mod Drawing
+pub mod Inks

@@ -7,43 +7,62 @@
 //! more. A stage is a type that implements `Lay`. Its test says at which pixels the ink paints;
 //! that of a whole descent is what the tests of its stages come to together.
 //!
+//! The inks are a colour that takes the place of what was there (`Fill`), a pattern's colours in
+//! a drawing mode (`Coat`), a picture (`Image`) and seven rows of 64 bits, as for letters
+//! (`Letters`). The stage `Shaped` stands before an ink and holds it to a shape.
+//!
 //! `Fronts::find` finds the frames in front of a view, and `paint_reached` is the descent for a
-//! view. Rectangles are in screen coordinates. A stage over a region finds its rectangles by
-//! bisection where they don't follow one another; that over frames goes once over those in front,
-//! and cuts at the edges of those that are met. No call takes memory, and none but the ink looks at
-//! a pixel.
+//! view. `paint_bands` and `paint_line` are those of a shape that lies anywhere, by rectangles that
+//! have its pixels. Other rectangles are in screen coordinates. A stage over a region finds its
+//! rectangles by bisection where they don't follow one another; that over frames goes once over
+//! those in front, and cuts at the edges of those that are met. No call takes memory, and none but
+//! the ink looks at a pixel.
 #![tactic(auto)]
 
 mod area;
+mod bands;
 mod below;
 mod clipping;
 mod clips;
+mod coat;
 mod cutting;
 mod descending;
+mod far;
 mod fill;
 mod fronts;
+mod image;
 mod law;
 mod laying;
+mod letters;
+mod line;
 mod marks;
 mod nest;
 mod part;
 mod reach;
+mod rows;
 mod session;
+mod shaped;
 mod shown;
 mod walk;
 mod way;
 mod within;
 
 pub use area::paint_area;
+pub use bands::paint_bands;
 pub use below::Below;
 pub use clips::{Clip, Clips};
+pub use coat::Coat;
 pub use fill::Fill;
 pub use fronts::Fronts;
+pub use image::Image;
 pub use law::draws_by_states;
 pub use laying::Lay;
+pub use letters::Letters;
+pub use line::paint_line;
 pub use marks::marks_stay;
 pub use nest::{Limits, paint_within};
 pub use reach::{Reach, paint_reached};
 pub use session::Session;
+pub use shaped::Shaped;
 pub use way::Way;
 pub use within::Within;

@@ -1,4 +1,5 @@
-ghost use Rattle.std.specs.Prelude.{◌≡◌, ◌+◌, ◌<◌, ◌≤◌, ℤ, ◌-ℤ◌, true, false, ◌&&◌, ◌||◌, [], drop, length, IfNone, IfSome};
+ghost use Rattle.std.specs.Prelude.{◌≡◌, ◌+◌, ◌<◌, ◌≤◌, ℤ, ◌-ℤ◌, true, false, ◌&&◌};
+ghost use Rattle.std.specs.Prelude.{◌||◌, [], drop, length, IfNone, IfSome};
 ghost use Rattle.be_geom.specs.Numbers.{is_number};
 ghost use Rattle.be_geom.specs.Rects.{rect_has};
 ghost use Rattle.be_region.specs.Regions.{region_has};

@@ -1,4 +1,5 @@
-ghost use Rattle.std.specs.Prelude.{◌≡◌, ◌+◌, ◌<◌, ◌≤◌, ◌-ℤ◌, ◌<ℤ◌, true, Some, IfNone, IfSome, length, slice_get};
+ghost use Rattle.std.specs.Prelude.{◌≡◌, ◌+◌, ◌<◌, ◌≤◌, ◌-ℤ◌, ◌<ℤ◌, true, Some};
+ghost use Rattle.std.specs.Prelude.{IfNone, IfSome, length, slice_get};
 ghost use Rattle.std.specs.List.{AllWithin};
 ghost use Rattle.be_region.specs.Bands.{AreBands};
 ghost use Rattle.be_region.specs.Places.{is_passed};

@@ -1,4 +1,4 @@
-use Rattle.std.proofs.Common.{rules, SFits, w16, w32}
+use Rattle.std.proofs.Common.{◌≡◌, rules, SFits, w16, w32}
 use Rattle.std.proofs.lemmas.Int.{to_z-of_z}
 use Rattle.be_geom.specs.declared.rect.Rect.{Rect}
 use Rattle.be_descent.proofs.PartLemmas.{beside_down, part_is}
@@ -11,9 +11,13 @@ returns-in_err-top-clause-none c =
     let rt : SFits w16 c.args.rect.top = search rules in
     let rb : SFits w16 c.args.rect.bottom = search rules in
     let d : SFits w32 c.args.way.down = search rules in
+    let first : SFits w32 c.from-3.result = search rules in
+    let last : SFits w32 c.from-4.result = search rules in
+    let first_is : c.from-3.result ≡ c.args.rect.top = simp to_z-of_z at c.from-3.ensures in
+    let last_is : c.from-4.result ≡ c.args.rect.bottom = simp to_z-of_z at c.from-4.ensures in
     rw c.from_residual-in_err-top.ensures
     (beside_down c.args.area c.args.rect c.args.way
-    (simp to_z-of_z at c.in_err-top.ensures.none))
+    (rw (first_is, last_is) at (simp to_z-of_z at c.in_err-top.ensures.none)))
 
 pub returns-clause-some : goal.returns-clause-some
 returns-clause-some c =
@@ -31,6 +35,14 @@ returns-clause-some c =
     let rb : SFits w16 c.args.rect.bottom = search rules in
     let dx : SFits w32 c.args.way.right = search rules in
     let dy : SFits w32 c.args.way.down = search rules in
+    let e1 : SFits w32 c.from.result = search rules in
+    let e2 : SFits w32 c.from-2.result = search rules in
+    let e3 : SFits w32 c.from-3.result = search rules in
+    let e4 : SFits w32 c.from-4.result = search rules in
+    let is1 : c.from.result ≡ c.args.rect.left = simp to_z-of_z at c.from.ensures in
+    let is2 : c.from-2.result ≡ c.args.rect.right = simp to_z-of_z at c.from-2.ensures in
+    let is3 : c.from-3.result ≡ c.args.rect.top = simp to_z-of_z at c.from-3.ensures in
+    let is4 : c.from-4.result ≡ c.args.rect.bottom = simp to_z-of_z at c.from-4.ensures in
     let part : Rect = record {
       left = c.in_ok-left.left;
       top = c.in_ok-top.top;
@@ -39,5 +51,5 @@ returns-clause-some c =
       bottom = c.in_ok-top.bottom;
     } in
     simp to_z-of_z (part_is part c.args.area c.args.rect c.args.way c.in_ok-left.ensures.order
-    c.in_ok-top.ensures.order (simp to_z-of_z at c.in_ok-left.ensures.both)
-    (simp to_z-of_z at c.in_ok-top.ensures.both))
+    c.in_ok-top.ensures.order (rw (is1, is2) at (simp to_z-of_z at c.in_ok-left.ensures.both))
+    (rw (is3, is4) at (simp to_z-of_z at c.in_ok-top.ensures.both)))

@@ -1,0 +1,177 @@
+use Rattle.std.proofs.Common.{◌≡◌, ℤ, ◌+ℤ◌, ◌-ℤ◌, ◌≤ℤ◌, Bool, ◌&&◌, SFits, w16, w32}
+use Rattle.std.proofs.Common.{sym, ◌∙◌, rules, arith}
+use Rattle.std.specs.Int.{int_min}
+use Rattle.std.proofs.lemmas.Int.{to_z-of_z, ints, clamps}
+use Rattle.be_geom.specs.Points.{between}
+use Rattle.be_shape.specs.Rows.{row_has}
+use Rattle.be_shape.proofs.BetweenLemmas.{not_above, not_below}
+use Rattle.be_descent.specs.Drawing.{may_draw}
+use Rattle.be_descent.specs.Inks.{shape_has}
+use Rattle.be_descent.proofs.PaintLemmas.{same_painted}
+use Rattle.be_descent.proofs.RegionLemmas.{fits_16, fits_32, in_band}
+use Rattle.be_descent.proofs.bands.paint_band.Goals as goal
+
+pub overflow_cast-end : goal.overflow_cast-end
+overflow_cast-end g c =
+    let area = c.args.area in
+    let way = c.args.way in
+    let t : SFits w16 area.top = search rules in
+    let b : SFits w16 area.bottom = search rules in
+    let tb : SFits w32 c.from.result = search rules in
+    let bb : SFits w32 c.from-2.result = search rules in
+    let top : c.from.result ≡ area.top = simp to_z-of_z at c.from.ensures in
+    let bottom : c.from-2.result ≡ area.bottom = simp to_z-of_z at c.from-2.ensures in
+    let near = c.requires.near.1 in
+    let order = c.requires.down in
+    let d : SFits w32 way.down = search rules in
+    let away : SFits w32 (c.from.result -ℤ way.down) = fits_32 (c.from.result -ℤ way.down)
+    (omega (arith, ints)) (omega (arith, ints)) in
+    let a : SFits w32 c.alike.result = search rules in
+    let e : SFits w32 c.down_to-end.result = search rules in
+    let forward : (c.from.result -ℤ way.down) ≤ℤ c.alike.result =
+    simp to_z-of_z at c.alike.ensures.forward in
+    let end : c.down_to-end.result ≡ int_min (c.alike.result +ℤ way.down) c.from-2.result =
+    simp to_z-of_z at c.down_to-end.ensures in
+    let more : area.top ≤ℤ c.down_to-end.result = omega (arith, ints, clamps) in
+    let most : c.down_to-end.result ≤ℤ area.bottom = omega (arith, ints, clamps) in
+    let there : SFits w16 c.down_to-end.result = fits_16 c.down_to-end.result (omega (arith, ints))
+    (omega (arith, ints)) in
+    rw (to_z-of_z w32 _ e) there
+
+pub paint_row-requires-clause-down : goal.paint_row-requires-clause-down
+paint_row-requires-clause-down g c =
+    let area = c.args.area in
+    let way = c.args.way in
+    let t : SFits w16 area.top = search rules in
+    let b : SFits w16 area.bottom = search rules in
+    let tb : SFits w32 c.from.result = search rules in
+    let bb : SFits w32 c.from-2.result = search rules in
+    let top : c.from.result ≡ area.top = simp to_z-of_z at c.from.ensures in
+    let bottom : c.from-2.result ≡ area.bottom = simp to_z-of_z at c.from-2.ensures in
+    let near = c.requires.near.1 in
+    let order = c.requires.down in
+    let d : SFits w32 way.down = search rules in
+    let away : SFits w32 (c.from.result -ℤ way.down) = fits_32 (c.from.result -ℤ way.down)
+    (omega (arith, ints)) (omega (arith, ints)) in
+    let a : SFits w32 c.alike.result = search rules in
+    let e : SFits w32 c.down_to-end.result = search rules in
+    let forward : (c.from.result -ℤ way.down) ≤ℤ c.alike.result =
+    simp to_z-of_z at c.alike.ensures.forward in
+    let end : c.down_to-end.result ≡ int_min (c.alike.result +ℤ way.down) c.from-2.result =
+    simp to_z-of_z at c.down_to-end.ensures in
+    let more : area.top ≤ℤ c.down_to-end.result = omega (arith, ints, clamps) in
+    let most : c.down_to-end.result ≤ℤ area.bottom = omega (arith, ints, clamps) in
+    let there : SFits w16 c.down_to-end.result = fits_16 c.down_to-end.result (omega (arith, ints))
+    (omega (arith, ints)) in
+    rw (to_z-of_z w16 _ t, to_z-of_z w32 _ e, to_z-of_z w16 _ there) more
+
+pub returns-clause-forward : goal.returns-clause-forward
+returns-clause-forward g c =
+    let area = c.args.area in
+    let way = c.args.way in
+    let t : SFits w16 area.top = search rules in
+    let b : SFits w16 area.bottom = search rules in
+    let tb : SFits w32 c.from.result = search rules in
+    let bb : SFits w32 c.from-2.result = search rules in
+    let top : c.from.result ≡ area.top = simp to_z-of_z at c.from.ensures in
+    let bottom : c.from-2.result ≡ area.bottom = simp to_z-of_z at c.from-2.ensures in
+    let near = c.requires.near.1 in
+    let order = c.requires.down in
+    let d : SFits w32 way.down = search rules in
+    let away : SFits w32 (c.from.result -ℤ way.down) = fits_32 (c.from.result -ℤ way.down)
+    (omega (arith, ints)) (omega (arith, ints)) in
+    let a : SFits w32 c.alike.result = search rules in
+    let e : SFits w32 c.down_to-end.result = search rules in
+    let forward : (c.from.result -ℤ way.down) ≤ℤ c.alike.result =
+    simp to_z-of_z at c.alike.ensures.forward in
+    let end : c.down_to-end.result ≡ int_min (c.alike.result +ℤ way.down) c.from-2.result =
+    simp to_z-of_z at c.down_to-end.ensures in
+    let more : area.top ≤ℤ c.down_to-end.result = omega (arith, ints, clamps) in
+    let most : c.down_to-end.result ≤ℤ area.bottom = omega (arith, ints, clamps) in
+    let there : SFits w16 c.down_to-end.result = fits_16 c.down_to-end.result (omega (arith, ints))
+    (omega (arith, ints)) in
+    rw (to_z-of_z w32 _ e, to_z-of_z w16 _ there) more
+
+pub returns-clause-within : goal.returns-clause-within
+returns-clause-within g c =
+    let area = c.args.area in
+    let way = c.args.way in
+    let t : SFits w16 area.top = search rules in
+    let b : SFits w16 area.bottom = search rules in
+    let tb : SFits w32 c.from.result = search rules in
+    let bb : SFits w32 c.from-2.result = search rules in
+    let top : c.from.result ≡ area.top = simp to_z-of_z at c.from.ensures in
+    let bottom : c.from-2.result ≡ area.bottom = simp to_z-of_z at c.from-2.ensures in
+    let near = c.requires.near.1 in
+    let order = c.requires.down in
+    let d : SFits w32 way.down = search rules in
+    let away : SFits w32 (c.from.result -ℤ way.down) = fits_32 (c.from.result -ℤ way.down)
+    (omega (arith, ints)) (omega (arith, ints)) in
+    let a : SFits w32 c.alike.result = search rules in
+    let e : SFits w32 c.down_to-end.result = search rules in
+    let forward : (c.from.result -ℤ way.down) ≤ℤ c.alike.result =
+    simp to_z-of_z at c.alike.ensures.forward in
+    let end : c.down_to-end.result ≡ int_min (c.alike.result +ℤ way.down) c.from-2.result =
+    simp to_z-of_z at c.down_to-end.ensures in
+    let more : area.top ≤ℤ c.down_to-end.result = omega (arith, ints, clamps) in
+    let most : c.down_to-end.result ≤ℤ area.bottom = omega (arith, ints, clamps) in
+    let there : SFits w16 c.down_to-end.result = fits_16 c.down_to-end.result (omega (arith, ints))
+    (omega (arith, ints)) in
+    rw (to_z-of_z w32 _ e, to_z-of_z w16 _ there) most
+
+pub returns-clause-painted : goal.returns-clause-painted
+returns-clause-painted g c =
+    let area = c.args.area in
+    let way = c.args.way in
+    let t : SFits w16 area.top = search rules in
+    let b : SFits w16 area.bottom = search rules in
+    let tb : SFits w32 c.from.result = search rules in
+    let bb : SFits w32 c.from-2.result = search rules in
+    let top : c.from.result ≡ area.top = simp to_z-of_z at c.from.ensures in
+    let bottom : c.from-2.result ≡ area.bottom = simp to_z-of_z at c.from-2.ensures in
+    let near = c.requires.near.1 in
+    let order = c.requires.down in
+    let d : SFits w32 way.down = search rules in
+    let away : SFits w32 (c.from.result -ℤ way.down) = fits_32 (c.from.result -ℤ way.down)
+    (omega (arith, ints)) (omega (arith, ints)) in
+    let a : SFits w32 c.alike.result = search rules in
+    let e : SFits w32 c.down_to-end.result = search rules in
+    let forward : (c.from.result -ℤ way.down) ≤ℤ c.alike.result =
+    simp to_z-of_z at c.alike.ensures.forward in
+    let end : c.down_to-end.result ≡ int_min (c.alike.result +ℤ way.down) c.from-2.result =
+    simp to_z-of_z at c.down_to-end.ensures in
+    let more : area.top ≤ℤ c.down_to-end.result = omega (arith, ints, clamps) in
+    let most : c.down_to-end.result ≤ℤ area.bottom = omega (arith, ints, clamps) in
+    let there : SFits w16 c.down_to-end.result = fits_16 c.down_to-end.result (omega (arith, ints))
+    (omega (arith, ints)) in
+    let left : SFits w16 area.left = search rules in
+    let right : SFits w16 area.right = search rules in
+    let across : SFits w32 way.right = search rules in
+    let raster = c.args.raster.now in
+    let row = c.row.result in
+    let stop = c.down_to-end.result in
+    let at : ℤ → ℤ → Bool = λ x z. may_draw c.args.reach.now x z && g.L.Lay.at c.args.ink.now x z in
+    let pixels = simp (to_z-of_z w32 _ tb, to_z-of_z w32 _ d, to_z-of_z w32 _ away)
+    at c.row.ensures.pixels in
+    let same = simp (to_z-of_z w32 _ tb, to_z-of_z w32 _ d, to_z-of_z w32 _ away)
+    at c.alike.ensures.same in
+    let done = rw (
+      to_z-of_z w16 _ left,
+      to_z-of_z w16 _ right,
+      to_z-of_z w16 _ t,
+      to_z-of_z w32 _ e,
+      to_z-of_z w16 _ there,
+      to_z-of_z w32 _ across,
+    ) at c.paint_row.ensures in
+    rw (to_z-of_z w32 _ e, to_z-of_z w16 _ there) (same_painted (g.L.Lay.rule c.args.ink.now)
+    (λ x z. (between area.left x area.right && between area.top z stop)
+    && (row_has row (x -ℤ way.right) && at x z))
+    (λ x z. (between area.left x area.right && between area.top z stop)
+    && (shape_has raster way x z && at x z)) c.args.spans.now c.paint_row.new.spans
+    (λ x z. in_band (between area.left x area.right) (between area.top z stop)
+    (row_has row (x -ℤ way.right)) (shape_has raster way x z) (at x z) (λ is.
+    let low = not_below area.top z stop is in
+    let high = not_above area.top z stop is in
+    pixels (x -ℤ way.right)
+    ∙ sym (same (x -ℤ way.right) (z -ℤ way.down) (omega (arith, ints))
+    (omega (arith, ints, clamps))))) done)
