@@ -13,6 +13,9 @@ use std::collections::VecDeque;
 pub struct Counter {
     count: Count,
     log: VecDeque<(u64, Step)>,
+    // What two counters that lie side by side have between them, as a thread's writes to the one
+    // cost those of the other where both are in one line of a cache.
+    apart: [u64; 8],
 }
 
 impl Counter {
@@ -24,6 +27,7 @@ impl Counter {
         Counter {
             count,
             log: VecDeque::new(alloc),
+            apart: [0; 8],
         }
     }
 
