@@ -139,6 +139,29 @@ impl<P: Parts + Drop> Hall<P> {
         Ok(())
     }
 
+    /// Takes the part at this place too, which lies above those in hand, where no other pass has it.
+    /// Whether it did.
+    pub fn try_more(&self, pass: &mut Pass<P>, place: u32) -> bool
+        requires hall { IsPassOf P.meaning self.now pass.old }
+        requires there { place < (P.machine (rules_of self.now)).places }
+        requires above { rises_from 0 (places_of (in_hand pass.old) ++ place ∷ []) ≡ true }
+        ensures hall { IsPassOf P.meaning self.now pass.new }
+        ensures known { IsAlike (view_of pass.old) (view_of pass.new) }
+        ensures taken { result ≡ true
+            → places_of (in_hand pass.new) ≡ places_of (in_hand pass.old) ++ place ∷ [] }
+        ensures busy { result ≡ false → (hands_of pass.new ≡ hands_of pass.old)
+            × ((view_of pass.new).missed ≡ (view_of pass.old).missed ++ place ∷ []) }
+        ensures others { result ≡ false → ¬ IsAlone (view_of pass.old) }
+        ensures gives { Gives P.machine P.meaning (opened P.meaning self.now)
+            (view_of pass.new) (in_hand pass.new) }
+        ensures askable { IsAskable (P.machine (rules_of self.now))
+            (meant P.meaning (in_hand pass.new)) }
+    {
+        let is_taken = self.try_one(pass, place, Knock::Once);
+        self.see(pass);
+        is_taken
+    }
+
     // Learns anew that one history gives the parts in hand.
     fn see(&self, pass: &mut Pass<P>)
         requires { IsPassOf P.meaning self.now pass.old }
