@@ -1,7 +1,7 @@
 -- The places that a turn wants.
 use Rattle.std.proofs.Common.{◌≡◌, ℕ, zero, suc, ◌+◌, ◌<◌, ◌≤◌, ◌-◌, inl, inr, Bool, true, false}
 use Rattle.std.proofs.Common.{◌||◌, ◌&&◌}
-use Rattle.std.proofs.Common.{◌==◌, nat_lt, cond, List, [], ◌∷◌, ◌++◌, length, filter, All}
+use Rattle.std.proofs.Common.{◌==◌, nat_lt, cond, List, [], ◌∷◌, ◌++◌, length, filter, map, All}
 use Rattle.std.proofs.Common.{Contains, get_or, refl, sym, ap, ◌∙◌, subst, append-nil, eq-eqb}
 use Rattle.std.proofs.Common.{arith}
 use Rattle.std.specs.Prelude.{insert}
@@ -32,6 +32,17 @@ or_more false b c f h = f h
 
 no_false : false ≡ true → ⊥
 no_false h = cc
+
+-- a rising list with a number behind it that lies above all
+pub rises_with : (low : ℕ) (ps : List ℕ) (p : ℕ) → rises_from low ps ≡ true
+    → All (λ q. q < p) ps → low ≤ p → rises_from low (ps ++ p ∷ []) ≡ true
+rises_with low [] p h above l = both_hold (nat_lt low (p + 1)) true
+    (less_than low (p + 1) (omega arith)) refl
+rises_with low (q ∷ qs) p h above l =
+    let less : q < p = All-head (λ q. q < p) q qs above in
+    both_hold (nat_lt low (q + 1)) _ (both_true (nat_lt low (q + 1)) _ h)
+    (rises_with (q + 1) qs p (other_true (nat_lt low (q + 1)) _ h)
+    (All-tail (λ q. q < p) q qs above) (omega arith))
 
 -- a rising list without some of its numbers
 rises_lower : (low high : ℕ) (ps : List ℕ) → low ≤ high → rises_from high ps ≡ true
@@ -321,7 +332,7 @@ last_step : (b c : Bool) (n x : ℕ) (xs ys : List ℕ) → b ≡ true → ys �
 last_step true c n x xs ys e f = ap (λ r. x ∷ r) f
 last_step false c n x xs ys e f = absurd (no_false e)
 
-inserted_last : (n : ℕ) (xs : List ℕ) → All (λ p. p < n) xs → inserted n xs ≡ xs ++ n ∷ []
+pub inserted_last : (n : ℕ) (xs : List ℕ) → All (λ p. p < n) xs → inserted n xs ≡ xs ++ n ∷ []
 inserted_last n [] h = refl
 inserted_last n (x ∷ xs) h = last_step (nat_lt x n) (x == n) n x xs (inserted n xs)
     (less_than x n (All-head (λ p. p < n) x xs h))
@@ -413,6 +424,16 @@ module _ {T M : Type 0} (f : T → M) where
       → IsHeld (meant f held) p
   is_held held ps p same has = All-contains (λ q. IsHeld (meant f held) q) (places_of held) p
       (all_held held) (subst (λ l. Contains l p) (sym same) has)
+
+  places_meant : (held : List (ℕ × T)) → map (λ x. x.0) (meant f held) ≡ places_of held
+  places_meant [] = refl
+  places_meant (x ∷ xs) = ap (λ ps. x.0 ∷ ps) (places_meant xs)
+
+  -- parts that mean the same are at the same places
+  pub same_places : (held other : List (ℕ × T)) → meant f held ≡ meant f other
+      → places_of held ≡ places_of other
+  same_places held other is =
+      sym (places_meant held) ∙ (ap (map (λ x. x.0)) is ∙ places_meant other)
 
   -- a place that isn't in hand, where all that were wanted are, makes what is wanted longer
   pub grown : (owns : ℕ → Bool) (more : List ℕ) (held : List (ℕ × T)) (ps : List ℕ) (n p : ℕ)

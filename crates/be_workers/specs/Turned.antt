@@ -5,7 +5,7 @@ use Rattle.be_hall.specs.declared.hall.Hall.{Hall}
 use Rattle.be_hall.specs.declared.pass.Pass.{Pass}
 use Rattle.be_hall.specs.declared.view.Commit.{Commit}
 use Rattle.be_hall.specs.declared.view.View.{View}
-use Rattle.be_hall.specs.Hands.{meant}
+use Rattle.be_hall.specs.Hands.{meant, places_of}
 use Rattle.be_hall.specs.Machine.{Machine, Fits, IsAskable, IsHeld, SomeFits}
 use Rattle.be_hall.specs.Words.{IsPassOf, in_hand, rules_of, view_of}
 use Rattle.be_workers.specs.declared.turn.Did.{Did}
@@ -98,6 +98,13 @@ module _ {P T E R M : Type 0} {g : _} where
       (P → Machine M E) → (T → M) → Hall P T E R M g → Pass P T E R M g → Type 0
   MayAsk machine meaning hall pass =
       IsAskable (machine (rules_of hall)) (meant meaning (in_hand pass))
+
+  -- it has the parts at these places in hand, and the rules may be asked about them, or none
+  abbrev pub HasThem :
+      (P → Machine M E) → (T → M) → Hall P T E R M g → List ℕ → Bool → Pass P T E R M g → Type 0
+  HasThem machine meaning hall places has pass =
+      (has ≡ true → (places_of (in_hand pass) ≡ places) × MayAsk machine meaning hall pass)
+      × (has ≡ false → in_hand pass ≡ [])
 
   -- the pass knows of no commit
   abbrev pub IsFresh : Pass P T E R M g → Type 0

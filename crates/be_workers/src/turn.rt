@@ -1,9 +1,10 @@
 //! One turn of an activity.
-ghost use Rattle.std.specs.Prelude.{◌≡◌, ◌+◌, ◌<◌, ◌==◌, [], true, false, All, IfOk, OnErr};
+ghost use Rattle.std.specs.Prelude.{◌≡◌, ◌+◌, ◌<◌, ◌==◌, ◌++◌, ◌∷◌, ◌↔◌, [], true, false};
+ghost use Rattle.std.specs.Prelude.{All, IfOk, IsTrue, OnErr};
 ghost use Rattle.be_hall.specs.Hands.{places_of, rises_from};
 ghost use Rattle.be_hall.specs.Words.{IsPassOf, in_hand, rules_of};
-ghost use Rattle.be_workers.specs.Turned.{AskedOf, HoldsOwn, IsFree, KeepsCommits, Leaves, MayAsk};
-ghost use Rattle.be_workers.specs.Turned.{NoneBy, Told, made_by};
+ghost use Rattle.be_workers.specs.Turned.{AskedOf, HasThem, HoldsOwn, IsFree, KeepsCommits};
+ghost use Rattle.be_workers.specs.Turned.{Leaves, MayAsk, NoneBy, Told, made_by};
 ghost use Rattle.be_workers.specs.Wanted.{Suits};
 
 use crate::tools::Tools;
@@ -60,6 +61,7 @@ fn ask<G: Gate, W: Turns + Drop>(
     requires own { HoldsOwn W.machine W.meaning W.owns hall.now who pass.old }
     requires askable { MayAsk W.machine W.meaning hall.now pass.old }
     ensures hall { IsPassOf W.meaning hall.now pass.new }
+    ensures places { places_of (in_hand pass.new) ≡ places_of (in_hand pass.old) }
     ensures ok { IfOk result (AskedOf W.machine W.legal W.stops hall.now who pass.old pass.new) }
     ensures told { IfOk result (Told W.machine W.meaning W.legal hall.now who pass.old) }
     ensures err { OnErr result (KeepsCommits pass.old pass.new) }
@@ -163,10 +165,61 @@ fn grab<R: Wait, G, W: Turns + Drop>(
     true
 }
 
+// Has the parts at these places, which it takes where it hasn't yet.
+fn hold<R: Wait, G, W: Turns + Drop>(
+    tools: &Tools<'_, R, G>,
+    hall: &Hall<W>,
+    watcher: u32,
+    who: u32,
+    pass: &mut Pass<W>,
+    places: &[u32],
+    has: bool,
+) -> bool
+    requires pass { IsPassOf W.meaning hall.now pass.old }
+    requires has { HasThem W.machine W.meaning hall.now places.now has pass.old }
+    requires there { who < W.activities (rules_of hall.now) }
+    requires rising { rises_from 0 places.now ≡ true }
+    requires below { All (λ p. p < (W.machine (rules_of hall.now)).places) places.now }
+    ensures hall { IsPassOf W.meaning hall.now pass.new }
+    ensures kept { KeepsCommits pass.old pass.new }
+    ensures waits { result ≡ false → who + 1 ≡ W.activities (rules_of hall.now) }
+    ensures held { result ≡ true → places_of (in_hand pass.new) ≡ places.now }
+    ensures none { result ≡ false → in_hand pass.new ≡ [] }
+    ensures askable { result ≡ true → MayAsk W.machine W.meaning hall.now pass.new }
+{
+    has || grab(tools, hall, watcher, who, pass, places)
+}
+
+// Takes the part at this place beside those in hand, which are at these places, where it lies above
+// them and nobody has it, and else gives all back. Whether it took it.
+fn reach<W: Turns + Drop>(hall: &Hall<W>, pass: &mut Pass<W>, places: &[u32], place: u32) -> bool
+    requires pass { IsPassOf W.meaning hall.now pass.old }
+    requires held { places_of (in_hand pass.old) ≡ places.now }
+    requires rising { rises_from 0 places.now ≡ true }
+    requires there { place < (W.machine (rules_of hall.now)).places }
+    ensures hall { IsPassOf W.meaning hall.now pass.new }
+    ensures kept { KeepsCommits pass.old pass.new }
+    ensures above { result ≡ true → All (λ p. p < place) places.now }
+    ensures has { HasThem W.machine W.meaning hall.now (places.now ++ place ∷ []) result pass.new }
+{
+    if is_above(places, place) && hall.try_more(pass, place) {
+        return true;
+    }
+    hall.give(pass);
+    false
+}
+
+// Whether the place lies above these.
+fn is_above(places: &[u32], place: u32) -> bool
+    ensures { IsTrue result ↔ All (λ p. p < place) places.now }
+{
+    places.iter().all(|other| *other < place)
+}
+
 /// Asks, and takes what it needs beside, until the activity did something or could not. Each time
-/// it takes one place more. It waits for the parts, but for those of the closing activity. Where
-/// there is nothing to do, the watcher is rung once one of the parts is changed: it is the activity
-/// whose worker this is.
+/// it takes one place more, beside the others where it can, and else with them anew. It waits for
+/// the parts, but for those of the closing activity. Where there is nothing to do, the watcher is
+/// rung once one of the parts is changed: it is the activity whose worker this is.
 pub(crate) fn take_turn<R: Wait, G: Gate, W: Turns + Drop>(
     tools: &Tools<'_, R, G>,
     hall: &Hall<W>,
@@ -186,16 +239,26 @@ pub(crate) fn take_turn<R: Wait, G: Gate, W: Turns + Drop>(
 {
     let rules = hall.rules();
     wants.own(rules, who);
+    let mut has = false;
     loop {
-        if !grab(tools, hall, watcher, who, pass, wants.places()) {
+        if !hold(tools, hall, watcher, who, pass, wants.places(), has) {
             return Ok(Did::Nothing);
         }
         let asked = ask(tools.gate, hall, who, pass);
         tell(tools.bells, watcher, wants.places(), &asked);
-        hall.give(pass);
-        match asked? {
-            Asked::Came(did) => return Ok(did),
-            Asked::Needs(place) => wants.add(rules, who, place),
+        match asked {
+            Ok(Asked::Needs(place)) => {
+                has = reach(hall, pass, wants.places(), place);
+                wants.add(rules, who, place);
+            }
+            Ok(Asked::Came(did)) => {
+                hall.give(pass);
+                return Ok(did);
+            }
+            Err(NoMemory) => {
+                hall.give(pass);
+                return Err(NoMemory);
+            }
         }
     }
 }
