@@ -188,9 +188,15 @@ impl Bells {
         }
     }
 
-    /// This worker has ended. Where it leaves nobody awake it rings for the closing one, and before
-    /// that has begun for everyone.
+    /// This worker has ended. It wakes those that doze for a part, as they may wait for one that it
+    /// had. Where it leaves nobody awake it rings for the closing one, and before that has begun for
+    /// everyone.
     pub fn leave(&self, who: u32) {
+        for other in 0..self.activities {
+            if self.waits(other) {
+                self.ring(other);
+            }
+        }
         if self.is_last_to_go() && !self.ring_closing(who) {
             self.ring_all();
         }

@@ -84,10 +84,12 @@ fn ask<G: Gate, W: Turns + Drop>(
     }
 }
 
-// Tells the bells what came of asking with the parts at these places, which are still in hand.
+// Tells the bells what came of asking with the parts at these places, which are still in hand. The
+// closing entry rings nobody yet: who is rung then finds the parts in hand. All are told to stop
+// before they are rung.
 fn tell(bells: &Bells, watcher: u32, places: &[u32], asked: &Result<Asked, NoMemory>) {
     match asked {
-        Ok(Asked::Came(Did::Made | Did::Closed)) => {
+        Ok(Asked::Came(Did::Made)) => {
             bells.made(watcher);
             for place in places {
                 bells.changed(*place);
@@ -99,13 +101,13 @@ fn tell(bells: &Bells, watcher: u32, places: &[u32], asked: &Result<Asked, NoMem
                 bells.leaves(*place);
             }
         }
-        Ok(Asked::Came(Did::Over) | Asked::Needs(_)) | Err(NoMemory) => {}
+        Ok(Asked::Came(Did::Closed | Did::Over) | Asked::Needs(_)) | Err(NoMemory) => {}
     }
 }
 
 // How many microseconds a worker dozes at most each time that another has a part in hand which it
 // wants.
-const WAITS: [u64; 4] = [100, 200, 400, 800];
+const WAITS: [u64; 4] = [100, 400, 1600, 6400];
 
 // Tries some times to take the parts at these places. Whether it has them. To sleep at the part
 // itself costs more: who has it in hand wakes a thread each time that it gives it back, which mostly

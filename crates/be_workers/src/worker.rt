@@ -38,9 +38,9 @@ pub struct Worker<W: Turns> {
     pub(crate) patience: u32,
 }
 
-// How often a worker that has nothing to do looks at its bell, and lets others run, before it
-// sleeps. To be woken costs more than a step: two that pass on to each other are mostly rung while
-// they look.
+// How often a worker that made an entry and then has nothing to do looks at its bell, and lets others
+// run, before it sleeps. To be woken costs more than a step: two that pass on to each other are
+// mostly rung while they look.
 const LOOKS: u32 = 2;
 
 // How often a worker looks whether others begin: the closing one whether all do, the others whether
@@ -68,20 +68,23 @@ impl<W: Turns + Drop> Worker<W> {
     {
         let who = self.who;
         let closing = hall.rules().activities() - 1;
+        let (mut looks, mut heard) = (0, None);
         for _ in tools.rt.forever() {
-            // The bell is read first: once stop is raised all bells are rung.
+            // Once stop is raised all bells are rung, so it asks only after a ring.
             let shown = tools.bells.shown(who);
-            if hall.stopped(&mut self.pass) {
+            if heard != Some(shown) && hall.stopped(&mut self.pass) {
                 return End::Over;
             }
+            heard = Some(shown);
             if who == closing && holds_back(tools, closing, shown, &mut self.patience) {
                 continue;
             }
             match self.step(tools, hall) {
-                Ok(Did::Made) => {}
+                Ok(Did::Made) => looks = LOOKS,
                 Ok(Did::Nothing) => {
                     self.patience = self.patience.saturating_sub(1);
-                    pause(tools, who, shown);
+                    pause(tools, who, shown, looks);
+                    looks = 0;
                 }
                 Ok(Did::Over) => return End::Over,
                 Ok(Did::Closed) => {
@@ -197,10 +200,10 @@ fn holds_back<R: Wait, G>(
     true
 }
 
-// Lets others run until the bell is rung, and sleeps after some such looks. Who changes a part
-// rings those that look at it.
-fn pause<R: Wait, G>(tools: &Tools<'_, R, G>, who: u32, shown: u64) {
-    for _look in 0..LOOKS {
+// Lets others run until the bell is rung, and sleeps after so many looks. Who changes a part rings
+// those that look at it.
+fn pause<R: Wait, G>(tools: &Tools<'_, R, G>, who: u32, shown: u64, looks: u32) {
+    for _look in 0..looks {
         if tools.bells.shown(who) != shown {
             return;
         }
