@@ -189,8 +189,8 @@ impl Bells {
     }
 
     /// This worker has ended. It wakes those that doze for a part, as they may wait for one that it
-    /// had. Where it leaves nobody awake it rings for the closing one, and before that has begun for
-    /// everyone.
+    /// had. Where it leaves nobody awake it rings for the closing one, and for everyone before that
+    /// has begun.
     pub fn leave(&self, who: u32) {
         for other in 0..self.activities {
             if self.waits(other) {

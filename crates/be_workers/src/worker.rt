@@ -38,9 +38,9 @@ pub struct Worker<W: Turns> {
     pub(crate) patience: u32,
 }
 
-// How often a worker that made an entry and then has nothing to do looks at its bell, and lets others
-// run, before it sleeps. To be woken costs more than a step: two that pass on to each other are
-// mostly rung while they look.
+// How often a worker that made an entry and then has nothing to do looks at its bell, and lets
+// others run, before it sleeps. To be woken costs more than a step: two that pass on to each other
+// are mostly rung while they look.
 const LOOKS: u32 = 2;
 
 // How often a worker looks whether others begin: the closing one whether all do, the others whether
