@@ -107,7 +107,7 @@ fn tell(bells: &Bells, watcher: u32, places: &[u32], asked: &Result<Asked, NoMem
 
 // How many microseconds a worker dozes at most each time that another has a part in hand which it
 // wants.
-const WAITS: [u64; 4] = [100, 400, 1600, 6400];
+const WAITS: [u64; 6] = [100, 200, 400, 800, 1600, 3200];
 
 // Tries some times to take the parts at these places. Whether it has them. To sleep at the part
 // itself costs more: who has it in hand wakes a thread each time that it gives it back, which mostly
