@@ -1,10 +1,13 @@
 -- The pixels of a line between two of its rows are in columns between those of the two.
 use Rattle.std.proofs.Common.{◌≡◌, ℕ, ℤ, pos, ◌+ℤ◌, ◌-ℤ◌, ◌-◌, ◌/◌, ◌≤◌, ◌≤ℤ◌, ◌<ℤ◌}
-use Rattle.std.proofs.Common.{true, ◌⊎◌, inl, inr, unsigned_abs, Bool, false, ◌||◌, refl, subst, arith}
+use Rattle.std.proofs.Common.{true, ◌⊎◌, inl, inr, unsigned_abs, Bool, false, ◌||◌, refl, subst}
+use Rattle.std.proofs.Common.{◌∙◌, arith}
 use Rattle.std.specs.Int.{int_max, int_min}
 use Rattle.std.proofs.lemmas.Bool.{cases_lt}
 use Rattle.std.proofs.lemmas.Int.{ints, by_lt_z, clamps}
 use Rattle.be_geom.specs.declared.point.Point.{Point}
+use Rattle.be_geom.specs.declared.rect.Rect.{Rect}
+use Rattle.be_geom.specs.Rects.{rect_has}
 use Rattle.be_shape.specs.Rasters.{line_at, line_has, pen_covers, raster_has, steps_of}
 use Rattle.be_shape.specs.Runs.{HasPixelOfRow}
 use Rattle.be_shape.specs.declared.Raster.{Raster}
@@ -17,7 +20,9 @@ use Rattle.be_shape.proofs.BetweenLemmas.{is_below, is_between, not_above, not_b
 use Rattle.be_shape.proofs.LineLemmas.{covered_of_line, line_of_covered, near_across, near_down}
 use Rattle.be_shape.proofs.ShareLemmas.{share_mono}
 use Rattle.be_shape.proofs.WayLemmas.{at_down, at_up}
-use Rattle.be_descent.specs.Inks.{IsLine}
+use Rattle.be_span.proofs.GridLemmas.{in_from}
+use Rattle.be_descent.specs.declared.way.Way.{Way}
+use Rattle.be_descent.specs.Inks.{shape_has, IsLine}
 
 -- ---- along a line
 
@@ -295,3 +300,21 @@ round_holds a b run p q x first last f g has =
           is_between run.first x run.last (omega (arith, ints, clamps, first, low))
           (omega (arith, ints, clamps, last, high))
     ]
+
+-- a run that has the columns of the first and of the last row of an area has those of all its rows
+pub line_held : (line : Raster) (area : Rect) (way : Way) (one other : Row) (run : Span)
+    → IsLine line → HasPixelOfRow line (area.top -ℤ way.down)
+    → HasPixelOfRow line (area.bottom -ℤ way.down)
+    → ((x : ℤ) → row_has one x ≡ raster_has line x (area.top -ℤ way.down))
+    → ((x : ℤ) → row_has other x ≡ raster_has line x (area.bottom -ℤ way.down))
+    → ((x : ℤ) → (row_has one x || row_has other x) ≡ true → span_has run x ≡ true)
+    → (x y : ℤ) → rect_has area x y ≡ true → shape_has line way x y ≡ true
+    → span_has run (x -ℤ way.right) ≡ true
+line_held line area way one other run it top bottom first last some x y has is =
+    let i = in_from area x y has in
+    let low = i.top in
+    let high = i.bottom in
+    line_between line run (area.top -ℤ way.down) (area.bottom -ℤ way.down) (x -ℤ way.right)
+    (y -ℤ way.down) it (omega (arith, ints)) (omega (arith, ints)) top bottom
+    (λ z e. some z (first_of (row_has one z) (row_has other z) (first z ∙ e)))
+    (λ z e. some z (second_of (row_has one z) (row_has other z) (last z ∙ e))) is

@@ -123,7 +123,7 @@ color_is masks color (pos k) (negsuc row) h = refl
 color_is masks color (negsuc k) v h = refl
 
 -- a bit that is set is one of 64 in one of seven rows
-in_bits : (bits : Rect) (masks : List ℕ) (u v : ℤ) → bits.left ≡ pos 0 → bits.top ≡ pos 0
+pub in_bits : (bits : Rect) (masks : List ℕ) (u v : ℤ) → bits.left ≡ pos 0 → bits.top ≡ pos 0
     → bits.right ≡ pos 63 → bits.bottom ≡ pos 6 → masks_bit masks u v ≡ true
     → rect_has bits u v ≡ true
 in_bits bits masks (pos k) (pos row) l t r b e =

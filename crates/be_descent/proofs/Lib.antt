@@ -11,9 +11,11 @@ pub mod CountLemmas
 pub mod FrameLemmas
 pub mod AddLemmas
 pub mod ReachLemmas
-pub mod DrawLemmas
 pub mod BitLemmas
 pub mod InkLemmas
 pub mod RegionLemmas
+pub mod FitLemmas
 pub mod RowLemmas
 pub mod HullLemmas
+pub mod RunLemmas
+pub mod ShapeLemmas

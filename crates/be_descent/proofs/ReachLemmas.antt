@@ -2,7 +2,7 @@
 use Rattle.std.specs.Prelude.{slice_get, option_map}
 use Rattle.std.proofs.Common.{◌≡◌, ℕ, ◌+◌, ◌<◌, ◌≤◌, suc, ℤ, pos, ◌+ℤ◌, ◌-ℤ◌, Bool, true, false}
 use Rattle.std.proofs.Common.{not, ◌&&◌, ◌||◌, List, [], ◌∷◌, Option, Some, None, length, drop}
-use Rattle.std.proofs.Common.{SFits, w16, arith, refl, sym, ap, subst, ◌∙◌}
+use Rattle.std.proofs.Common.{SFits, w16, w32, arith, refl, sym, ap, subst, ◌∙◌}
 use Rattle.std.proofs.lemmas.Bool.{and_parts, true≢false, false≢true}
 use Rattle.std.proofs.lemmas.Int.{ints}
 use Rattle.be_geom.specs.declared.point.Point.{Point}
@@ -12,14 +12,14 @@ use Rattle.be_geom.specs.Rects.{rect_has}
 use Rattle.be_region.specs.Regions.{region_has}
 use Rattle.be_views.specs.Clips.{covers, IsOutside}
 use Rattle.be_views.specs.Pixels.{view_at}
-use Rattle.be_views.specs.Trees.{Tree, View}
+use Rattle.be_views.specs.Trees.{Tree, View, parent_of}
 use Rattle.be_views.specs.Whole.{IsTree}
-use Rattle.be_views.proofs.ClipLemmas.{IsIn, near_more, root_reach}
+use Rattle.be_views.proofs.ClipLemmas.{IsIn, near_less, near_more, near_sum, root_reach}
 use Rattle.be_descent.specs.declared.shown.Reached.{Reached}
 use Rattle.be_descent.specs.declared.way.Way.{Way}
 use Rattle.be_descent.specs.Fronts.{lying, shows, IsReached, IsShown, IsWay}
 use Rattle.be_descent.specs.Places.{has_moved, IsBeside, IsPartOf}
-use Rattle.be_descent.proofs.CountLemmas.{lying_more, lying_two}
+use Rattle.be_descent.proofs.CountLemmas.{lying_more, lying_two, parent_is}
 use Rattle.be_descent.proofs.ShownLemmas.{child_way, own_way, outside_is_not}
 
 pub view_framed : (o : Option View) (f : Rect) → option_map (λ (v : View). v.frame) o ≡ Some f
@@ -105,10 +105,29 @@ root_outside tree view frame window area way is got across down beside x y has =
 -- ---- a view in another one
 
 -- what is known of a view and the one in which it lies, from the answers of calls
-pub lies_in : (tree : Tree) (u c : ℕ) (w : View) → IsTree tree → c < length tree
-    → slice_get tree c ≡ Some w → w.parent ≡ Some u → IsIn tree u c w
-lies_in tree u c w whole less got is =
-    record { first = whole.parents; there = less; got = got; parent = is }
+-- there is the view that has a frame, and it lies in its parent
+pub framed_in : (tree : Tree) (u c : ℕ) (frame : Rect) → IsTree tree → c < length tree
+    → option_map (λ (v : View). v.frame) (slice_get tree c) ≡ Some frame
+    → parent_of tree c ≡ Some u → (w : View) × (IsIn tree u c w × (w.frame ≡ frame))
+framed_in tree u c frame whole less got is =
+    let view = view_framed (slice_get tree c) frame got in
+    let w = view.0 in (
+      w,
+      (
+        record {
+          first = whole.parents;
+          there = less;
+          got = view.1.0;
+          parent = sym (parent_is tree c w view.1.0) ∙ is;
+        },
+        view.1.1,
+      ),
+    )
+
+-- how far a view in it lies fits
+pub way_fits : (u : ℕ) (z edge : ℤ) → suc u ≤ 32 → SFits w16 edge → IsNear (suc u) z
+    → SFits w32 (z +ℤ edge)
+way_fits u z edge few f near = near_sum z edge f (near_less (suc u) 32 z few near)
 
 pub parent_outside : (tree : Tree) (u c : ℕ) (w : View) (found : Option ℕ) → IsIn tree u c w
     → IsOutside tree u found → IsOutside tree c found

@@ -2,8 +2,8 @@
 use Rattle.std.specs.Prelude.{if◌then◌else◌}
 use Rattle.std.specs.Option.{option_map}
 use Rattle.std.proofs.Common.{◌≡◌, ℤ, ◌+ℤ◌, ◌-ℤ◌, ◌≤ℤ◌, pos, Bool, true, false, ◌&&◌, ◌||◌, List}
-use Rattle.std.proofs.Common.{Option, None, ℕ, negsuc, ◌<◌, ◌<ℤ◌, SFits, w16, w32, unsigned_abs}
-use Rattle.std.proofs.Common.{refl, ap, sym, ◌∙◌, arith, rules}
+use Rattle.std.proofs.Common.{Option, None, ℕ, ◌<◌, ◌<ℤ◌, unsigned_abs}
+use Rattle.std.proofs.Common.{refl, ap, sym, ◌∙◌, arith}
 use Rattle.std.proofs.lemmas.Bool.{true≢false}
 use Rattle.std.proofs.lemmas.Int.{ints, by_lt_z}
 use Rattle.be_geom.specs.declared.rect.Rect.{Rect}
@@ -121,23 +121,26 @@ and_none : (a b m : Bool) → (a ≡ true → b ≡ false) → (a && m) ≡ true
 and_none true b m apart h = ap (λ c. c && m) (apart refl)
 and_none false b m apart h = absurd (true≢false (sym h))
 
--- rows up to one were painted, and then those from it on to another one
-pub band_painted : (rule : Rule) (first y end next : ℤ) (m : ℤ → ℤ → Bool) (old mid new : Spans)
-    → first ≤ℤ y → y ≤ℤ (end +ℤ pos 1) → next ≡ end +ℤ pos 1
-    → IsPainted rule (λ x z. between first z (y -ℤ pos 1) && m x z) old mid
-    → IsPainted rule (λ x z. between y z end && m x z) mid new
-    → IsPainted rule (λ x z. between first z (next -ℤ pos 1) && m x z) old new
-band_painted rule first y end next m old mid new low high is above below =
+-- The pixels whose number is from the first one up to another were painted, and then those from it
+-- on to the end.
+pub band_painted : (rule : Rule) (number : ℤ → ℤ → ℤ) (first y end next : ℤ) (m : ℤ → ℤ → Bool)
+    (old mid new : Spans) → first ≤ℤ y → y ≤ℤ (end +ℤ pos 1) → next ≡ end +ℤ pos 1
+    → IsPainted rule (λ x z. between first (number x z) (y -ℤ pos 1) && m x z) old mid
+    → IsPainted rule (λ x z. between y (number x z) end && m x z) mid new
+    → IsPainted rule (λ x z. between first (number x z) (next -ℤ pos 1) && m x z) old new
+band_painted rule number first y end next m old mid new low high is above below =
     let last : end ≡ next -ℤ pos 1 = omega (arith, ints, is) in
-    same_painted rule (λ x z. (between first z (y -ℤ pos 1) && m x z) || (between y z end && m x z))
-    (λ x z. between first z (next -ℤ pos 1) && m x z) old new
-    (λ x z. spread (between first z (y -ℤ pos 1)) (between y z end) (m x z)
-    ∙ ap (λ b. b && m x z) (rows_joined first y end z low high
-    ∙ ap (λ (e : ℤ). between first z e) last))
-    (both_painted rule (λ x z. between first z (y -ℤ pos 1) && m x z)
-    (λ x z. between y z end && m x z) old mid new
-    (λ x z. and_none (between first z (y -ℤ pos 1)) (between y z end) (m x z)
-    (rows_apart first y end z)) above below)
+    same_painted rule
+    (λ x z. (between first (number x z) (y -ℤ pos 1) && m x z)
+    || (between y (number x z) end && m x z))
+    (λ x z. between first (number x z) (next -ℤ pos 1) && m x z) old new
+    (λ x z. spread (between first (number x z) (y -ℤ pos 1)) (between y (number x z) end) (m x z)
+    ∙ ap (λ b. b && m x z) (rows_joined first y end (number x z) low high
+    ∙ ap (λ (e : ℤ). between first (number x z) e) last))
+    (both_painted rule (λ x z. between first (number x z) (y -ℤ pos 1) && m x z)
+    (λ x z. between y (number x z) end && m x z) old mid new
+    (λ x z. and_none (between first (number x z) (y -ℤ pos 1)) (between y (number x z) end) (m x z)
+    (rows_apart first y end (number x z))) above below)
 
 pub no_row_yet : (first y z : ℤ) (m : Bool) → y ≡ first
     → (between first z (y -ℤ pos 1) && m) ≡ false
@@ -219,8 +222,23 @@ pub fewer_left : (y next bottom : ℤ) → y <ℤ next → next ≤ℤ (bottom +
     → rows_left next bottom < rows_left y bottom
 fewer_left y next bottom more most = omega (arith, ints, more, most)
 
-pub fits_16 : (z : ℤ) → negsuc 32767 ≤ℤ z → z ≤ℤ pos 32767 → SFits w16 z
-fits_16 z low high = search rules
+pub none_boxed : (a h m t : Bool) → (a && h) ≡ false → (a && (h && (m && t))) ≡ false
+none_boxed true true m t e = absurd (true≢false e)
+none_boxed true false m t e = refl
+none_boxed false h m t e = refl
 
-pub fits_32 : (z : ℤ) → negsuc 2147483647 ≤ℤ z → z ≤ℤ pos 2147483647 → SFits w32 z
-fits_32 z low high = search rules
+pub boxed : (p a h m t : Bool) → p ≡ (a && h) → (p && (m && t)) ≡ (a && (h && (m && t)))
+boxed p a h m t e = ap (λ b. b && (m && t)) e ∙ and_joined a h (m && t)
+
+pub image_test : (f h m : Bool) → f ≡ true → (f && (h && (m && h))) ≡ (h && m)
+image_test f true true is = ap (λ b. b && true) is
+image_test f true false is = none_and f
+image_test f false m is = none_and f
+
+pub letter_test : (a h m t : Bool) → (t ≡ true → h ≡ true)
+    → (a && (h && (m && t))) ≡ (a && (t && m))
+letter_test a h true true in_it = ap (λ b. a && (b && true)) (in_it refl)
+letter_test a h false true in_it = ap (λ b. a && b) (none_and h)
+letter_test a true true false in_it = refl
+letter_test a true false false in_it = refl
+letter_test a false m false in_it = refl

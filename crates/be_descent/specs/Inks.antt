@@ -29,7 +29,7 @@ picture_color p way x y = color_or_clear (bitmap_pixel p (x -ℤ way.right) (y -
 
 -- ---- masks
 
--- one of seven masks, one a row, has a bit for a column and a row
+-- in seven rows of 64 bits, a mask a row, the bit of a column and a row is set
 abbrev pub masks_bit : List ℕ → ℤ → ℤ → Bool
 masks_bit masks (pos column) (pos row) = nat_lt row 7 && mask_bit (slice_index masks row) column
 masks_bit masks (pos column) (negsuc row) = false

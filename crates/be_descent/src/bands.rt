@@ -29,6 +29,7 @@ pub fn paint_bands<L: Lay>(
     ink: &L,
 )
     requires view { reach.now.view < length reach.now.tree.now }
+    requires corner { IsNear 64 reach.now.corner.right × IsNear 64 reach.now.corner.down }
     requires near { IsNear 64 way.right × IsNear 64 way.down }
     ensures { IsPainted (L.rule ink.now) (λ x y.
         shape_has raster.now way x y
@@ -63,6 +64,7 @@ fn paint_band<L: Lay>(
     ink: &L,
 ) -> i16
     requires view { reach.now.view < length reach.now.tree.now }
+    requires corner { IsNear 64 reach.now.corner.right × IsNear 64 reach.now.corner.down }
     requires near { IsNear 64 way.right × IsNear 64 way.down }
     requires down { area.top ≤ℤ area.bottom }
     ensures forward { area.top ≤ℤ result }
@@ -84,6 +86,7 @@ fn paint_band<L: Lay>(
 /// Paints the pixels of an area that are in columns of a row, which lies so far to the right.
 fn paint_row<L: Lay>(spans: &mut SpanBuf, area: Rect, row: Row, by: i32, reach: &Reach<'_>, ink: &L)
     requires view { reach.now.view < length reach.now.tree.now }
+    requires corner { IsNear 64 reach.now.corner.right × IsNear 64 reach.now.corner.down }
     requires down { area.top ≤ℤ area.bottom }
     requires row { IsRow row }
     ensures { IsPainted (L.rule ink.now) (λ x y. rect_has area x y && (row_has row (x -ℤ by)
@@ -109,6 +112,7 @@ fn paint_run<L: Lay>(
     ink: &L,
 )
     requires view { reach.now.view < length reach.now.tree.now }
+    requires corner { IsNear 64 reach.now.corner.right × IsNear 64 reach.now.corner.down }
     requires down { area.top ≤ℤ area.bottom }
     ensures { IsPainted (L.rule ink.now) (λ x y. rect_has area x y && (span_has run (x -ℤ by)
         && (may_draw reach.now x y && L.at ink.now x y))) spans.old spans.new }

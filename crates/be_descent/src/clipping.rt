@@ -1,38 +1,49 @@
-ghost use Rattle.std.specs.Prelude.{ℤ, ◌≤◌, ◌&&◌, length, take};
+ghost use Rattle.std.specs.Prelude.{ℤ, ◌+◌, ◌≤◌, ◌&&◌, length};
+ghost use Rattle.be_geom.specs.Places.{IsNear};
 ghost use Rattle.be_geom.specs.Rects.{rect_has};
 ghost use Rattle.be_span.specs.Runs.{IsSpanOf, IsInside};
-ghost use Rattle.be_descent.specs.Clips.{all_have};
+ghost use Rattle.be_descent.specs.Clips.{first_hold};
 ghost use Rattle.be_descent.specs.Painting.{IsPainted};
 
-use crate::clips::Clip;
 use crate::laying::Lay;
 use crate::walk::next_in;
+use crate::way::Way;
 use be_geom::Rect;
 use be_span::{Span, SpanBuf};
+use be_state::StateStack;
 
-/// Goes on with the pixels of a rectangle that each of the first clips has.
-pub(crate) fn within_all<L: Lay>(
-    clips: &[Clip<'_>],
-    count: usize,
+/// Goes on with the pixels of a rectangle that each clip of a view's first states has.
+pub(crate) fn within_first<L: Lay>(
+    states: &StateStack,
+    count: u32,
+    corner: Way,
     spans: &mut SpanBuf,
     next: &L,
     span: Span,
     area: Rect,
 )
-    requires count { count ≤ length clips.now }
+    requires count { count ≤ length states.now.saved + 1 }
+    requires near { IsNear 64 corner.right × IsNear 64 corner.down }
     requires span { IsSpanOf spans.old.rects span }
     requires inside { IsInside area span.rect }
     ensures { IsPainted (L.rule next.now) (λ x y. rect_has area x y
-        && (all_have (take count clips.now) x y && L.at next.now x y)) spans.old spans.new }
+        && (first_hold states.now count corner x y && L.at next.now x y)) spans.old spans.new }
 {
     if count == 0 {
         next.lay(spans, span, area);
         return;
     }
-    let clip = clips[count - 1];
+    let Some(clip) = states.clip(count - 1) else {
+        within_first(states, count - 1, corner, spans, next, span, area);
+        return;
+    };
+    let way = Way {
+        right: corner.right + clip.right,
+        down: corner.down + clip.down,
+    };
     let mut place = 0;
-    while let Some(found) = next_in(clip.region, place, clip.way, area) {
-        within_all(clips, count - 1, spans, next, span, found.part);
+    while let Some(found) = next_in(clip.region, place, way, area) {
+        within_first(states, count - 1, corner, spans, next, span, found.part);
         place = found.after;
     }
 }

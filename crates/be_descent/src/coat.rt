@@ -1,8 +1,9 @@
-ghost use Rattle.std.specs.Prelude.{◌-ℤ◌, true};
-ghost use Rattle.be_span.specs.Slices.{painted, pattern_color};
+ghost use Rattle.std.specs.Prelude.{◌≡◌, ℤ, ◌-ℤ◌, true, IfSome};
+ghost use Rattle.be_span.specs.declared.Cell.{Cell};
+ghost use Rattle.be_span.specs.Slices.{painted, pattern_color, recolored};
 
 use crate::laying::Lay;
-use be_color::Pattern;
+use be_color::{Color, Mode, Pattern, Rgb, pick};
 use be_geom::{Point, Rect};
 use be_span::{Brush, Span, SpanBuf};
 
@@ -26,5 +27,20 @@ impl Lay for Coat {
 
     fn lay(&self, spans: &mut SpanBuf, span: Span, area: Rect) {
         spans.paint_block(span, area, self.brush, &self.pattern, self.window);
+    }
+}
+
+impl Coat {
+    /// The colour that each pixel gets whatever it had, where it is one for all of them.
+    pub fn plain(&self) -> Option<Rgb>
+        ensures { IfSome result (λ rgb. (x y : ℤ) (c : Cell) → painted self.now.brush
+            (pattern_color self.now.brush self.now.pattern.rows x y) c ≡ recolored rgb c) }
+    {
+        let Brush { mode, high, low } = self.brush;
+        let bit = self.pattern.solid_bit()?;
+        match (mode, pick(mode, bit, high, low)) {
+            (Mode::Copy | Mode::Over, Color::Solid(rgb)) => Some(rgb),
+            _ => None,
+        }
     }
 }

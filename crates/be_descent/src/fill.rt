@@ -18,6 +18,7 @@ impl Lay for Fill {
 
     ghost at = { λ s x y. true };
 
+    #[inline(always)]
     fn lay(&self, spans: &mut SpanBuf, span: Span, area: Rect) {
         spans.recolor_block(span, area, self.rgb);
     }

@@ -1,15 +1,20 @@
-ghost use Rattle.std.specs.Prelude.{◌≡◌, ℤ, ◌≤ℤ◌, true, false};
+ghost use Rattle.std.specs.Prelude.{◌≡◌, ◌<◌, ℤ, ◌≤ℤ◌, true, false, ◌&&◌, length};
 ghost use Rattle.std.specs.Option.{option_map};
+ghost use Rattle.be_geom.specs.Places.{IsNear};
 ghost use Rattle.be_geom.specs.Rects.{rect_has};
 ghost use Rattle.be_span.specs.Runs.{IsInside, IsSpanOf};
 ghost use Rattle.be_span.specs.Slices.{painted};
 ghost use Rattle.be_span.specs.Spans.{cell_in};
+ghost use Rattle.be_descent.specs.Drawing.{may_draw};
 ghost use Rattle.be_descent.specs.Inks.{frame_of, picture_color};
+ghost use Rattle.be_descent.specs.Painting.{IsPainted};
 ghost use Rattle.be_descent.specs.Places.{has_moved};
 
+use crate::boxed::paint_boxed;
 use crate::far::far_from;
 use crate::laying::Lay;
 use crate::part::part_in;
+use crate::reach::Reach;
 use crate::way::Way;
 use be_bitmap::Bitmap;
 use be_geom::Rect;
@@ -36,6 +41,29 @@ impl Lay for Image<'_> {
             lay_rows(spans, span, part, self.brush, self.bitmap, self.way);
         }
     }
+}
+
+/// Paints the pixels of a picture on which a view may draw, as far as the buffer has them. Besides
+/// the descent it goes once over the rectangles of the buffer's region.
+pub fn paint_image(spans: &mut SpanBuf, image: &Image<'_>, reach: &Reach<'_>)
+    requires view { reach.now.view < length reach.now.tree.now }
+    requires corner { IsNear 64 reach.now.corner.right × IsNear 64 reach.now.corner.down }
+    ensures { IsPainted
+        (λ x y. painted image.now.brush (picture_color image.now.bitmap.now image.now.way x y))
+        (λ x y. has_moved (frame_of image.now.bitmap.now) image.now.way x y
+        && may_draw reach.now x y) spans.old spans.new }
+{
+    let Some(frame) = spans.region().frame() else {
+        return;
+    };
+    paint_boxed(
+        spans,
+        frame,
+        frame_of(image.bitmap),
+        image.way,
+        reach,
+        image,
+    );
 }
 
 /// The rectangle of a picture whose left top is at (0, 0).

@@ -1,15 +1,20 @@
 ghost use Rattle.std.specs.Prelude.{◌≡◌, ◌<◌, ◌+◌, ℕ, ℤ, pos, ◌-ℤ◌, ◌≤ℤ◌, true, false};
-ghost use Rattle.std.specs.Prelude.{length, slice_index};
+ghost use Rattle.std.specs.Prelude.{◌&&◌, length, slice_index};
 ghost use Rattle.std.specs.Option.{option_map};
+ghost use Rattle.be_geom.specs.Places.{IsNear};
 ghost use Rattle.be_geom.specs.Rects.{rect_has};
 ghost use Rattle.be_span.specs.Runs.{IsInside, IsSpanOf};
 ghost use Rattle.be_span.specs.Slices.{mask_bit, masked_color, painted};
 ghost use Rattle.be_span.specs.Spans.{cell_in};
+ghost use Rattle.be_descent.specs.Drawing.{may_draw};
 ghost use Rattle.be_descent.specs.Inks.{masks_have};
+ghost use Rattle.be_descent.specs.Painting.{IsPainted};
 
+use crate::boxed::paint_boxed;
 use crate::far::far_from;
 use crate::laying::Lay;
 use crate::part::part_in;
+use crate::reach::Reach;
 use crate::way::Way;
 use be_color::Color;
 use be_geom::Rect;
@@ -52,6 +57,18 @@ impl Lay for Letters<'_> {
             lay_masks(spans, span, part, brush, color, masks, way);
         }
     }
+}
+
+/// Paints the pixels of an area whose bit is set and on which a view may draw, as far as the buffer
+/// has them.
+pub fn paint_letters(spans: &mut SpanBuf, area: Rect, letters: &Letters<'_>, reach: &Reach<'_>)
+    requires view { reach.now.view < length reach.now.tree.now }
+    requires corner { IsNear 64 reach.now.corner.right × IsNear 64 reach.now.corner.down }
+    ensures { IsPainted (λ x y. painted letters.now.brush letters.now.color)
+        (λ x y. rect_has area x y && (masks_have letters.now.masks.now letters.now.way x y
+        && may_draw reach.now x y)) spans.old spans.new }
+{
+    paint_boxed(spans, area, BITS, letters.way, reach, letters);
 }
 
 /// Lays a colour on those pixels of a rectangle whose bit is set. All of them have one.

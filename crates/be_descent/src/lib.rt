@@ -1,5 +1,4 @@
-//! Where a view may draw, taken apart into rectangles all of which may be painted. The painter
-//! doesn't use it yet.
+//! Where a view may draw, taken apart into rectangles all of which may be painted.
 //!
 //! A descent goes through stages, each of which hands rectangles on to the next one: the spans of
 //! the buffer (`paint_area`), what is in none of the frames in front (`Below`), each clip (`Clips`)
@@ -13,15 +12,16 @@
 //!
 //! `Fronts::find` finds the frames in front of a view, and `paint_reached` is the descent for a
 //! view. `paint_bands` and `paint_line` are those of a shape that lies anywhere, by rectangles that
-//! have its pixels. Other rectangles are in screen coordinates. A stage over a region finds its
-//! rectangles by bisection where they don't follow one another; that over frames goes once over
-//! those in front, and cuts at the edges of those that are met. No call takes memory, and none but
-//! the ink looks at a pixel.
+//! have its pixels, `paint_image` is that of a picture, and `paint_letters` that of letters. Other
+//! rectangles are in screen coordinates. A stage over a region finds its rectangles by bisection
+//! where they don't follow one another; that over frames goes once over those in front, and cuts at
+//! the edges of those that are met. No call takes memory, and none but the ink looks at a pixel.
 #![tactic(auto)]
 
 mod area;
 mod bands;
 mod below;
+mod boxed;
 mod clipping;
 mod clips;
 mod coat;
@@ -31,7 +31,6 @@ mod far;
 mod fill;
 mod fronts;
 mod image;
-mod law;
 mod laying;
 mod letters;
 mod line;
@@ -50,14 +49,13 @@ mod within;
 pub use area::paint_area;
 pub use bands::paint_bands;
 pub use below::Below;
-pub use clips::{Clip, Clips};
+pub use clips::Clips;
 pub use coat::Coat;
 pub use fill::Fill;
 pub use fronts::Fronts;
-pub use image::Image;
-pub use law::draws_by_states;
+pub use image::{Image, paint_image};
 pub use laying::Lay;
-pub use letters::Letters;
+pub use letters::{Letters, paint_letters};
 pub use line::paint_line;
 pub use marks::marks_stay;
 pub use nest::{Limits, paint_within};

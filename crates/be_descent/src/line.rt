@@ -36,6 +36,7 @@ pub fn paint_line<L: Lay>(
     ink: &L,
 )
     requires view { reach.now.view < length reach.now.tree.now }
+    requires corner { IsNear 64 reach.now.corner.right × IsNear 64 reach.now.corner.down }
     requires near { IsNear 64 way.right × IsNear 64 way.down }
     ensures { IsPainted (L.rule ink.now) (λ x y.
         shape_has (Line from to pen) way x y
@@ -70,6 +71,7 @@ fn paint_part<L: Lay>(
     ink: &L,
 ) -> i16
     requires view { reach.now.view < length reach.now.tree.now }
+    requires corner { IsNear 64 reach.now.corner.right × IsNear 64 reach.now.corner.down }
     requires near { IsNear 64 way.right × IsNear 64 way.down }
     requires down { area.top ≤ℤ area.bottom }
     requires line { IsLine line.now }
@@ -100,6 +102,7 @@ fn paint_cut<L: Lay>(
     ink: &L,
 )
     requires view { reach.now.view < length reach.now.tree.now }
+    requires corner { IsNear 64 reach.now.corner.right × IsNear 64 reach.now.corner.down }
     requires near { IsNear 64 way.right × IsNear 64 way.down }
     requires down { area.top ≤ℤ area.bottom }
     requires line { IsLine line.now }

@@ -48,6 +48,7 @@ fn lay_shape<L: Lay>(
     ensures { IsPainted (L.rule next.now) (λ x y. rect_has area x y
         && (shape_has raster.now way x y && L.at next.now x y)) spans.old spans.new }
 {
+    let shape = *raster;
     let bottom = i32::from(area.bottom);
     let mut y = i32::from(area.top);
     'rows: while y <= bottom {
@@ -56,7 +57,7 @@ fn lay_shape<L: Lay>(
             bottom: y as i16,
             ..area
         };
-        lay_row(spans, span, line, raster.row(y - way.down), way.right, next);
+        lay_row(spans, span, line, shape.row(y - way.down), way.right, next);
         y += 1;
     }
 }

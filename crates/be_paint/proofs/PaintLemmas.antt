@@ -1,83 +1,289 @@
--- Pixels that stay.
-use Rattle.std.specs.Prelude.{unsigned_abs, option_map}
-use Rattle.std.proofs.Common.{◌≡◌, ◌⊎◌, ℤ, pos, ◌+ℤ◌, ◌-ℤ◌, ◌≤ℤ◌, ◌<ℤ◌, Bool, true, false, ◌&&◌, List, Option, None, inl, inr, refl, arith}
-use Rattle.std.specs.Int.{int_min, int_max}
-use Rattle.std.proofs.lemmas.Int.{ints, clamps, by_lt_z}
+-- What a descent paints is what the machine's rule makes of it.
+use Rattle.std.specs.Prelude.{if◌then◌else◌}
+use Rattle.std.specs.Option.{option_map}
+use Rattle.std.proofs.Common.{◌≡◌, ℕ, ℤ, pos, ◌+ℤ◌, ◌-ℤ◌, Bool, true, false, ◌&&◌, List, Option, Some, None}
+use Rattle.std.proofs.Common.{inl, inr, refl, sym, ap, ap₂, ◌∙◌, arith}
+use Rattle.std.proofs.lemmas.Int.{ints, by_lt_z}
+use Rattle.std.proofs.lemmas.Bool.{true≢false}
+use Rattle.std.proofs.lemmas.Option.{none-some}
+use Rattle.be_bitmap.specs.Pictures.{Picture, bitmap_pixel}
+use Rattle.be_color.specs.declared.colors.Color.{Color}
+use Rattle.be_color.specs.declared.patterns.Pattern.{Pattern}
+use Rattle.be_descent.specs.declared.way.Way.{Way}
+use Rattle.be_descent.specs.Drawing.{may_draw}
+use Rattle.be_descent.specs.Fronts.{shows}
+use Rattle.be_descent.specs.Inks.{frame_of, picture_color, shape_has}
+use Rattle.be_descent.specs.Marks.{LeavesMarks}
+use Rattle.be_descent.specs.Painting.{Rule, IsPainted}
+use Rattle.be_descent.specs.Places.{has_moved}
+use Rattle.be_geom.specs.declared.point.Point.{Point}
 use Rattle.be_geom.specs.declared.rect.Rect.{Rect}
-use Rattle.be_geom.specs.Points.{between}
+use Rattle.be_geom.specs.Places.{at_pixel}
 use Rattle.be_geom.specs.Rects.{rect_has}
-use Rattle.be_geom.proofs.Between.{between_tells}
-use Rattle.be_region.specs.Frames.{IsFrame}
 use Rattle.be_region.specs.Regions.{region_has}
+use Rattle.be_region.specs.Sessions.{SameSession}
+use Rattle.be_shape.specs.Rasters.{raster_has}
+use Rattle.be_shape.specs.declared.Raster.{Raster}
+use Rattle.be_span.specs.Cells.{Lookup}
 use Rattle.be_span.specs.declared.Cell.{Cell}
-use Rattle.be_paint.specs.Laying.{drawn_cell, source_in}
-use Rattle.be_paint.specs.declared.drawing.Drawing.{Drawing}
-use Rattle.be_paint.proofs.DrawingLemmas.{not_owned, bare_cell}
-use Rattle.be_paint.proofs.RowLemmas.{abs_is, kept_map}
+use Rattle.be_span.specs.Slices.{color_or_clear, painted, pattern_color}
+use Rattle.be_span.specs.Spans.{Spans, cell_in}
+use Rattle.be_span.proofs.CellLemmas.{cell_none}
+use Rattle.be_span.proofs.GridLemmas.{either, has_from}
+use Rattle.be_state.specs.declared.State.{State}
+use Rattle.be_state.specs.Stacks.{allows, base_of, clip_has}
+use Rattle.be_paint.specs.Inks.{Ink, shape, text, image, source_at, laid_on_cell, painted_cell}
+use Rattle.be_paint.specs.Inks.{text_has}
+use Rattle.be_paint.specs.Laying.{brush_of, descent_of, laid, source_on}
+use Rattle.be_paint.specs.Reach.{Reach, is_reached, session_has}
+use Rattle.be_paint.specs.Seen.{IsSeenAs, IsSite, has_session}
+use Rattle.be_paint.specs.declared.reach.Reach as given
+use Rattle.be_paint.specs.declared.reach.Site.{Site}
+use Rattle.be_paint.proofs.PictureLemmas.{above_of, below_of, left_of, right_of}
+use Rattle.be_paint.proofs.SeenLemmas.{seen_at, seen_on, session_same}
 
--- ---- numbers
+-- ---- where the view may draw
 
-pub count_is : (x last : ℤ) → x ≤ℤ last → pos (unsigned_abs (last -ℤ x +ℤ pos 1)) ≡ last -ℤ x +ℤ pos 1
-count_is x last h = abs_is (last -ℤ x +ℤ pos 1) (omega (arith, ints))
+clip_session : (o : Option (List Rect)) (x y : ℤ) → has_session o x y ≡ clip_has o x y
+clip_session (Some rects) x y = refl
+clip_session None x y = refl
 
--- ---- rows
+in_order : (a b c d : Bool) → a ≡ true → (a && b && c && d) ≡ (b && (c && d))
+in_order true true c d e = refl
+in_order true false c d e = refl
+in_order false b c d e = absurd (true≢false (sym e))
 
--- a pixel that no window of the region has stays
-pub stays_outside : (rects : List Rect) (d : Drawing) (x y : ℤ) (o : Option Cell) → region_has rects x y ≡ false → o ≡ option_map (drawn_cell rects d x y) o
-stays_outside rects d x y o e = kept_map (drawn_cell rects d x y) (λ c. not_owned rects d x y c e) o
+reached_is : (rects : List Rect) (g : given.Reach) (site : Site) (session : Option (List Point))
+    (x y : ℤ) → SameSession (option_map (λ r. r.now) g.session) session
+    → region_has rects x y ≡ true
+    → is_reached (region_has rects) (seen_on g site session) x y ≡ may_draw (descent_of g site) x y
+unfolding is_reached
+reached_is rects g site session x y same has =
+    let u : ℤ = x -ℤ g.window.x in
+    let v : ℤ = y -ℤ g.window.y in
+    let o = option_map (λ r. r.now) g.session in
+    let ex : u -ℤ site.view.x ≡ x -ℤ (g.window.x +ℤ site.view.x) = omega (arith, ints) in
+    let ey : v -ℤ site.view.y ≡ y -ℤ (g.window.y +ℤ site.view.y) = omega (arith, ints) in
+    let s = shows g.tree.now g.view g.window x y in
+    in_order (region_has rects x y) s (allows g.states.now (u -ℤ site.view.x) (v -ℤ site.view.y))
+    (session_has session (at_pixel u v)) has
+    ∙ ap (λ b. s && (b && session_has session (at_pixel u v))) (ap₂ (allows g.states.now) ex ey)
+    ∙ ap (λ b. s && (allows g.states.now (x -ℤ (g.window.x +ℤ site.view.x))
+    (y -ℤ (g.window.y +ℤ site.view.y)) && b))
+    (sym (session_same o session same u v) ∙ clip_session o u v)
 
--- a pixel on which the ink lays nothing stays
-pub stays_bare : (rects : List Rect) (d : Drawing) (x y : ℤ) (o : Option Cell) → source_in d x y ≡ None → o ≡ option_map (drawn_cell rects d x y) o
-stays_bare rects d x y o e = kept_map (drawn_cell rects d x y) (λ c. bare_cell rects d x y c e) o
+-- ---- what is laid
 
-pub outside_edges : (b : Bool) → (b ≡ true → ⊥) → b ≡ false
-outside_edges true h = absurd (h refl)
-outside_edges false h = refl
+-- drawing counts from there
+pub record IsFrom (site : Site) (way : Way) : Type 0 where
+  pub across : way.right ≡ site.origin.x
+  pub down : way.down ≡ site.origin.y
 
--- a pixel left or right of the frame, or above or below it, isn't in the region
-pub outside_frame : (rects : List Rect) (f : Rect) (x y : ℤ) → ((x y : ℤ) → region_has rects x y ≡ true → rect_has f x y ≡ true) → (rect_has f x y ≡ true → ⊥) → region_has rects x y ≡ false
-outside_frame rects f x y holds out = outside_edges (region_has rects x y) (λ e. out (holds x y e))
+painted_is : (rects : List Rect) (g : given.Reach) (site : Site) (seen : Reach) (way : Way)
+    (ink : Ink) (old : Lookup) (x y : ℤ) (c : Cell) → IsSeenAs g seen → IsSite g site
+    → IsFrom site way → region_has rects x y ≡ true
+    → painted_cell (region_has rects) seen ink old x y c
+    ≡ (if may_draw (descent_of g site) x y
+    then laid ink g.states.now.top.state g.window way x y c else c)
+unfolding painted_cell
+painted_is rects g site seen way ink old x y c stands is from has =
+    let s = g.states.now.top.state in
+    let u : ℤ = x -ℤ g.window.x in
+    let v : ℤ = y -ℤ g.window.y in
+    let base = base_of g.states.now in
+    let ia = is.across in
+    let id = is.down in
+    let fa = from.across in
+    let fd = from.down in
+    let ex : u -ℤ site.view.x -ℤ base.x ≡ x -ℤ way.right = omega (arith, ints, ia, fa) in
+    let ey : v -ℤ site.view.y -ℤ base.y ≡ y -ℤ way.down = omega (arith, ints, id, fd) in
+    seen_at (λ (r : Reach). painted_cell (region_has rects) r ink old x y c) g site seen stands is
+    ∙ ap (λ b. if b then laid_on_cell s c (source_at ink s (at_pixel u v)
+    (at_pixel (u -ℤ site.view.x -ℤ base.x) (v -ℤ site.view.y -ℤ base.y))) else c)
+    (reached_is rects g site seen.session x y stands.session has)
+    ∙ ap₂ (λ (p q : ℤ). if may_draw (descent_of g site) x y
+    then laid_on_cell s c (source_at ink s (at_pixel u v) (at_pixel p q)) else c) ex ey
 
-first_holds : (a b : Bool) → (a && b) ≡ true → a ≡ true
-first_holds true b e = refl
-first_holds false b e = cc
+-- ---- cells
 
-second_holds : (a b : Bool) → (a && b) ≡ true → b ≡ true
-second_holds true b e = e
-second_holds false b e = cc
+-- a pixel with a cell is in the region
+has_region : (s : Spans) (x y : ℤ) (c : Cell) → cell_in s x y ≡ Some c
+    → region_has s.rects x y ≡ true
+has_region s x y c e =
+    elim (either (region_has s.rects x y)) [
+      | inl has ↦ has
+      | inr out ↦ absurd (none-some c (sym (cell_none s x y out) ∙ e))
+    ]
 
-edges_in : (low z high : ℤ) → between low z high ≡ true → ((between low z high ≡ true) × (low ≤ℤ z) × (z ≤ℤ high)) ⊎ ((between low z high ≡ false) × ((z <ℤ low) ⊎ (high <ℤ z))) → (low ≤ℤ z) × (z ≤ℤ high)
-edges_in low z high e (inl h) = (h.1, h.2)
-edges_in low z high e (inr h) = absurd (let a = h.0 in cc)
+one_cell : (l p : Cell → Cell) (m : Bool) (old : Option Cell)
+    → ((c : Cell) → old ≡ Some c → p c ≡ (if m then l c else c))
+    → (if m then option_map l old else old) ≡ option_map p old
+one_cell l p true None due = refl
+one_cell l p false None due = refl
+one_cell l p true (Some c) due = ap Some (sym (due c refl))
+one_cell l p false (Some c) due = ap Some (sym (due c refl))
 
-pub edges : (low z high : ℤ) → between low z high ≡ true → (low ≤ℤ z) × (z ≤ℤ high)
-edges low z high e = edges_in low z high e (between_tells low z high)
+-- what is laid where the view may draw is what the machine's rule makes of the pixels
+pub laid_painted : (g : given.Reach) (site : Site) (seen : Reach) (way : Way) (ink : Ink)
+    (old new : Spans) → IsSeenAs g seen → IsSite g site → IsFrom site way
+    → IsPainted (laid ink g.states.now.top.state g.window way) (may_draw (descent_of g site))
+    old new → (x y : ℤ) → cell_in new x y
+    ≡ option_map (painted_cell (region_has old.rects) seen ink (cell_in old) x y) (cell_in old x y)
+laid_painted g site seen way ink old new stands is from done x y =
+    done.cells x y
+    ∙ one_cell (laid ink g.states.now.top.state g.window way x y)
+    (painted_cell (region_has old.rects) seen ink (cell_in old) x y)
+    (may_draw (descent_of g site) x y) (cell_in old x y)
+    (λ c e. painted_is old.rects g site seen way ink (cell_in old) x y c stands is from
+    (has_region old x y c e))
 
-pub inside_edges : (f : Rect) (x y : ℤ) → rect_has f x y ≡ true → ((f.left ≤ℤ x) × (x ≤ℤ f.right)) × ((f.top ≤ℤ y) × (y ≤ℤ f.bottom))
-inside_edges f x y e = (edges f.left x f.right (first_holds (between f.left x f.right) (between f.top y f.bottom) e), edges f.top y f.bottom (second_holds (between f.left x f.right) (between f.top y f.bottom) e))
+mark_left : (s : State) (c : Cell) (o : Option Color) → (laid_on_cell s c o).dirty ≡ c.dirty
+mark_left s c None = refl
+mark_left s c (Some color) = refl
 
--- beside the frame a pixel stays
-pub stays_beside : (rects : List Rect) (d : Drawing) (f : Rect) (x y : ℤ) (o : Option Cell) → ((x y : ℤ) → region_has rects x y ≡ true → rect_has f x y ≡ true) → ((f.left ≤ℤ x) → (x ≤ℤ f.right) → (f.top ≤ℤ y) → (y ≤ℤ f.bottom) → ⊥) → o ≡ option_map (drawn_cell rects d x y) o
-stays_beside rects d f x y o holds out =
-    stays_outside rects d x y o (outside_frame rects f x y holds (λ e. let i = inside_edges f x y e in out i.0.0 i.0.1 i.1.0 i.1.1))
+-- it leaves all marks
+pub laid_marks : (ink : Ink) (s : State) (window : Point) (way : Way)
+    → LeavesMarks (laid ink s window way)
+laid_marks ink s window way x y c = mark_left s c (source_on ink s window way x y)
 
--- outside the frame and the rows of the ink a pixel stays
-pub stays_out : (rects : List Rect) (d : Drawing) (f : Rect) (first last top bottom x y : ℤ) (o : Option Cell) → ((x y : ℤ) → region_has rects x y ≡ true → rect_has f x y ≡ true) → ((x y : ℤ) → (y <ℤ first) ⊎ (last <ℤ y) → source_in d x y ≡ None) → top ≡ int_max f.top first → bottom ≡ int_min f.bottom last → (x <ℤ f.left) ⊎ (f.right <ℤ x) ⊎ (y <ℤ top) ⊎ (bottom <ℤ y) → o ≡ option_map (drawn_cell rects d x y) o
-stays_out rects d f first last top bottom x y o holds none t b (inl left) = stays_beside rects d f x y o holds (λ i j m n. absurd (omega (arith, ints)))
-stays_out rects d f first last top bottom x y o holds none t b (inr (inl right)) = stays_beside rects d f x y o holds (λ i j m n. absurd (omega (arith, ints)))
-stays_out rects d f first last top bottom x y o holds none t b (inr (inr (inl above))) =
-    by_lt_z y f.top
-    (λ over. stays_beside rects d f x y o holds (λ i j m n. absurd (omega (arith, ints))))
-    (λ within. stays_bare rects d x y o (none x y (inl (omega (arith, ints, clamps)))))
-stays_out rects d f first last top bottom x y o holds none t b (inr (inr (inr below))) =
-    by_lt_z f.bottom y
-    (λ past. stays_beside rects d f x y o holds (λ i j m n. absurd (omega (arith, ints))))
-    (λ within. stays_bare rects d x y o (none x y (inr (omega (arith, ints, clamps)))))
+-- ---- inks by a rule of their own
 
--- where no row is in both, each pixel is above or below
-pub no_row : (top bottom y : ℤ) → bottom <ℤ top → (y <ℤ top) ⊎ (bottom <ℤ y)
-no_row top bottom y h = by_lt_z y top (λ above. inl above) (λ below. inr (omega (arith, ints)))
+-- an ink is where a test says so, with the colours of a rule, and elsewhere it lays nothing
+pub record IsInk (ink : Ink) (s : State) (window : Point) (way : Way) (rule : Rule)
+    (there : ℤ → ℤ → Bool) : Type 0 where
+  pub here : (x y : ℤ) (c : Cell) → there x y ≡ true → rule x y c ≡ laid ink s window way x y c
+  pub none : (x y : ℤ) → there x y ≡ false → source_on ink s window way x y ≡ None
 
--- a frame has a column and a row
-pub frame_across : (rects : List Rect) (f : Rect) → IsFrame f rects → f.left ≤ℤ f.right
-frame_across rects f frame = let i = inside_edges f f.left frame.left.0 (frame.holds f.left frame.left.0 frame.left.1) in i.0.1
+ink_cell : (f l : Cell → Cell) (t m : Bool) (old : Option Cell)
+    → ((c : Cell) → t ≡ true → f c ≡ l c) → ((c : Cell) → t ≡ false → l c ≡ c)
+    → (if t && m then option_map f old else old) ≡ (if m then option_map l old else old)
+ink_cell f l true true None here there = refl
+ink_cell f l true true (Some c) here there = ap Some (here c refl)
+ink_cell f l true false old here there = refl
+ink_cell f l false true None here there = refl
+ink_cell f l false true (Some c) here there = ap Some (sym (there c refl))
+ink_cell f l false false old here there = refl
+
+pub ink_laid : (ink : Ink) (s : State) (window : Point) (way : Way) (rule : Rule)
+    (there may : ℤ → ℤ → Bool) (old new : Spans) → IsInk ink s window way rule there
+    → IsPainted rule (λ x y. there x y && may x y) old new
+    → IsPainted (laid ink s window way) may old new
+ink_laid ink s window way rule there may old new lays done = record {
+  region = done.region;
+  cells = λ x y. done.cells x y
+      ∙ ink_cell (rule x y) (laid ink s window way x y) (there x y) (may x y) (cell_in old x y)
+      (λ c e. lays.here x y c e) (λ c e. ap (laid_on_cell s c) (lays.none x y e));
+}
+
+-- ---- the inks
+
+shape_there : (raster : Raster) (pattern : Pattern) (s : State) (u v x y : ℤ)
+    → raster_has raster x y ≡ true → source_at (shape raster pattern) s (at_pixel u v) (at_pixel x y)
+    ≡ Some (pattern_color (brush_of s) pattern.rows u v)
+unfolding source_at
+shape_there raster pattern s u v x y e =
+    ap (λ b. if b then Some (pattern_color (brush_of s) pattern.rows u v) else None) e
+
+shape_none : (raster : Raster) (pattern : Pattern) (s : State) (u v x y : ℤ)
+    → raster_has raster x y ≡ false
+    → source_at (shape raster pattern) s (at_pixel u v) (at_pixel x y) ≡ None
+unfolding source_at
+shape_none raster pattern s u v x y e =
+    ap (λ b. if b then Some (pattern_color (brush_of s) pattern.rows u v) else None) e
+
+pub is_shape : (raster : Raster) (pattern : Pattern) (s : State) (window : Point) (way : Way)
+    → IsInk (shape raster pattern) s window way
+    (λ x y. painted (brush_of s) (pattern_color (brush_of s) pattern.rows (x -ℤ window.x)
+    (y -ℤ window.y))) (shape_has raster way)
+is_shape raster pattern s window way = record {
+  here = λ x y c e. ap (laid_on_cell s c) (sym (shape_there raster pattern s (x -ℤ window.x)
+      (y -ℤ window.y) (x -ℤ way.right) (y -ℤ way.down) e));
+  none = λ x y e. shape_none raster pattern s (x -ℤ window.x) (y -ℤ window.y) (x -ℤ way.right)
+      (y -ℤ way.down) e;
+}
+
+text_source : (codes : List ℕ) (s : State) (u v x y : ℤ)
+    → source_at (text codes) s (at_pixel u v) (at_pixel x y)
+    ≡ (if text_has codes s.pen.x s.pen.y x y then Some s.high else None)
+unfolding source_at
+text_source codes s u v x y = refl
+
+pub is_text : (codes : List ℕ) (s : State) (window : Point) (way : Way)
+    → IsInk (text codes) s window way (λ x y. painted (brush_of s) s.high)
+    (λ x y. text_has codes s.pen.x s.pen.y (x -ℤ way.right) (y -ℤ way.down))
+is_text codes s window way = record {
+  here = λ x y c e. ap (laid_on_cell s c)
+      (sym (text_source codes s (x -ℤ window.x) (y -ℤ window.y) (x -ℤ way.right) (y -ℤ way.down)
+      ∙ ap (λ b. if b then Some s.high else None) e));
+  none = λ x y e.
+      text_source codes s (x -ℤ window.x) (y -ℤ window.y) (x -ℤ way.right) (y -ℤ way.down)
+      ∙ ap (λ b. if b then Some s.high else None) e;
+}
+
+image_source : (picture : Picture) (corner : Point) (s : State) (u v x y : ℤ)
+    → source_at (image picture corner) s (at_pixel u v) (at_pixel x y)
+    ≡ bitmap_pixel picture (x -ℤ corner.x) (y -ℤ corner.y)
+unfolding source_at
+image_source picture corner s u v x y = refl
+
+color_laid : (s : State) (o : Option Color) (c : Cell)
+    → painted (brush_of s) (color_or_clear o) c ≡ laid_on_cell s c o
+color_laid s (Some color) c = refl
+color_laid s None c = refl
+
+-- outside its frame a picture has no pixel
+none_outside : (picture : Picture) (u v : ℤ) → rect_has (frame_of picture) u v ≡ false
+    → bitmap_pixel picture u v ≡ None
+none_outside picture u v out =
+    by_lt_z u (pos 0) (λ h. left_of picture u v h)
+    (λ from. by_lt_z (pos picture.width -ℤ pos 1) u
+    (λ h. right_of picture u v (omega (arith, ints, h)))
+    (λ to. by_lt_z v (pos 0) (λ h. above_of picture u v h)
+    (λ down. by_lt_z (pos picture.height -ℤ pos 1) v
+    (λ h. below_of picture u v (omega (arith, ints, h)))
+    (λ up. absurd (true≢false (sym (has_from (frame_of picture) u v record {
+      left = from;
+      right = to;
+      top = down;
+      bottom = up;
+    }) ∙ out))))))
+
+pub is_image : (picture : Picture) (corner : Point) (s : State) (window : Point) (way at : Way)
+    → at.right ≡ way.right +ℤ corner.x → at.down ≡ way.down +ℤ corner.y
+    → IsInk (image picture corner) s window way
+    (λ x y. painted (brush_of s) (picture_color picture at x y)) (has_moved (frame_of picture) at)
+is_image picture corner s window way at across down = record {
+  here = λ x y c e.
+      color_laid s (bitmap_pixel picture (x -ℤ at.right) (y -ℤ at.down)) c
+      ∙ ap (laid_on_cell s c) (sym (where_it_is x y));
+  none = λ x y e. where_it_is x y ∙ none_outside picture (x -ℤ at.right) (y -ℤ at.down) e;
+}
+  where
+    where_it_is : (x y : ℤ) → source_on (image picture corner) s window way x y
+        ≡ bitmap_pixel picture (x -ℤ at.right) (y -ℤ at.down)
+    where_it_is x y =
+        let ex : x -ℤ way.right -ℤ corner.x ≡ x -ℤ at.right = omega (arith, ints, across) in
+        let ey : y -ℤ way.down -ℤ corner.y ≡ y -ℤ at.down = omega (arith, ints, down) in
+        image_source picture corner s (x -ℤ window.x) (y -ℤ window.y) (x -ℤ way.right)
+        (y -ℤ way.down) ∙ ap₂ (bitmap_pixel picture) ex ey
+
+-- ---- rules that agree
+
+same_mapped : (f g : Cell → Cell) (old : Option Cell) → ((c : Cell) → f c ≡ g c)
+    → option_map f old ≡ option_map g old
+same_mapped f g None same = refl
+same_mapped f g (Some c) same = ap Some (same c)
+
+pub rule_painted : (p q : Rule) (at : ℤ → ℤ → Bool) (old new : Spans)
+    → ((x y : ℤ) (c : Cell) → p x y c ≡ q x y c) → IsPainted p at old new → IsPainted q at old new
+rule_painted p q at old new same done = record {
+  region = done.region;
+  cells = λ x y. done.cells x y
+      ∙ ap (λ (o : Option Cell). if at x y then o else cell_in old x y)
+      (same_mapped (p x y) (q x y) (cell_in old x y) (same x y));
+}
+
+pub and_true : (a b : Bool) → (a && (b && true)) ≡ (a && b)
+and_true true true = refl
+and_true true false = refl
+and_true false b = refl

@@ -1,4 +1,5 @@
--- In which colours pixels of the screen are newly exposed where a view is invalidated (this project's own).
+-- In which colours pixels of the screen are newly exposed where a view is invalidated (this
+-- project's own).
 use Rattle.std.specs.Prelude.{ℕ, ℤ, List, Option, Some, None, slice_get, if◌then◌else◌}
 use Rattle.be_geom.specs.declared.rect.Rect.{Rect}
 use Rattle.be_color.specs.declared.colors.Color.{Color}
@@ -12,7 +13,10 @@ abbrev pub color_below : Tree → ℕ → List Color → Option ℕ → Option C
 color_below tree v colors (Some u) = if is_at_or_below tree v u then slice_get colors u else None
 color_below tree v colors None = None
 
--- the colour of the view at a pixel that the window owns, by its region, where that is this view or lies in it
+-- the colour of the view at a pixel that the window owns, by its region, where that is this view or
+-- lies in it
 abbrev pub exposed_color : List Rect → Reach → List Color → ℤ → ℤ → Option Color
 exposed_color rects given colors x y =
-    if region_has rects x y then color_below given.tree.now given.view colors (view_on given x y) else None
+    if region_has rects x y
+    then color_below given.tree.now given.view colors (view_on given x y)
+    else None

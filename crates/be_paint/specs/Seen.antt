@@ -1,6 +1,6 @@
 -- What the code's reach stands for, and what it says of a pixel of the screen (this project's own).
-use Rattle.std.specs.Prelude.{◌≡◌, ℕ, ℤ, Bool, true, ◌&&◌, ◌+ℤ◌, ◌-ℤ◌, List, Option, Some, None, option_map}
-use Rattle.be_geom.specs.declared.point.Point.{Point}
+use Rattle.std.specs.Prelude.{◌≡◌, ℕ, ℤ, Bool, true, ◌&&◌, ◌+ℤ◌, ◌-ℤ◌, List, Option, Some, None}
+use Rattle.std.specs.Prelude.{option_map}
 use Rattle.be_geom.specs.declared.rect.Rect.{Rect}
 use Rattle.be_geom.specs.Numbers.{is_number}
 use Rattle.be_geom.specs.Places.{at_pixel, IsNear}
@@ -37,7 +37,8 @@ is_own rects given x y = region_has rects x y && is_number given.view (view_on g
 
 -- every clip holds it, where the view's left top is at a place in the window
 abbrev pub is_allowed : Reach → Pixel → ℤ → ℤ → Bool
-is_allowed given place x y = allows given.states.now (x -ℤ given.window.x -ℤ place.x) (y -ℤ given.window.y -ℤ place.y)
+is_allowed given place x y =
+    allows given.states.now (x -ℤ given.window.x -ℤ place.x) (y -ℤ given.window.y -ℤ place.y)
 
 -- a session's region has it, if there is one
 abbrev pub has_session : Option (List Rect) → ℤ → ℤ → Bool
@@ -45,19 +46,17 @@ has_session (Some rects) x y = region_has rects x y
 has_session None x y = true
 
 abbrev pub is_open : Reach → ℤ → ℤ → Bool
-is_open given x y = has_session (option_map (λ r. r.now) given.session) (x -ℤ given.window.x) (y -ℤ given.window.y)
+is_open given x y =
+    has_session (option_map (λ r. r.now) given.session) (x -ℤ given.window.x) (y -ℤ given.window.y)
 
 -- all of these
 abbrev pub may_draw : List Rect → Reach → Pixel → ℤ → ℤ → Bool
-may_draw rects given place x y = is_own rects given x y && is_allowed given place x y && is_open given x y
+may_draw rects given place x y =
+    is_own rects given x y && is_allowed given place x y && is_open given x y
 
 -- as far from the window's left top as 32 frames can be
 abbrev pub IsPlace : Pixel → Type 0
 IsPlace place = IsNear 32 place.x × IsNear 32 place.y
-
--- as far from the view's left top as 17 origins can be
-abbrev pub IsBase : Pixel → Type 0
-IsBase base = IsNear 17 base.x × IsNear 17 base.y
 
 -- ---- where it draws
 

@@ -6,8 +6,8 @@ ghost use Rattle.be_paint.specs.Areas.{HaveNone, AreInner};
 use crate::pixel::Pixel;
 use be_geom::Rect;
 
-/// The pixels of a rectangle, moved by a way, that are in another one. None where there are none. What is moved may leave
-/// the range of coordinates.
+/// The pixels of a rectangle, moved by a way, that are in another one. None where there are none.
+/// What is moved may leave the range of coordinates.
 pub(crate) fn part_within(rect: Rect, way: Pixel, outer: Rect) -> Option<Rect>
     requires across { IsNear 64 way.x }
     requires down { IsNear 64 way.y }

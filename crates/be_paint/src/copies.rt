@@ -19,9 +19,10 @@ use be_color::Color;
 use be_geom::{Point, Rect};
 use be_span::SpanBuf;
 
-/// Copies a rectangle of the view, in drawing coordinates, to where its left top comes to `target`: `BView::CopyBits`.
-/// The old pixels alone are read, and only those that the window owns and the view is at; where another one would come,
-/// the view's colour comes, and the pixel waits to be drawn. Nothing is written where the view may not draw.
+/// Copies a rectangle of the view, in drawing coordinates, to where its left top comes to `target`:
+/// `BView::CopyBits`. The old pixels alone are read, and only those that the window owns and the
+/// view is at; where another one would come, the view's colour comes, and the pixel waits to be
+/// drawn. Nothing is written where the view may not draw.
 pub fn copy_bits(
     spans: &mut SpanBuf,
     reach: &Reach<'_>,
@@ -81,8 +82,8 @@ fn sum_of(origin: Pixel, way: Pixel) -> Pixel
     }
 }
 
-/// Copies to the pixels of a rectangle of the screen. Where the copy goes down, the last row is the first to be written,
-/// so that each is read before it is.
+/// Copies to the pixels of a rectangle of the screen. Where the copy goes down, the last row is the
+/// first to be written, so that each is read before it is.
 fn copy_area(spans: &mut SpanBuf, copying: &Copying<'_>, area: Rect)
     requires movable { IsMovable copying.now }
     requires across { area.left ≤ℤ area.right }
@@ -138,9 +139,10 @@ fn copy_upwards(spans: &mut SpanBuf, copying: &Copying<'_>, area: Rect)
     }
 }
 
-/// Copies to the pixels of a row from column x to the end: by halves, unless all of them have one fate. Where the copy
-/// goes right, the right half is the first to be written, so that each pixel is read before it is. It takes at most 17
-/// calls, one in another, and for each run a few that grow with the logarithm of the columns.
+/// Copies to the pixels of a row from column x to the end: by halves, unless all of them have one
+/// fate. Where the copy goes right, the right half is the first to be written, so that each pixel
+/// is read before it is. It takes at most 17 calls, one in another, and for each run a few that
+/// grow with the logarithm of the columns.
 fn copy_part(spans: &mut SpanBuf, copying: &Copying<'_>, y: i32, x: i32, end: i32)
     requires movable { IsMovable copying.now }
     requires row { IsCoordinate y }

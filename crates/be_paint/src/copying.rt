@@ -33,8 +33,8 @@ pub(crate) enum Change {
 }
 
 impl Copying<'_> {
-    /// What becomes of a pixel of the screen to which the copy goes, and the last column, `end` at most, up to which
-    /// that stays so at least. `owned` is what the window owns.
+    /// What becomes of a pixel of the screen to which the copy goes, and the last column, `end` at
+    /// most, up to which that stays so at least. `owned` is what the window owns.
     pub(crate) fn run_at(&self, owned: &Region, x: i32, y: i32, end: i32) -> (Change, i32)
         requires movable { IsMovable self.now }
         requires row { IsCoordinate y }
@@ -53,8 +53,8 @@ impl Copying<'_> {
         (change, last)
     }
 
-    /// Whether the window owns the pixel from which the copy goes to one of the screen, and the view is at it, and so
-    /// on.
+    /// Whether the window owns the pixel from which the copy goes to one of the screen, and the
+    /// view is at it, and so on.
     fn source_run(&self, owned: &Region, x: i32, y: i32, end: i32) -> (bool, i32)
         requires movable { IsMovable self.now }
         requires row { IsCoordinate y }

@@ -1,4 +1,5 @@
-ghost use Rattle.std.specs.Prelude.{◌≡◌, ℕ, ℤ, pos, ◌<◌, ◌+ℤ◌, ◌-ℤ◌, ◌*ℤ◌, ◌≤ℤ◌, ◌<ℤ◌, ◌||◌, false, length, slice_index};
+ghost use Rattle.std.specs.Prelude.{◌≡◌, ℕ, ℤ, pos, ◌<◌, ◌+ℤ◌, ◌-ℤ◌, ◌*ℤ◌, ◌≤ℤ◌, ◌<ℤ◌, ◌||◌};
+ghost use Rattle.std.specs.Prelude.{false, length, slice_index};
 ghost use Rattle.be_font.specs.Runs.{row_bit};
 ghost use Rattle.be_span.specs.Slices.{mask_bit};
 ghost use Rattle.be_geom.specs.Places.{IsNear};
@@ -19,11 +20,15 @@ const LAST_PEN: i32 = 32767;
 /// More columns than there are from any pen to the end of a glyph where it stops.
 const MOST_COLUMNS: usize = 65544;
 
-/// The last of the pixels that a mask has a bit for.
-pub(crate) const LAST_BIT: i32 = 63;
+/// How many columns a mask has a bit for.
+pub(crate) const COLUMNS: i32 = 64;
 
-/// Which of 64 pixels of each row of the glyphs, from a column of drawing on, they cover, the first one by the highest bit.
-/// It takes a few steps for each glyph among them, and for each one where the pen stopped.
+/// The last of them.
+const LAST_BIT: i32 = 63;
+
+/// Which of 64 pixels of each row of the glyphs, from a column of drawing on, they cover, the first
+/// one by the highest bit. It takes a few steps for each glyph among them, and for each one where
+/// the pen stopped.
 #[inline(always)]
 pub(crate) fn masks_at(codes: &[u8], pen: Point, x: i32) -> [u64; 7]
     requires { IsNear 62 x }
@@ -36,7 +41,8 @@ pub(crate) fn masks_at(codes: &[u8], pen: Point, x: i32) -> [u64; 7]
     masks_of(&codes[count..], pen, x)
 }
 
-/// A column behind the last one that a glyph has. It stays near where the pen stops, however long the text is.
+/// A column behind the last one that a glyph has. It stays near where the pen stops, however long
+/// the text is.
 pub(crate) fn end_of(codes: &[u8], pen: Point) -> i32
     ensures end { (x y : ℤ) → result <ℤ x → text_has codes.now pen.x pen.y x y ≡ false }
     ensures near { IsNear 4 result }
@@ -67,8 +73,8 @@ fn columns_before(pen: i16, x: i32) -> u16
     if last < pen { 0 } else { (last - pen) as u16 }
 }
 
-/// Which of 64 pixels of each row the glyphs from a pen on cover. It goes through them in turn up to the first one that
-/// begins behind the pixels.
+/// Which of 64 pixels of each row the glyphs from a pen on cover. It goes through them in turn up
+/// to the first one that begins behind the pixels.
 #[inline(always)]
 fn masks_of(codes: &[u8], pen: i16, x: i32) -> [u64; 7]
     requires { IsNear 62 x }
@@ -113,12 +119,4 @@ fn placed(byte: u8, left: i32) -> u64
     } else {
         0
     }
-}
-
-/// Whether a mask has the bit of a pixel, counted from the highest.
-pub(crate) fn is_set(mask: u64, place: usize) -> bool
-    requires { place < 64 }
-    ensures { result ≡ mask_bit mask place }
-{
-    mask >> (63 - place) & 1 == 1
 }

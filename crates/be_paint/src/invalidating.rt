@@ -26,9 +26,10 @@ pub(crate) struct Exposure<'a> {
     colors: &'a [Color],
 }
 
-/// Invalidates a rectangle, in drawing coordinates, of the view and of those in it: `BView::Invalidate`. Each pixel
-/// that the window owns there gets the colour of its own view, and waits to be drawn. `colors` are those of all views,
-/// by their numbers. Clips and sessions play no part.
+/// Invalidates a rectangle, in drawing coordinates, of the view and of those in it:
+/// `BView::Invalidate`. Each pixel that the window owns there gets the colour of its own view, and
+/// waits to be drawn. `colors` are those of all views, by their numbers. Clips and sessions play no
+/// part.
 pub fn invalidate(spans: &mut SpanBuf, reach: &Reach<'_>, rect: Rect, colors: &[Color])
     requires { reach.now.view < length reach.now.tree.now }
     ensures region { spans.new.rects ≡ spans.old.rects }
@@ -102,8 +103,8 @@ fn expose_run(spans: &mut SpanBuf, at: Pixel, last: i32, color: Option<Color>)
 }
 
 impl Exposure<'_> {
-    /// In which colour a pixel of the screen is newly exposed, and the last column, `end` at most, up to which that
-    /// stays so at least. None where it stays. `owned` is what the window owns.
+    /// In which colour a pixel of the screen is newly exposed, and the last column, `end` at most,
+    /// up to which that stays so at least. None where it stays. `owned` is what the window owns.
     fn run_at(&self, owned: &Region, x: i32, y: i32, end: i32) -> (Option<Color>, i32)
         requires row { IsCoordinate y }
         requires left { IsCoordinate x }

@@ -3,7 +3,8 @@ ghost use Rattle.be_views.specs.Trees.{lies_within, is_at_or_below};
 
 use be_views::ViewTree;
 
-/// Whether a view is another one, or lies in it at some depth. It takes a step for each view between them.
+/// Whether a view is another one, or lies in it at some depth. It takes a step for each view
+/// between them.
 #[tactic(auto, unfolding(be_views::specs::Trees::is_at_or_below))]
 pub(crate) fn is_at_or_below(tree: &ViewTree, above: u16, view: u16) -> bool
     ensures { result ≡ is_at_or_below tree.now above view }

@@ -1,144 +1,93 @@
-ghost use Rattle.std.specs.Prelude.{◌≡◌, ℤ, pos, ◌+ℤ◌, ◌≤ℤ◌, Some, count_by};
-ghost use Rattle.be_paint.specs.Laying.{source_in, AreGlyphRows, IsDrawnWithin, IsKnown, IsMaskOf, IsTextOf};
-ghost use Rattle.be_paint.specs.Seen.{IsBase, IsPlace};
-ghost use Rattle.be_paint.specs.Stretches.{IsBeyond, IsInRange};
+ghost use Rattle.std.specs.Prelude.{◌≡◌, ◌<◌, ℤ, pos, ◌+ℤ◌, ◌-ℤ◌, ◌≤ℤ◌, true, ◌&&◌, length};
+ghost use Rattle.be_descent.specs.Drawing.{may_draw};
+ghost use Rattle.be_descent.specs.Painting.{IsPainted};
+ghost use Rattle.be_geom.specs.Places.{IsNear};
+ghost use Rattle.be_geom.specs.Points.{between};
+ghost use Rattle.be_geom.specs.Rects.{rect_has};
+ghost use Rattle.be_paint.specs.Laying.{text_at};
+ghost use Rattle.be_span.specs.Slices.{painted};
 
-use crate::drawing::{Drawing, Known};
-use crate::glyphs::{ASCENT, LAST_BIT, is_set, masks_at};
-use crate::laying::{brush_of, glyph_row, top_of};
-use crate::pixel::{Pixel, steps};
-use be_span::SpanBuf;
+use crate::glyphs::{ASCENT, COLUMNS, end_of, masks_at};
+use be_color::Color;
+use be_descent::{Letters, Reach, Way, paint_letters};
+use be_geom::{Point, Rect};
+use be_span::{Brush, SpanBuf};
 
-/// Draws a text on the pixels of the screen from one on to another, right and down. Of each pixel of a glyph is asked
-/// whether the view may draw on it, unless that is known.
-#[inline(never)]
-pub(crate) fn draw_glyphs(
-    spans: &mut SpanBuf,
-    drawing: &Drawing<'_>,
-    codes: &[u8],
-    at: Pixel,
-    end: Pixel,
-    known: &mut Known,
-)
-    requires view { IsPlace drawing.now.view }
-    requires base { IsBase drawing.now.base }
-    requires far { IsInRange drawing.now.far }
-    requires from { IsInRange at }
-    requires forward { IsBeyond at end }
-    requires to { IsBeyond end drawing.now.far }
-    requires text { IsTextOf drawing.now codes.now }
-    requires known { IsKnown spans.old.rects drawing.now known.old }
-    ensures region { spans.new.rects ≡ spans.old.rects }
-    ensures cells { IsDrawnWithin drawing.now spans.old spans.new at end }
-    ensures known { IsKnown spans.old.rects drawing.now known.new }
-    ensures marks { count_by (λ c. c.dirty) spans.new.cells
-        ≡ count_by (λ c. c.dirty) spans.old.cells }
+/// Glyphs from a pen on, in drawing coordinates.
+#[derive(Clone, Copy)]
+pub(crate) struct Text<'a> {
+    pub codes: &'a [u8],
+    pub pen: Point,
+    /// Where drawing counts from on the screen.
+    pub way: Way,
+    pub brush: Brush,
+    pub color: Color,
+}
+
+/// Draws a text: for each 64 columns, the seven rows of the glyphs there at once.
+pub(crate) fn paint_text(spans: &mut SpanBuf, text: &Text<'_>, reach: &Reach<'_>)
+    requires view { reach.now.view < length reach.now.tree.now }
+    requires corner { IsNear 64 reach.now.corner.right × IsNear 64 reach.now.corner.down }
+    requires near { IsNear 60 text.now.way.right × IsNear 60 text.now.way.down }
+    ensures { IsPainted (λ x y. painted text.now.brush text.now.color)
+        (λ x y. text_at text.now x y && may_draw reach.now x y) spans.old spans.new }
 {
-    let top = top_of(drawing);
-    let first = at.y.max(top);
-    let bottom = end.y.min(top + ASCENT);
-    if bottom < first {
+    let Some(frame) = spans.region().frame() else {
         return;
-    }
-    let mut x = at.x;
-    'columns: while x <= end.x {
-        let right = end.x.min(x + LAST_BIT);
-        let from = Pixel { x, y: first };
-        let to = Pixel {
-            x: right,
-            y: bottom,
-        };
-        draw_rows(spans, drawing, codes, from, to, known);
-        x = right + 1;
+    };
+    let (first, last) = columns_in(text, frame);
+    let mut x = first;
+    'columns: while x <= last {
+        paint_columns(spans, frame, text, x, reach);
+        x += COLUMNS;
     }
 }
 
-/// The same of 64 columns at most, in rows of the glyphs.
-fn draw_rows(
-    spans: &mut SpanBuf,
-    drawing: &Drawing<'_>,
-    codes: &[u8],
-    at: Pixel,
-    last: Pixel,
-    known: &mut Known,
-)
-    requires view { IsPlace drawing.now.view }
-    requires base { IsBase drawing.now.base }
-    requires far { IsInRange drawing.now.far }
-    requires from { IsInRange at }
-    requires forward { IsBeyond at last }
-    requires to { IsBeyond last drawing.now.far }
-    requires text { IsTextOf drawing.now codes.now }
-    requires narrow { last.x ≤ℤ (at.x +ℤ pos 63) }
-    requires rows { AreGlyphRows drawing.now at.y last.y }
-    requires known { IsKnown spans.old.rects drawing.now known.old }
-    ensures region { spans.new.rects ≡ spans.old.rects }
-    ensures cells { IsDrawnWithin drawing.now spans.old spans.new at last }
-    ensures known { IsKnown spans.old.rects drawing.now known.new }
-    ensures marks { count_by (λ c. c.dirty) spans.new.cells
-        ≡ count_by (λ c. c.dirty) spans.old.cells }
+/// From which to which column of drawing the text may have pixels of an area. It has none where
+/// the last one comes first.
+fn columns_in(text: &Text<'_>, area: Rect) -> (i32, i32)
+    requires { IsNear 60 text.now.way.right }
+    ensures near { IsNear 62 result.0 × IsNear 62 result.1 }
+    ensures within { (x y : ℤ) → rect_has area x y ≡ true → text_at text.now x y ≡ true
+        → (result.0 ≤ℤ (x -ℤ text.now.way.right)) × ((x -ℤ text.now.way.right) ≤ℤ result.1) }
 {
-    let pen = drawing.reach.states.top().pen;
-    let masks = masks_at(codes, pen, at.x - drawing.first_column());
-    let mut y = at.y;
-    'rows: while y <= last.y {
-        let mask = masks[glyph_row(drawing, y)];
-        draw_row(spans, drawing, mask, Pixel { x: at.x, y }, last.x, known);
-        y += 1;
-    }
+    let Text {
+        codes,
+        pen,
+        way,
+        ..
+    } = *text;
+    let first = i32::from(pen.x).max(i32::from(area.left) - way.right);
+    let last = end_of(codes, pen).min(i32::from(area.right) - way.right);
+    (first, last)
 }
 
-/// Draws on the pixels of a row from one on to a column whose bit of a mask is set.
-fn draw_row(
-    spans: &mut SpanBuf,
-    drawing: &Drawing<'_>,
-    mask: u64,
-    at: Pixel,
-    right: i32,
-    known: &mut Known,
-)
-    requires view { IsPlace drawing.now.view }
-    requires base { IsBase drawing.now.base }
-    requires far { IsInRange drawing.now.far }
-    requires from { IsInRange at }
-    requires forward { IsBeyond at record { x = right; y = at.y } }
-    requires to { IsBeyond record { x = right; y = at.y } drawing.now.far }
-    requires narrow { right ≤ℤ (at.x +ℤ pos 63) }
-    requires mask { IsMaskOf drawing.now mask drawing.now.reach.now.states.now.top.state.high at right }
-    requires known { IsKnown spans.old.rects drawing.now known.old }
-    ensures region { spans.new.rects ≡ spans.old.rects }
-    ensures cells { IsDrawnWithin drawing.now spans.old spans.new at record { x = right; y = at.y } }
-    ensures known { IsKnown spans.old.rects drawing.now known.new }
-    ensures marks { count_by (λ c. c.dirty) spans.new.cells
-        ≡ count_by (λ c. c.dirty) spans.old.cells }
+/// Draws those of 64 columns of drawing, from one on, as far as an area has them.
+fn paint_columns(spans: &mut SpanBuf, area: Rect, text: &Text<'_>, x: i32, reach: &Reach<'_>)
+    requires view { reach.now.view < length reach.now.tree.now }
+    requires corner { IsNear 64 reach.now.corner.right × IsNear 64 reach.now.corner.down }
+    requires near { IsNear 60 text.now.way.right × IsNear 60 text.now.way.down }
+    requires column { IsNear 62 x }
+    ensures { IsPainted (λ u v. painted text.now.brush text.now.color)
+        (λ u v. rect_has area u v && (between x (u -ℤ text.now.way.right) (x +ℤ pos 63)
+        && (text_at text.now u v && may_draw reach.now u v))) spans.old spans.new }
 {
-    let mut x = at.x;
-    'columns: while x <= right {
-        if is_set(mask, steps(at.x, x)) {
-            draw_letter(spans, drawing, Pixel { x, y: at.y }, known);
-        }
-        x += 1;
-    }
-}
-
-/// Draws on a pixel of a glyph.
-fn draw_letter(spans: &mut SpanBuf, drawing: &Drawing<'_>, at: Pixel, known: &mut Known)
-    requires view { IsPlace drawing.now.view }
-    requires base { IsBase drawing.now.base }
-    requires far { IsInRange drawing.now.far }
-    requires from { IsInRange at }
-    requires to { IsBeyond at drawing.now.far }
-    requires inked { source_in drawing.now at.x at.y ≡ Some drawing.now.reach.now.states.now.top.state.high }
-    requires known { IsKnown spans.old.rects drawing.now known.old }
-    ensures region { spans.new.rects ≡ spans.old.rects }
-    ensures cells { IsDrawnWithin drawing.now spans.old spans.new at at }
-    ensures known { IsKnown spans.old.rects drawing.now known.new }
-    ensures marks { count_by (λ c. c.dirty) spans.new.cells
-        ≡ count_by (λ c. c.dirty) spans.old.cells }
-{
-    let (span, _) = drawing.block_at(spans, at, known);
-    if let Some(span) = span {
-        let state = drawing.reach.states.top();
-        spans.paint_pixel(span, at.x, at.y, brush_of(state), state.high);
-    }
+    let Text {
+        codes,
+        pen,
+        way,
+        brush,
+        color,
+    } = *text;
+    let masks = masks_at(codes, pen, x);
+    let letters = Letters {
+        brush,
+        color,
+        masks: &masks,
+        way: Way {
+            right: way.right + x,
+            down: way.down + i32::from(pen.y) - ASCENT,
+        },
+    };
+    paint_letters(spans, area, &letters, reach);
 }

@@ -13,7 +13,7 @@ use Rattle.be_geom.specs.Rects.{rect_has}
 use Rattle.be_region.specs.Regions.{region_has, IsNotEmpty}
 use Rattle.be_region.specs.Bands.{IsBefore, AreBands}
 use Rattle.be_region.specs.Places.{is_passed, IsSpanAt}
-use Rattle.be_region.specs.Runs.{IsRun, IsBlock}
+use Rattle.be_region.specs.Runs.{IsRun}
 use Rattle.be_region.proofs.CountLemmas.{has-append}
 use Rattle.be_region.proofs.LineLemmas.{not_between_left, not_between_right, is_between}
 use Rattle.be_region.proofs.PairLemmas.{pairs_head, pairs_drop}
@@ -200,44 +200,6 @@ pub answer_in : (rs : List Rect) (n : ℕ) (x y : ℤ) (r : Rect) → AreBands r
 answer_in rs n x y r bands place h e top from =
     let to = last_ahead rs n x y r place h e top in
     sym (at_row rs n x y r bands place h e top x (omega (arith, ints)) (omega (arith, ints)) ∙ is_between r.left x r.right from to)
-
--- ---- blocks
-
-pub block_beyond : (rs : List Rect) (n : ℕ) (x y right bottom : ℤ) → x ≤ℤ right → y ≤ℤ bottom → IsPlace rs n x y → length rs ≤ n → IsBlock (region_has rs) x y right bottom
-block_beyond rs n x y right bottom k m place h = record {
-  across = k;
-  down = m;
-  same = λ z w f _ g _. none_beyond rs n x y place h z w f g ∙ sym (none_at_end rs n x y place h x (same_row x));
-}
-
-pub block_above : (rs : List Rect) (n : ℕ) (x y : ℤ) (r : Rect) (right bottom : ℤ) → x ≤ℤ right → bottom ≡ (r.top -ℤ pos 1) → AreBands rs → IsPlace rs n x y → n < length rs → r ≡ get_or rs n r → y <ℤ r.top → IsBlock (region_has rs) x y right bottom
-block_above rs n x y r right bottom k m bands place h e above = record {
-  across = k;
-  down = omega (arith, ints);
-  same = λ z w f _ g l. none_above rs n x y r bands place h e z w f g (omega (arith, ints)) ∙ sym (none_at_row rs n x y r bands place h e above x (same_row x));
-}
-
-pub block_gap : (rs : List Rect) (n : ℕ) (x y : ℤ) (r : Rect) (right bottom : ℤ) → right ≡ (r.left -ℤ pos 1) → bottom ≡ r.bottom → AreBands rs → IsPlace rs n x y → n < length rs → r ≡ get_or rs n r → r.top ≤ℤ y → x <ℤ r.left → IsBlock (region_has rs) x y right bottom
-block_gap rs n x y r right bottom k m bands place h e top before =
-    let full = (full_at rs n r bands h e).across in
-    let low = low_ahead rs n x y r place h e in
-    let out : (z w : ℤ) → x ≤ℤ z → z <ℤ r.left → y ≤ℤ w → w ≤ℤ r.bottom → region_has rs z w ≡ false = λ z w f t g l. at_band rs n x y r bands place h e top z w f (omega (arith, ints)) g l ∙ not_between_left r.left z r.right t in
-    record {
-      across = omega (arith, ints);
-      down = omega (arith, ints);
-      same = λ z w f t g l. out z w f (omega (arith, ints)) g (omega (arith, ints)) ∙ sym (out x y (same_row x) before (same_row y) low);
-    }
-
-pub block_in : (rs : List Rect) (n : ℕ) (x y : ℤ) (r : Rect) (right bottom : ℤ) → right ≡ r.right → bottom ≡ r.bottom → AreBands rs → IsPlace rs n x y → n < length rs → r ≡ get_or rs n r → r.top ≤ℤ y → r.left ≤ℤ x → IsBlock (region_has rs) x y right bottom
-block_in rs n x y r right bottom k m bands place h e top from =
-    let to = last_ahead rs n x y r place h e top in
-    let low = low_ahead rs n x y r place h e in
-    let inside : (z w : ℤ) → x ≤ℤ z → z ≤ℤ r.right → y ≤ℤ w → w ≤ℤ r.bottom → region_has rs z w ≡ true = λ z w f t g l. at_band rs n x y r bands place h e top z w f (omega (arith, ints)) g l ∙ is_between r.left z r.right (omega (arith, ints)) t in
-    record {
-      across = omega (arith, ints);
-      down = omega (arith, ints);
-      same = λ z w f t g l. inside z w f (omega (arith, ints)) g (omega (arith, ints)) ∙ sym (inside x y (same_row x) to (same_row y) low);
-    }
 
 -- ---- the rectangle of a pixel
 

@@ -13,16 +13,12 @@
 //! common with m bands of the other region, which cover it in part, costs n times m steps, also
 //! where the result has few rectangles. Each takes the memory of the result, which has room for at
 //! most 16 rectangles more or for twice its own, and two lines of spans, which allocate nothing up
-//! to 8 spans. `contains`, `run_at` and `block_at` find their band by bisection, and `count` and
-//! `rect_at` take a constant number of steps. Every other call takes a few steps for each
+//! to 8 spans. `contains`, `run_at` and `span_at` find their rectangle by bisection, and `count`
+//! and `rect_at` take a constant number of steps. Every other call takes a few steps for each
 //! rectangle.
-//!
-//! `block_at` goes down as well as along the row: a block ends where its band ends, or above the
-//! next one, though the answer may go on below.
 #![tactic(auto)]
 
 mod bands;
-mod corner;
 mod edges;
 mod law;
 mod line;
@@ -35,6 +31,5 @@ mod rule;
 mod span;
 mod walk;
 
-pub use corner::Corner;
 pub use law::same_pixels_same_bands;
 pub use region::Region;

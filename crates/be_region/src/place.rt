@@ -2,17 +2,13 @@ ghost use Rattle.std.specs.Prelude.{◌≡◌, ◌≤◌, true, false, All, leng
 ghost use Rattle.std.specs.List.{AllPairs, AllWithin};
 ghost use Rattle.be_region.specs.Regions.{region_has, IsNotEmpty};
 ghost use Rattle.be_region.specs.Bands.{AreBands};
-ghost use Rattle.be_region.specs.Runs.{IsRun, IsBlock};
+ghost use Rattle.be_region.specs.Runs.{IsRun};
 ghost use Rattle.be_region.specs.Places.{is_passed, IsSpanAt};
 
-use crate::corner::Corner;
 use be_geom::Rect;
 
 /// Where no column follows.
 const LAST_COLUMN: i32 = 2147483647;
-
-/// Where no row follows.
-const LAST_ROW: i32 = 2147483647;
 
 /// Whether the pixel is in one of the rectangles.
 pub(crate) fn has_at(rects: &[Rect], x: i32, y: i32) -> bool
@@ -38,30 +34,6 @@ pub(crate) fn run_at(rects: &[Rect], x: i32, y: i32) -> (bool, i32)
         return (false, i32::from(rect.left) - 1);
     }
     (true, i32::from(rect.right))
-}
-
-/// Whether the pixel is in one of the rectangles, and a last column and a last row up to which that
-/// stays so, for all pixels that are neither left of this one nor above it.
-pub(crate) fn block_at(rects: &[Rect], x: i32, y: i32) -> (bool, Corner)
-    requires { AreBands rects.now }
-    ensures answer { result.0 ≡ region_has rects.now x y }
-    ensures block { IsBlock (region_has rects.now) x y result.1.right result.1.bottom }
-{
-    let Some(rect) = rects.get(place_of(rects, x, y)) else {
-        let (right, bottom) = (LAST_COLUMN, LAST_ROW);
-        return (false, Corner { right, bottom });
-    };
-    if y < i32::from(rect.top) {
-        let (right, bottom) = (LAST_COLUMN, i32::from(rect.top) - 1);
-        return (false, Corner { right, bottom });
-    }
-    let bottom = i32::from(rect.bottom);
-    if x < i32::from(rect.left) {
-        let right = i32::from(rect.left) - 1;
-        return (false, Corner { right, bottom });
-    }
-    let right = i32::from(rect.right);
-    (true, Corner { right, bottom })
 }
 
 /// The place of the rectangle that has the pixel.

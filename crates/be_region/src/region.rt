@@ -1,13 +1,12 @@
 ghost use Rattle.std.specs.Prelude.{◌≡◌, ◌≤◌, ◌↔◌, false, length, slice_get, IsErr, IsNone, IfOk, IfNone, IfSome, OnOk, OnErr};
 ghost use Rattle.be_region.specs.Regions.{region_has, HasNone, HasPixelsOf, SamePixels, IsUnion, IsDifference, IsIntersection, IsMoved, SomePixelLeaves};
 ghost use Rattle.be_region.specs.Bands.{AreBands};
-ghost use Rattle.be_region.specs.Runs.{IsRun, IsBlock};
+ghost use Rattle.be_region.specs.Runs.{IsRun};
 ghost use Rattle.be_region.specs.Frames.{IsFrame};
 ghost use Rattle.be_region.specs.Places.{IsSpanAt};
 
-use crate::corner::Corner;
 use crate::edges::{are_movable, frame_of, move_all};
-use crate::place::{block_at, has_at, run_at, span_at};
+use crate::place::{has_at, run_at, span_at};
 use crate::rule::Rule;
 use crate::walk::merged;
 use be_geom::{NoMemory, OutOfRange, Rect};
@@ -122,15 +121,6 @@ impl Region {
         ensures run { IsRun (λ z. region_has self.now z y) x result.1 }
     {
         run_at(&self.rects, x, y)
-    }
-
-    /// Whether the pixel is in the set, and a last column and a last row up to which that stays so
-    /// at least, for all pixels that are neither left of this one nor above it.
-    pub fn block_at(&self, x: i32, y: i32) -> (bool, Corner)
-        ensures answer { result.0 ≡ region_has self.now x y }
-        ensures block { IsBlock (region_has self.now) x y result.1.right result.1.bottom }
-    {
-        block_at(&self.rects, x, y)
     }
 
     /// The number of rectangles: `BRegion::CountRects`.

@@ -12,6 +12,7 @@ use crate::steep::Steep;
 use be_geom::Point;
 
 /// The columns of a row that a line has.
+#[inline(always)]
 pub(crate) fn row_of(from: Point, to: Point, pen: PenSize, y: i32) -> Row
     ensures sound { IsRow result }
     ensures pixels { (x : ℤ) → row_has result x ≡ line_has from to pen x y }

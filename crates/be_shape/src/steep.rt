@@ -15,6 +15,7 @@ pub struct Steep {
 
 impl Steep {
     /// The column of the pixel in row `y`. None above and below the line.
+    #[inline(always)]
     pub fn column(self, y: i32) -> Option<i32>
         requires { IsSteep self.from self.to }
         ensures none { IfNone result ((x : ℤ) → line_has self.from self.to 1 x y ≡ false) }

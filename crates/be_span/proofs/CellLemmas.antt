@@ -117,15 +117,6 @@ changed_cell_in rs old new f start n x y k places e less =
 pub at_zero : (x : ℤ) → x +ℤ pos 0 ≡ x
 at_zero x = omega (arith, ints)
 
--- the first of these changed
-pub changed_first_in : (rs : List Rect) (old new : List Cell) (f : Cell → Cell) (start n : ℕ) (x y : ℤ) → StandAt rs start x y n → slice_get new start ≡ option_map f (slice_get old start) → 0 < n → cell_in (spans rs new) x y ≡ option_map f (cell_in (spans rs old) x y)
-unfolding cell_in
-changed_first_in rs old new f start n x y places e less =
-    let at = ap (λ z. place_of rs z y) (sym (at_zero x)) ∙ places 0 less in
-    let here : start + 0 ≡ start = omega arith in
-    let found = at ∙ ap Some here in
-    ap (option_and_then (slice_get new)) found ∙ e ∙ ap (option_map f) (sym (ap (option_and_then (slice_get old)) found))
-
 pub run_long : (rs : List Rect) (start len n : ℕ) (x y : ℤ) → IsRunFrom rs start len x y → HasRun rs x y n → n ≤ len
 run_long rs start len n x y run has =
     elim (cases_lt len n) [ inl h ↦ absurd (true≢false (sym (has len h) ∙ run.ends)) | inr h ↦ h ]

@@ -46,6 +46,7 @@ pub(crate) fn paint_alike(spans: &mut SpanBuf, span: Span, rect: Rect, brush: Br
 
 /// Gives the pixels of a rectangle, all of them in this span, a colour, whatever they had. Their marks
 /// stay.
+#[inline(always)]
 pub(crate) fn recolor(spans: &mut SpanBuf, span: Span, rect: Rect, rgb: Rgb)
     requires span { IsSpanOf spans.old.rects span }
     requires inside { IsInside rect span.rect }
@@ -74,6 +75,7 @@ pub(crate) fn recolor(spans: &mut SpanBuf, span: Span, rect: Rect, rgb: Rgb)
 
 /// Paints the pixels of a rectangle, all of them in this span, with the same colour as it is, where
 /// no pixel is dirty.
+#[inline(always)]
 fn plain_rows(spans: &mut SpanBuf, span: Span, rect: Rect, source: Rgb)
     requires span { IsSpanOf spans.old.rects span }
     requires inside { IsInside rect span.rect }

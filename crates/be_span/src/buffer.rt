@@ -14,8 +14,8 @@ use crate::copy::copy_part;
 use crate::expose::expose_part;
 use crate::places::{cell_at, run_from, span_from, starts_of};
 use crate::rows::{
-    dirty_among, dirty_of, fill_marked_part, fill_part, overwrite, paint_cell, paint_marked_part,
-    paint_part, paint_same_part, unmark_all,
+    dirty_among, dirty_of, fill_marked_part, fill_part, overwrite, paint_marked_part, paint_part,
+    paint_same_part, unmark_all,
 };
 use crate::span::Span;
 use crate::{Cell, block, masks};
@@ -100,6 +100,14 @@ impl SpanBuf {
         ensures whole { length self.now.cells ≡ pixels_of self.now.rects }
     {
         &self.region
+    }
+
+    /// Each pixel of the region has one cell. The call does nothing, and is there for its clauses.
+    pub fn whole(&self)
+        ensures bands { AreBands self.now.rects }
+        ensures cells { length self.now.cells ≡ pixels_of self.now.rects }
+    {
+        let _cells = &self.cells;
     }
 
     /// Where its memory comes from.
@@ -372,10 +380,10 @@ impl SpanBuf {
         paint_same_part(cells, first, count, brush, source);
     }
 
-    /// Gives the `count` pixels from (x, y) on to the right, all of them in this span, a colour, where no
-    /// pixel is dirty. No cell is read.
+    /// Gives the `count` pixels from (x, y) on to the right, all of them in this span, a colour,
+    /// where no pixel is dirty. No cell is read, and it takes no search.
     #[inline(always)]
-    pub(crate) fn fill_clean(&mut self, span: Span, x: i32, y: i32, count: usize, rgb: Rgb)
+    pub fn fill_clean(&mut self, span: Span, x: i32, y: i32, count: usize, rgb: Rgb)
         requires span { IsSpanOf self.old.rects span }
         requires left { span.rect.left ≤ℤ x }
         requires right { (x +ℤ pos count) ≤ℤ (span.rect.right +ℤ pos 1) }
@@ -457,26 +465,6 @@ impl SpanBuf {
         let cells = &mut self.cells;
         let first = cell_at(span.rect, span.start, x, y);
         fill_marked_part(cells, first, count, rgb, mask);
-    }
-
-    /// Paints a pixel of this span. Its mark stays. It takes no search.
-    pub fn paint_pixel(&mut self, span: Span, x: i32, y: i32, brush: Brush, color: Color)
-        requires span { IsSpanOf self.old.rects span }
-        requires left { span.rect.left ≤ℤ x }
-        requires right { x ≤ℤ span.rect.right }
-        requires top { span.rect.top ≤ℤ y }
-        requires bottom { y ≤ℤ span.rect.bottom }
-        ensures region { self.new.rects ≡ self.old.rects }
-        ensures painted { cell_in self.new x y
-            ≡ option_map (painted brush color) (cell_in self.old x y) }
-        ensures others { (z w : ℤ) → IsBeside x y 1 z w
-            → cell_in self.new z w ≡ cell_in self.old z w }
-        ensures marks { count_by (λ c. c.dirty) self.new.cells
-            ≡ count_by (λ c. c.dirty) self.old.cells }
-    {
-        let cells = &mut self.cells;
-        let place = cell_at(span.rect, span.start, x, y);
-        paint_cell(cells, place, brush, color);
     }
 
     /// Exposes the `count` pixels from (x, y) on to the right: each gets the colour, or keeps its own

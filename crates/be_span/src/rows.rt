@@ -7,7 +7,7 @@ ghost use Rattle.be_span.specs.Slices.{source_at, mask_bit, painted, plain, reco
 use crate::Cell;
 use crate::brush::{Brush, Source};
 use crate::slices::{paint_cells, paint_each, paint_each_marked};
-use be_color::{Color, Mode, Rgb, blend};
+use be_color::Rgb;
 
 /// Writes over the cells from `start` on, by a row of which `more` are dirty. How many of all are
 /// dirty is told and given back.
@@ -165,24 +165,6 @@ fn fill_each_marked(cells: &mut [Cell], bits: u64, cell: Cell)
         }
         rest &= rest - 1;
     }
-}
-
-/// Paints one cell.
-pub(crate) fn paint_cell(cells: &mut [Cell], place: usize, brush: Brush, color: Color)
-    requires { place < length cells.old }
-    ensures len { length cells.new ≡ length cells.old }
-    ensures inside { slice_get cells.new place
-        ≡ option_map (painted brush color) (slice_get cells.old place) }
-    ensures others { (q : ℕ) → (q < place) ⊎ (place + 1 ≤ q)
-        → slice_get cells.new q ≡ slice_get cells.old q }
-    ensures marks { count_by (λ c. c.dirty) cells.new ≡ count_by (λ c. c.dirty) cells.old }
-{
-    let cell = cells[place];
-    let rgb = blend(brush.mode, color, cell.rgb, brush.high, brush.low);
-    cells[place] = Cell {
-        rgb,
-        dirty: cell.dirty,
-    };
 }
 
 /// How many of some cells are dirty, where so many of all are: if none is, no cell is looked at.

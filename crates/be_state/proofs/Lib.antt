@@ -1,4 +1,3 @@
 pub mod PartLemmas
 pub mod ClipLemmas
 pub mod StackLemmas
-pub mod BlockLemmas

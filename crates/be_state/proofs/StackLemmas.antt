@@ -1,22 +1,22 @@
 -- Layers that are turned round: what all clips hold, and what all origins add up to.
-use Rattle.std.proofs.Common.{◌≡◌, ℕ, ◌+◌, ◌<◌, length, get_or, take, ℤ, ◌+ℤ◌, Bool, true, false, ◌&&◌, List, [], ◌∷◌, map, reverse, fold, refl, sym, ap, ◌∙◌, arith}
+use Rattle.std.proofs.Common.{◌≡◌, ℕ, zero, suc, ◌+◌, ◌++◌, ◌<◌, Some, slice_get, length, get_or, take, ℤ, ◌+ℤ◌, Bool, true, false, ◌&&◌, List, [], ◌∷◌, map, reverse, fold, refl, sym, ap, ◌∙◌, arith}
 use Rattle.std.specs.Int.{int_min}
 use Rattle.std.specs.List.{list_all}
 use Rattle.std.proofs.lemmas.Int.{ints}
 use Rattle.std.proofs.lemmas.Bool.{and_left}
-use Rattle.std.proofs.lemmas.List.{map-append}
+use Rattle.std.proofs.lemmas.List.{length-reverse, map-append, reverse-reverse}
 use Rattle.std.proofs.lemmas.List.Folds.{list_all-append}
 use Rattle.std.proofs.lemmas.Grind.{fold-append, reverse_onto, take_at_read}
 use Rattle.be_geom.specs.declared.point.Point.{Point}
 use Rattle.be_geom.specs.Places.{sum_of}
-use Rattle.be_state.specs.Stacks.{Layer, Stack, base_of, allows, clip_has, origin_point}
+use Rattle.be_state.specs.Stacks.{Layer, Stack, base_of, allows, clip_has, from_oldest, layers, origin_point}
 use Rattle.be_state.specs.Parts.{IsPart}
 use Rattle.be_state.proofs.PartLemmas.{both_part, no_part, same_part}
 
 all_again : (a b c : Bool) → a ≡ c → (a && (b && true)) ≡ (b && c)
 all_again a b c e = grind arith
 
-list_all-reverse : {X : Type 0} (p : X → Bool) (xs : List X) → list_all p (reverse xs) ≡ list_all p xs
+pub list_all-reverse : {X : Type 0} (p : X → Bool) (xs : List X) → list_all p (reverse xs) ≡ list_all p xs
 list_all-reverse p [] = refl
 list_all-reverse p (x ∷ xs) =
     ap (list_all p) (reverse_onto xs x []) ∙ list_all-append p (reverse xs) (x ∷ []) ∙ all_again (list_all p (reverse xs)) (p x) (list_all p xs) (list_all-reverse p xs)
@@ -72,3 +72,34 @@ base_is s top items e =
 pub next_sum : (xs : List Layer) (i : ℕ) (item : Layer) → i < length xs → item ≡ get_or xs i item → fold sum_of origin_point (map (λ l. l.state.origin) (take (i + 1) xs)) ≡ sum_of (fold sum_of origin_point (map (λ l. l.state.origin) (take i xs))) item.state.origin
 next_sum xs i item h is =
     ap (λ t. fold sum_of origin_point (origins t)) (take_at_read xs i item h).1 ∙ ap (fold sum_of origin_point) (map-append (λ l. l.state.origin) (take i xs) (get_or xs i item ∷ [])) ∙ fold-append sum_of origin_point (origins (take i xs)) ((get_or xs i item).state.origin ∷ []) ∙ ap (λ (l : Layer). sum_of (fold sum_of origin_point (origins (take i xs))) l.state.origin) (sym is)
+
+-- ---- the oldest first
+
+from_items : (s : Stack) (top : Layer) (items : List Layer) → record { top = top; saved = reverse items } ≡ s → from_oldest s ≡ items ++ top ∷ []
+from_items s top items e =
+    ap from_oldest (sym e) ∙ reverse_onto (reverse items) top [] ∙ ap (λ t. t ++ top ∷ []) (reverse-reverse items)
+
+pub saved_layer : (s : Stack) (top : Layer) (items : List Layer) (n : ℕ) → record { top = top; saved = reverse items } ≡ s → n < length items → slice_get (from_oldest s) n ≡ slice_get items n
+saved_layer s top items n e h =
+    ap (λ t. slice_get t n) (from_items s top items e) ∙ left items n h
+  where
+    left : (xs : List Layer) (k : ℕ) → k < length xs → slice_get (xs ++ top ∷ []) k ≡ slice_get xs k
+    left [] k h = absurd (omega (arith, h))
+    left (x ∷ xs) zero h = refl
+    left (x ∷ xs) (suc k) h = left xs k (omega (arith, h))
+
+pub top_layer : (s : Stack) (top : Layer) (items : List Layer) (n : ℕ) → record { top = top; saved = reverse items } ≡ s → n ≡ length items → slice_get (from_oldest s) n ≡ Some top
+top_layer s top items n e h =
+    ap (λ t. slice_get t n) (from_items s top items e) ∙ ap (slice_get (items ++ top ∷ [])) h ∙ last items
+  where
+    last : (xs : List Layer) → slice_get (xs ++ top ∷ []) (length xs) ≡ Some top
+    last [] = refl
+    last (x ∷ xs) = last xs
+
+-- what a stack allows, its layers the other way round
+pub allows_from_oldest : (s : Stack) (x y : ℤ) → allows s x y ≡ list_all (λ layer. clip_has layer.clip x y) (from_oldest s)
+unfolding allows
+allows_from_oldest s x y = sym (list_all-reverse (λ layer. clip_has layer.clip x y) (layers s))
+
+pub number_of_layers : (s : Stack) → length (from_oldest s) ≡ length s.saved + 1
+number_of_layers s = length-reverse (layers s) ∙ omega arith

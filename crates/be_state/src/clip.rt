@@ -1,22 +1,25 @@
 ghost use Rattle.std.specs.Prelude.{◌≡◌, pos, negsuc, ◌+ℤ◌, ◌-ℤ◌, ◌≤ℤ◌, ◌<ℤ◌, ◌⊎◌, map};
 ghost use Rattle.be_geom.specs.Rects.{moved_rect};
 ghost use Rattle.be_region.specs.Regions.{region_has};
-ghost use Rattle.be_region.specs.Runs.{IsBlock};
+ghost use Rattle.be_state.specs.Clips.{shown_clip};
 ghost use Rattle.be_state.specs.Parts.{IsPart};
 ghost use Rattle.be_geom.specs.Places.{IsNear};
 
 use be_geom::Rect;
-use be_region::{Corner, Region};
+use be_region::Region;
 use std::marker::Model;
 
 /// Where no column follows.
 pub(crate) const LAST_COLUMN: i32 = 2147483647;
 
-/// Where neither a column nor a row follows.
-pub(crate) const LAST_CORNER: Corner = Corner {
-    right: 2147483647,
-    bottom: 2147483647,
-};
+/// The region of a clip as it was given, and how far right and how far down of the view's left top
+/// its (0, 0) lies.
+#[derive(Clone, Copy, Debug)]
+pub struct Placed<'a> {
+    pub region: &'a Region,
+    pub right: i32,
+    pub down: i32,
+}
 
 /// A region where it lies in the view. It is kept as it was given, since its pixels may lie where
 /// no region reaches.
@@ -45,6 +48,19 @@ impl Model for Clip {
 }
 
 impl Clip {
+    /// The region as it was given, and where it lies.
+    pub(crate) fn placed(&self) -> Placed<'_>
+        ensures shown { shown_clip result ≡ self.now }
+        ensures near { IsNear 17 result.right × IsNear 17 result.down }
+    {
+        let (right, down) = self.place;
+        Placed {
+            region: &self.region,
+            right,
+            down,
+        }
+    }
+
     /// The region, so far right and so far down.
     pub(crate) fn new(region: Region, place: (i32, i32)) -> Clip
         requires across { IsNear 17 place.0 }
@@ -79,37 +95,6 @@ impl Clip {
         let (inside, last) = self.region.run_at(moved_back(x, dx), moved_back(y, dy));
         (inside, end_of(last, dx, right))
     }
-
-    /// Whether the clip holds the pixel, and a last column and a last row up to which that stays
-    /// so, for all pixels that are neither left of this one nor above it.
-    pub(crate) fn block_at(&self, x: i32, y: i32) -> (bool, Corner)
-        ensures answer { result.0 ≡ region_has self.now x y }
-        ensures block { IsBlock (region_has self.now) x y result.1.right result.1.bottom }
-    {
-        let Some(frame) = self.frame else {
-            return (false, LAST_CORNER);
-        };
-        let (dx, dy) = self.place;
-        let top = moved(frame.top, dy);
-        if y < top {
-            let (right, bottom) = (LAST_COLUMN, top - 1);
-            return (false, Corner { right, bottom });
-        }
-        let right = moved(frame.right, dx);
-        let bottom = moved(frame.bottom, dy);
-        if bottom < y || right < x {
-            return (false, LAST_CORNER);
-        }
-        let left = moved(frame.left, dx);
-        if x < left {
-            let right = left - 1;
-            return (false, Corner { right, bottom });
-        }
-        let (inside, corner) = self.region.block_at(moved_back(x, dx), moved_back(y, dy));
-        let right = end_of(corner.right, dx, right);
-        let bottom = end_of(corner.bottom, dy, bottom);
-        (inside, Corner { right, bottom })
-    }
 }
 
 /// A coordinate of the region as it was given, where it lies.
@@ -132,7 +117,7 @@ fn moved_back(z: i32, by: i32) -> i32
     z - by
 }
 
-/// The last column or row of some pixels of the region, where it lies, up to an edge.
+/// The last column of some pixels of the region, where it lies, up to an edge.
 fn end_of(last: i32, by: i32, edge: i32) -> i32
     requires near { IsNear 17 by }
     requires last { negsuc 32767 ≤ℤ last }

@@ -1,17 +1,17 @@
-ghost use Rattle.std.specs.Prelude.{◌≡◌, map};
+ghost use Rattle.std.specs.Prelude.{◌≡◌, map, IfSome};
 ghost use Rattle.std.specs.Option.{option_map};
 ghost use Rattle.be_geom.specs.Rects.{moved_rect};
-ghost use Rattle.be_region.specs.Runs.{IsBlock};
 ghost use Rattle.be_state.specs.Stacks.{clip_has, next_layer, first_stack};
+ghost use Rattle.be_state.specs.Clips.{shown_clip};
 ghost use Rattle.be_state.specs.Parts.{IsPart};
 ghost use Rattle.be_state.specs.Limits.{IsPenSize};
 ghost use Rattle.be_geom.specs.Places.{IsNear};
 
 use crate::State;
-use crate::clip::{Clip, LAST_COLUMN, LAST_CORNER};
+use crate::clip::{Clip, LAST_COLUMN, Placed};
 use be_color::{Color, Mode, Rgb};
 use be_geom::Point;
-use be_region::{Corner, Region};
+use be_region::Region;
 use std::marker::Model;
 
 const ORIGIN: Point = Point { x: 0, y: 0 };
@@ -75,6 +75,17 @@ impl Layer {
         self.state = state;
     }
 
+    /// The clip, if there is one.
+    pub(crate) fn clip(&self) -> Option<Placed<'_>>
+        ensures clip { self.now.clip ≡ option_map shown_clip result }
+        ensures near { IfSome result (λ clip. IsNear 17 clip.right × IsNear 17 clip.down) }
+    {
+        match &self.clip {
+            Some(clip) => Some(clip.placed()),
+            None => None,
+        }
+    }
+
     /// Takes another clip, which lies so far right and so far down.
     pub(crate) fn set_clip(&mut self, clip: Option<Region>, place: (i32, i32))
         requires across { IsNear 17 place.0 }
@@ -96,19 +107,6 @@ impl Layer {
         match &self.clip {
             Some(clip) => clip.part_at(x, y),
             None => (true, LAST_COLUMN),
-        }
-    }
-
-    /// Whether the clip holds the pixel, and a last column and a last row up to which that stays
-    /// so, for all pixels that are neither left of this one nor above it.
-    #[inline(always)]
-    pub(crate) fn block_at(&self, x: i32, y: i32) -> (bool, Corner)
-        ensures answer { result.0 ≡ clip_has self.now.clip x y }
-        ensures block { IsBlock (clip_has self.now.clip) x y result.1.right result.1.bottom }
-    {
-        match &self.clip {
-            Some(clip) => clip.block_at(x, y),
-            None => (true, LAST_CORNER),
         }
     }
 }

@@ -1,18 +1,23 @@
-ghost use Rattle.std.specs.Prelude.{◌≡◌, ◌↔◌, ◌≤◌, true, false, length, map, fold, IsErr, IsNone, Some, IfOk, OnOk, OnErr};
+ghost use Rattle.std.specs.Prelude.{◌≡◌, ◌↔◌, ◌≤◌, true, false, length, map, fold, slice_get};
+ghost use Rattle.std.specs.Prelude.{IsErr, IsNone, Some, IfOk, IfSome, OnOk, OnErr};
+ghost use Rattle.std.specs.Option.{option_map};
 ghost use Rattle.std.specs.List.{list_all};
-ghost use Rattle.std.specs.Int.{int_min};
-ghost use Rattle.be_region.specs.Runs.{IsRun, IsBlock};
-ghost use Rattle.be_state.specs.Stacks.{first_stack, base_of, allows, clip_has, with_state, with_clip, can_push, pushed, popped, origin_point};
+ghost use Rattle.be_region.specs.Runs.{IsRun};
+ghost use Rattle.be_state.specs.Clips.{shown_clip};
+ghost use Rattle.be_state.specs.Stacks as stacks;
+ghost use Rattle.be_state.specs.Stacks.{first_stack, base_of, allows, clip_has, from_oldest};
+ghost use Rattle.be_state.specs.Stacks.{with_state, with_clip, can_push, pushed, popped};
+ghost use Rattle.be_state.specs.Stacks.{origin_point};
 ghost use Rattle.be_geom.specs.Places.{sum_of, IsNear};
 ghost use Rattle.be_state.specs.Parts.{IsPart};
 ghost use Rattle.be_state.specs.Limits.{IsPenSize};
 
 use crate::State;
-use crate::clip::{LAST_COLUMN, LAST_CORNER};
+use crate::clip::{LAST_COLUMN, Placed};
 use crate::fault::{StackEmpty, StackFull};
 use crate::layer::Layer;
 use be_geom::NoMemory;
-use be_region::{Corner, Region};
+use be_region::Region;
 use std::alloc::Global;
 use std::marker::Model;
 use std::mem;
@@ -66,6 +71,20 @@ impl StateStack {
         self.saved.len() as u32
     }
 
+    /// The clip of a state, if it has one. The saved ones are counted from 0 on, the oldest first,
+    /// and the one in force comes last.
+    pub fn clip(&self, state: u32) -> Option<Placed<'_>>
+        requires { state ≤ length self.now.saved }
+        ensures clip { (layer : stacks.Layer) → slice_get (from_oldest self.now) state ≡ Some layer
+            → layer.clip ≡ option_map shown_clip result }
+        ensures near { IfSome result (λ clip. IsNear 17 clip.right × IsNear 17 clip.down) }
+    {
+        match self.saved.get(state as usize) {
+            Some(layer) => layer.clip(),
+            None => self.top.clip(),
+        }
+    }
+
     /// How far right and how far down of the view's left top the drawing's (0, 0) lies.
     pub fn base(&self) -> (i32, i32)
         ensures across { result.0 ≡ (base_of self.now).x }
@@ -102,20 +121,6 @@ impl StateStack {
             last = end;
         }
         (false, last)
-    }
-
-    /// Whether every clip holds the pixel, and a last column and a last row up to which that stays
-    /// so at least, for all pixels that are neither left of this one nor above it.
-    pub fn block_at(&self, x: i32, y: i32) -> (bool, Corner)
-        ensures answer { result.0 ≡ allows self.now x y }
-        ensures block { IsBlock (allows self.now) x y result.1.right result.1.bottom }
-    {
-        let (allowed, corner) = self.top.block_at(x, y);
-        if !allowed {
-            return (false, corner);
-        }
-        let (all_allow, end) = block_of_all(&self.saved, x, y);
-        (all_allow, nearer(corner, end))
     }
 
     /// Puts another state in place of the one in force, whose clip stays.
@@ -214,33 +219,4 @@ fn part_of_all(layers: &[Layer], x: i32, y: i32) -> (bool, i32)
         last = last.min(end);
     }
     (true, last)
-}
-
-/// Whether the clips of all layers hold the pixel, and a last column and a last row up to which that
-/// stays so, for all pixels that are neither left of this one nor above it.
-fn block_of_all(layers: &[Layer], x: i32, y: i32) -> (bool, Corner)
-    ensures answer { result.0 ≡ list_all (λ l. clip_has l.clip x y) layers.now }
-    ensures block { IsBlock (λ z w. list_all (λ l. clip_has l.clip z w) layers.now) x y
-        result.1.right result.1.bottom }
-{
-    let mut corner = LAST_CORNER;
-    for layer in layers {
-        let (allowed, end) = layer.block_at(x, y);
-        if !allowed {
-            return (false, end);
-        }
-        corner = nearer(corner, end);
-    }
-    (true, corner)
-}
-
-/// Where two blocks from the same pixel on both end.
-fn nearer(corner: Corner, other: Corner) -> Corner
-    ensures right { result.right ≡ int_min corner.right other.right }
-    ensures bottom { result.bottom ≡ int_min corner.bottom other.bottom }
-{
-    Corner {
-        right: corner.right.min(other.right),
-        bottom: corner.bottom.min(other.bottom),
-    }
 }

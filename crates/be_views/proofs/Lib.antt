@@ -7,4 +7,3 @@ pub mod FrontLemmas
 pub mod KinLemmas
 pub mod RunLemmas
 pub mod ClipLemmas
-pub mod BlockLemmas

@@ -1,16 +1,14 @@
-ghost use Rattle.be_geom.specs.Numbers.{is_number};
 ghost use Rattle.be_geom.specs.Rects.{rect_has};
 ghost use Rattle.std.specs.Prelude.{◌≡◌, ◌<◌, ◌≤◌, ◌↔◌, ◌⊎◌, ℕ, true, pos, ◌-ℤ◌, ◌≤ℤ◌, ◌∷◌, [], length, slice_get, option_map, option_and_then, vec_len, vec_capacity, IfOk, IfSome, OnOk, OnErr, IsNone, IsErr};
 ghost use Rattle.be_views.specs.Trees.{parent_of, place_of, place_from};
 ghost use Rattle.be_views.specs.Pixels.{view_at, view_below};
-ghost use Rattle.be_region.specs.Runs.{IsRun, IsBlock};
+ghost use Rattle.be_region.specs.Runs.{IsRun};
 ghost use Rattle.be_views.specs.Clips.{IsClip};
 ghost use Rattle.be_views.specs.Resizing.{resized};
 ghost use Rattle.be_views.specs.Whole.{IsTree, root_view, with_view, depth_from, depth_of};
 ghost use Rattle.be_views.specs.Places.{pair_of};
 ghost use Rattle.be_geom.specs.Places.{IsNear};
 
-use crate::block::{block_below, frame_gap_block};
 use crate::children::{has_pixel, last_child_at, within};
 use crate::clip::clip_of;
 use crate::fault::{ClipFault, ViewFault};
@@ -19,11 +17,11 @@ use crate::run::{frame_gap_end, run_below};
 use crate::view::View;
 use be_follow::{Across, Down, Follow};
 use be_geom::{NoMemory, OutOfRange, Rect};
-use be_region::{Corner, Region};
+use be_region::Region;
 use std::alloc::Global;
 use std::marker::Model;
 
-/// Where no column follows, and no row.
+/// Where no column follows.
 const LAST: i32 = 2147483647;
 
 /// How deep a view may be, where the root is at depth 1.
@@ -38,7 +36,7 @@ pub struct ViewTree {
 
 impl Model for ViewTree {
     ghost use Rattle.be_views.specs.Trees.{Tree};
-    ghost use Rattle.be_region.specs.Runs.{IsRun, IsBlock};
+    ghost use Rattle.be_region.specs.Runs.{IsRun};
     ghost use Rattle.be_views.specs.Clips.{IsClip};
     ghost use Rattle.be_views.specs.Resizing.{resized};
     ghost use Rattle.be_views.specs.Whole.{IsTree};
@@ -170,31 +168,6 @@ impl ViewTree {
             (Some(view), last)
         } else {
             (None, frame_gap_end(root, (x, y), LAST))
-        }
-    }
-
-    /// Whether a view is the one at a pixel of the window, so that its drawing shows there, and a last
-    /// column and a last row up to which that stays so at least, for all pixels that are neither left of
-    /// this one nor above it. For each level down to the view it goes over the window's views twice at
-    /// most.
-    pub fn shows_at(&self, view: u16, x: i32, y: i32) -> (bool, Corner)
-        ensures answer { result.0 ≡ is_number view (view_at self.now x y) }
-        ensures block { IsBlock (λ z w. is_number view (view_at self.now z w)) x y
-            result.1.right result.1.bottom }
-    {
-        let root = self.views[0].frame;
-        if has_pixel(root, x, y) {
-            let end = Corner {
-                right: i32::from(root.right),
-                bottom: i32::from(root.bottom),
-            };
-            block_below(self.views.len(), &self.views, 0, view, (x, y), end)
-        } else {
-            let end = Corner {
-                right: LAST,
-                bottom: LAST,
-            };
-            (false, frame_gap_block(root, (x, y), end))
         }
     }
 

@@ -1,14 +1,15 @@
 use be_bitmap::Bitmap;
 use be_color::{Color, Mode, Pattern, Rgb};
 use be_descent::{
-    Coat, Fill, Image, Letters, Reach, Way, draws_by_states, marks_stay, paint_bands, paint_line,
-    paint_reached,
+    Coat, Fill, Image, Letters, Reach, Way, marks_stay, paint_bands, paint_image, paint_letters,
+    paint_line,
 };
 use be_follow::{Across, Down, Follow};
 use be_geom::{NoMemory, Point, Rect};
 use be_region::Region;
 use be_shape::{PenSize, Raster};
 use be_span::{Brush, Cell, SpanBuf};
+use be_state::{State, StateStack};
 use be_views::ViewTree;
 use std::alloc::Global;
 use std::process::Abort;
@@ -113,15 +114,23 @@ fn check(rt: &impl Abort, spans: &SpanBuf, picture: &str) {
     }
 }
 
-/// Where a view of a tree draws, without clips and with no update open.
+/// Where a view of a tree draws, whose left top is in a column and a row of the screen. There is a
+/// limit by an open update where one is given.
 macro_rules! drawing_in {
-    ($tree:expr, $view:expr) => {
+    ($tree:expr, $view:expr, ($right:expr, $down:expr), $states:expr) => {
+        drawing_in!($tree, $view, ($right, $down), $states, None)
+    };
+    ($tree:expr, $view:expr, ($right:expr, $down:expr), $states:expr, $session:expr) => {
         Reach {
             window: WINDOW,
             tree: &$tree,
             view: $view,
-            clips: &[],
-            session: None,
+            states: &$states,
+            corner: Way {
+                right: $right,
+                down: $down,
+            },
+            session: $session,
         }
     };
 }
@@ -129,7 +138,8 @@ macro_rules! drawing_in {
 #[test]
 fn a_root_draws_beside_its_children(rt: HostRuntime) -> Result<(), Fail> {
     let tree = views(&rt, rt.alloc())?;
-    let reach = drawing_in!(tree, 0);
+    let states = StateStack::new(rt.alloc())?;
+    let reach = drawing_in!(tree, 0, (2, 1), states);
     if tree.len() <= 2 {
         panic!(rt; "the views are there");
     }
@@ -145,7 +155,8 @@ fn a_root_draws_beside_its_children(rt: HostRuntime) -> Result<(), Fail> {
 #[test]
 fn a_child_draws_in_its_frame(rt: HostRuntime) -> Result<(), Fail> {
     let tree = views(&rt, rt.alloc())?;
-    let reach = drawing_in!(tree, 2);
+    let states = StateStack::new(rt.alloc())?;
+    let reach = drawing_in!(tree, 2, (5, 3), states);
     if tree.len() <= 2 {
         panic!(rt; "the views are there");
     }
@@ -156,7 +167,58 @@ fn a_child_draws_in_its_frame(rt: HostRuntime) -> Result<(), Fail> {
         check(&rt, &spans, picture);
     }
     marks_stay();
-    draws_by_states();
+    Ok(())
+}
+
+/// A clip of two parts in the first state, and one that lies (2, 1) further in the state that
+/// follows it. The last state has none.
+fn two_clips(alloc: Global) -> Result<StateStack, Fail> {
+    let mut states = StateStack::new(alloc)?;
+    let mut region = Region::from_rect(alloc, rect(1, 0, 2, 3))?;
+    region.include(&Region::from_rect(alloc, rect(4, 1, 6, 3))?)?;
+    states.set_clip(Some(region));
+    states.push()?;
+    let state = *states.top();
+    let origin = Point { x: 2, y: 1 };
+    states.set(State { origin, ..state });
+    states.set_clip(Some(Region::from_rect(alloc, rect(-2, 0, 3, 5))?));
+    states.push()?;
+    Ok(states)
+}
+
+#[test]
+fn each_clip_holds_drawing_back(rt: HostRuntime) -> Result<(), Fail> {
+    let tree = views(&rt, rt.alloc())?;
+    let states = two_clips(rt.alloc())?;
+    let reach = drawing_in!(tree, 1, (3, 2), states);
+    if tree.len() <= 1 {
+        panic!(rt; "the views are there");
+    }
+    let all = Raster::Fill(ALL);
+    for picture in ["........../........../..#..##.../..#..##.--/..##.##.--/........--"] {
+        let mut spans = pixels(rt.alloc())?;
+        paint_bands(&mut spans, &all, HERE, &reach, &FILL);
+        check(&rt, &spans, picture);
+    }
+    Ok(())
+}
+
+#[test]
+fn an_update_is_drawn_where_it_is_open(rt: HostRuntime) -> Result<(), Fail> {
+    let tree = views(&rt, rt.alloc())?;
+    let states = StateStack::new(rt.alloc())?;
+    let mut open = Region::from_rect(rt.alloc(), rect(2, 1, 5, 3))?;
+    open.include(&Region::from_rect(rt.alloc(), rect(6, 4, 9, 5))?)?;
+    let reach = drawing_in!(tree, 1, (3, 2), states, Some(&open));
+    if tree.len() <= 1 {
+        panic!(rt; "the views are there");
+    }
+    let all = Raster::Fill(ALL);
+    for picture in ["........../..####..../..#..#..../..#..#..--/......##--/........--"] {
+        let mut spans = pixels(rt.alloc())?;
+        paint_bands(&mut spans, &all, HERE, &reach, &FILL);
+        check(&rt, &spans, picture);
+    }
     Ok(())
 }
 
@@ -173,7 +235,8 @@ const MASKS: [u64; 7] = [
 #[test]
 fn a_pattern_begins_at_the_window(rt: HostRuntime) -> Result<(), Fail> {
     let tree = views(&rt, rt.alloc())?;
-    let reach = drawing_in!(tree, 1);
+    let states = StateStack::new(rt.alloc())?;
+    let reach = drawing_in!(tree, 1, (3, 2), states);
     if tree.len() <= 1 {
         panic!(rt; "the views are there");
     }
@@ -189,7 +252,8 @@ fn a_pattern_begins_at_the_window(rt: HostRuntime) -> Result<(), Fail> {
 #[test]
 fn letters_are_where_bits_are(rt: HostRuntime) -> Result<(), Fail> {
     let tree = views(&rt, rt.alloc())?;
-    let reach = drawing_in!(tree, 1);
+    let states = StateStack::new(rt.alloc())?;
+    let reach = drawing_in!(tree, 1, (3, 2), states);
     if tree.len() <= 1 {
         panic!(rt; "the views are there");
     }
@@ -204,6 +268,9 @@ fn letters_are_where_bits_are(rt: HostRuntime) -> Result<(), Fail> {
         let mut spans = pixels(rt.alloc())?;
         paint_bands(&mut spans, &all, HERE, &reach, &letters);
         check(&rt, &spans, picture);
+        let mut spans = pixels(rt.alloc())?;
+        paint_letters(&mut spans, ALL, &letters, &reach);
+        check(&rt, &spans, picture);
     }
     Ok(())
 }
@@ -211,7 +278,8 @@ fn letters_are_where_bits_are(rt: HostRuntime) -> Result<(), Fail> {
 #[test]
 fn a_clear_pixel_of_a_picture_stays(rt: HostRuntime) -> Result<(), Fail> {
     let tree = views(&rt, rt.alloc())?;
-    let reach = drawing_in!(tree, 1);
+    let states = StateStack::new(rt.alloc())?;
+    let reach = drawing_in!(tree, 1, (3, 2), states);
     if tree.len() <= 1 {
         panic!(rt; "the views are there");
     }
@@ -228,6 +296,9 @@ fn a_clear_pixel_of_a_picture_stays(rt: HostRuntime) -> Result<(), Fail> {
     for picture in ["........../........../.#...#..../........--/........--/........--"] {
         let mut spans = pixels(rt.alloc())?;
         paint_bands(&mut spans, &all, HERE, &reach, &image);
+        check(&rt, &spans, picture);
+        let mut spans = pixels(rt.alloc())?;
+        paint_image(&mut spans, &image, &reach);
         check(&rt, &spans, picture);
     }
     Ok(())
@@ -255,7 +326,8 @@ const LINES: [([i16; 4], u8, &str); 3] = [
 #[test]
 fn shapes_are_painted_by_parts(rt: HostRuntime) -> Result<(), Fail> {
     let tree = views(&rt, rt.alloc())?;
-    let reach = drawing_in!(tree, 1);
+    let states = StateStack::new(rt.alloc())?;
+    let reach = drawing_in!(tree, 1, (3, 2), states);
     if tree.len() <= 1 {
         panic!(rt; "the views are there");
     }
@@ -313,7 +385,8 @@ const COLUMNS: [(i32, i32); 10] = [
 #[test]
 fn a_long_line_is_whole(rt: HostRuntime) -> Result<(), Fail> {
     let tree = ViewTree::new(rt.alloc(), 2, 199)?;
-    let reach = drawing_in!(tree, 0);
+    let states = StateStack::new(rt.alloc())?;
+    let reach = drawing_in!(tree, 0, (2, 1), states);
     if tree.len() == 0 {
         panic!(rt; "the root is there");
     }

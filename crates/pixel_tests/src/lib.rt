@@ -22,11 +22,15 @@ mod font;
 #[cfg(test)]
 mod region;
 #[cfg(test)]
+mod rows;
+#[cfg(test)]
 mod same;
 #[cfg(test)]
 mod shape;
 #[cfg(test)]
 mod span;
+#[cfg(test)]
+mod spans;
 #[cfg(test)]
 mod state;
 #[cfg(test)]

@@ -1,7 +1,7 @@
 ghost use Rattle.std.specs.Prelude.{pos, ◌≤ℤ◌};
 
 use be_geom::{NoMemory, OutOfRange, Point, Rect};
-use be_region::{Corner, Region};
+use be_region::Region;
 use std::alloc::Global;
 use std::process::Abort;
 use std::test::Fail;
@@ -261,11 +261,6 @@ fn goes_round_a_hole(rt: HostRuntime) -> Result<(), Fail> {
     for (x, y, run) in &RUNS {
         same!(rt; region.run_at(*x, *y), *run, (*x, *y));
     }
-    let corner = Corner {
-        right: 2,
-        bottom: 2,
-    };
-    same!(rt; region.block_at(1, 1).1, corner);
     Ok(())
 }
 

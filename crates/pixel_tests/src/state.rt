@@ -1,6 +1,6 @@
 use be_color::{Color, Mode, Rgb, blend};
 use be_geom::{NoMemory, Point, Rect};
-use be_region::{Corner, Region};
+use be_region::Region;
 use be_state::{StackEmpty, StackFull, State, StateStack};
 use std::alloc::Global;
 use std::process::Abort;
@@ -254,10 +254,5 @@ fn runs_through_all_clips(rt: HostRuntime) -> Result<(), Fail> {
         let found = (stack.allows(*x, *y), stack.run_at(*x, *y));
         same!(rt; found, (*allowed, (*allowed, *last)), (*x, *y));
     }
-    let corner = Corner {
-        right: 7,
-        bottom: 0,
-    };
-    same!(rt; stack.block_at(6, 0).1, corner);
     Ok(())
 }

@@ -1,6 +1,5 @@
 use be_follow::{Across, Down, Follow};
 use be_geom::{OutOfRange, Rect};
-use be_region::Corner;
 use be_views::{ClipFault, ViewFault, ViewTree};
 use std::alloc::Global;
 use std::test::Fail;
@@ -145,35 +144,6 @@ fn goes_along_a_row(rt: HostRuntime) -> Result<(), Fail> {
     let tree = five_views(rt.alloc())?;
     for (x, y, run) in &RUNS {
         same!(rt; tree.run_at(*x, *y), *run, (*x, *y));
-    }
-    Ok(())
-}
-
-const SHOWN: [(u16, i32, i32, bool, i32, i32); 13] = [
-    (0, -5, 4, false, -1, 2147483647),
-    (0, -5, -5, false, 2147483647, -1),
-    (3, 10, 0, false, 2147483647, 2147483647),
-    (0, 0, 0, true, 9, 0),
-    (0, 8, 4, true, 9, 9),
-    (3, 1, 1, true, 1, 1),
-    (1, 2, 1, true, 5, 2),
-    (2, 3, 3, true, 7, 3),
-    (4, 4, 4, true, 7, 4),
-    (0, 1, 1, false, 5, 2),
-    (1, 1, 1, false, 1, 1),
-    (4, 5, 5, false, 7, 7),
-    (5, 0, 0, false, 9, 0),
-];
-
-#[test]
-fn tells_where_a_view_shows(rt: HostRuntime) -> Result<(), Fail> {
-    let tree = five_views(rt.alloc())?;
-    for (view, x, y, shows, right, bottom) in &SHOWN {
-        let corner = Corner {
-            right: *right,
-            bottom: *bottom,
-        };
-        same!(rt; tree.shows_at(*view, *x, *y), (*shows, corner), (*view, *x, *y));
     }
     Ok(())
 }

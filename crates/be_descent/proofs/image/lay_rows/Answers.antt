@@ -10,6 +10,24 @@ use Rattle.be_span.proofs.GridLemmas.{in_from}
 use Rattle.be_descent.specs.Inks.{picture_color}
 use Rattle.be_descent.proofs.InkLemmas.{pixel_color}
 use Rattle.be_descent.proofs.image.lay_rows.Goals as goal
+use Rattle.be_descent.proofs.image.lay_rows.Goals.{After-far_from-count, After-from}
+
+left_is : (c : After-from) → c.from-left.result ≡ c.args.part.left
+left_is c =
+    let fits : SFits w16 c.args.part.left = search rules in
+    simp to_z-of_z at c.from-left.ensures
+
+right_is : (c : After-from) → c.from.result ≡ c.args.part.right
+right_is c =
+    let fits : SFits w16 c.args.part.right = search rules in
+    simp to_z-of_z at c.from.ensures
+
+count_is : (c : After-far_from-count)
+    → pos c.far_from-count.result ≡ c.from.result -ℤ c.from-left.result
+count_is c =
+    let left : SFits w32 c.from-left.result = search rules in
+    let right : SFits w32 c.from.result = search rules in
+    simp to_z-of_z at c.far_from-count.ensures
 
 pub far_from-column-requires : goal.far_from-column-requires
 far_from-column-requires c =
@@ -21,24 +39,22 @@ far_from-column-requires c =
 
 pub far_from-count-requires : goal.far_from-count-requires
 far_from-count-requires c =
-    let left_fits : SFits w16 c.args.part.left = search rules in
+    let ends = (goal.at.far_from-count-requires c).After-from in
     let left_bits : SFits w32 c.from-left.result = search rules in
-    let left : c.from-left.result ≡ c.args.part.left = simp to_z-of_z at c.from-left.ensures in
-    let right_fits : SFits w16 c.args.part.right = search rules in
     let right_bits : SFits w32 c.from.result = search rules in
-    let right : c.from.result ≡ c.args.part.right = simp to_z-of_z at c.from.ensures in
+    let left = left_is ends in
+    let right = right_is ends in
     let across = c.requires.inside.across in
     simp to_z-of_z (omega (arith, ints))
 
 pub overflow_add-count : goal.overflow_add-count
 overflow_add-count c =
-    let left_fits : SFits w16 c.args.part.left = search rules in
+    let ends = (goal.at.overflow_add-count c).After-from in
     let left_bits : SFits w32 c.from-left.result = search rules in
-    let left : c.from-left.result ≡ c.args.part.left = simp to_z-of_z at c.from-left.ensures in
-    let right_fits : SFits w16 c.args.part.right = search rules in
     let right_bits : SFits w32 c.from.result = search rules in
-    let right : c.from.result ≡ c.args.part.right = simp to_z-of_z at c.from.ensures in
-    let far = simp to_z-of_z at c.far_from-count.ensures in
+    let left = left_is ends in
+    let right = right_is ends in
+    let far = count_is (goal.at.overflow_add-count c).After-far_from-count in
     let few : c.far_from-count.result ≤ 65535 = omega (arith, ints) in
     search rules
 
@@ -66,21 +82,19 @@ far_from-requires c =
 
 pub paint_in-requires-clause-left : goal.paint_in-requires-clause-left
 paint_in-requires-clause-left c =
-    let left_fits : SFits w16 c.args.part.left = search rules in
     let left_bits : SFits w32 c.from-left.result = search rules in
-    let left : c.from-left.result ≡ c.args.part.left = simp to_z-of_z at c.from-left.ensures in
+    let left = left_is (goal.at.paint_in-requires-clause-left c).After-from in
     let l = c.requires.inside.left in
     simp to_z-of_z (omega (arith, ints))
 
 pub paint_in-requires-clause-right : goal.paint_in-requires-clause-right
 paint_in-requires-clause-right c =
-    let left_fits : SFits w16 c.args.part.left = search rules in
+    let ends = (goal.at.paint_in-requires-clause-right c).After-from in
     let left_bits : SFits w32 c.from-left.result = search rules in
-    let left : c.from-left.result ≡ c.args.part.left = simp to_z-of_z at c.from-left.ensures in
-    let right_fits : SFits w16 c.args.part.right = search rules in
     let right_bits : SFits w32 c.from.result = search rules in
-    let right : c.from.result ≡ c.args.part.right = simp to_z-of_z at c.from.ensures in
-    let far = simp to_z-of_z at c.far_from-count.ensures in
+    let left = left_is ends in
+    let right = right_is ends in
+    let far = count_is (goal.at.paint_in-requires-clause-right c).After-far_from-count in
     let r = c.requires.inside.right in
     simp to_z-of_z (omega (arith, ints))
 
@@ -113,17 +127,16 @@ overflow_add-y c =
 pub rows-preserved : goal.rows-preserved
 rows-preserved c =
     let y : ℤ = to_z w32 c.rows.y-bits in
-    let left_fits : SFits w16 c.args.part.left = search rules in
+    let ends = (goal.at.rows-preserved c).After-from in
     let left_bits : SFits w32 c.from-left.result = search rules in
-    let left : c.from-left.result ≡ c.args.part.left = simp to_z-of_z at c.from-left.ensures in
-    let right_fits : SFits w16 c.args.part.right = search rules in
     let right_bits : SFits w32 c.from.result = search rules in
-    let right : c.from.result ≡ c.args.part.right = simp to_z-of_z at c.from.ensures in
+    let left = left_is ends in
+    let right = right_is ends in
     let bottom_fits : SFits w16 c.args.part.bottom = search rules in
     let bottom_bits : SFits w32 c.from-bottom.result = search rules in
     let bottom : c.from-bottom.result ≡ c.args.part.bottom =
     simp to_z-of_z at c.from-bottom.ensures in
-    let far = simp to_z-of_z at c.far_from-count.ensures in
+    let far = count_is (goal.at.rows-preserved c).After-far_from-count in
     let across_bits : SFits w32 c.args.way.right = search rules in
     let down_bits : SFits w32 c.args.way.down = search rules in
     let column = simp to_z-of_z at c.far_from-column.ensures in

@@ -94,7 +94,7 @@ rows-preserved g c =
     rw (to_z-of_z w32 _ next) record {
       from = omega (arith, ints);
       to = omega (arith, ints);
-      done = band_painted (g.L.Lay.rule c.args.next.now) area.top y y (y +ℤ pos 1) more
+      done = band_painted (g.L.Lay.rule c.args.next.now) (λ x z. z) area.top y y (y +ℤ pos 1) more
           c.args.spans.now c.rows.spans c.lay_row.new.spans from (omega (arith, ints)) refl
           c.rows.invariant.done
           (same_painted (g.L.Lay.rule c.args.next.now)

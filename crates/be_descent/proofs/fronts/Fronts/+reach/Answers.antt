@@ -1,12 +1,11 @@
 use Rattle.std.specs.Prelude.{slice_get, option_map}
-use Rattle.std.proofs.Common.{◌≡◌, ◌+◌, ◌<◌, suc, ◌+ℤ◌, ◌∙◌, Some, inl, inr, length, SFits, w16}
+use Rattle.std.proofs.Common.{◌≡◌, ◌+◌, suc, ◌+ℤ◌, ◌∙◌, Some, inl, inr, SFits, w16}
 use Rattle.std.proofs.Common.{w32, rules, arith, refl, sym}
 use Rattle.std.proofs.lemmas.Int.{to_z-of_z}
 use Rattle.be_views.specs.Trees.{View}
-use Rattle.be_views.proofs.ClipLemmas.{near_less, near_sum}
-use Rattle.be_descent.proofs.CountLemmas.{few_lie, lying_drop, lying_two, parent_is}
-use Rattle.be_descent.proofs.ReachLemmas.{child_outside, child_reached, lies_in, parent_outside}
-use Rattle.be_descent.proofs.ReachLemmas.{root_outside, root_reached, view_framed}
+use Rattle.be_descent.proofs.CountLemmas.{few_lie, lying_drop, lying_two}
+use Rattle.be_descent.proofs.ReachLemmas.{child_outside, child_reached, framed_in, parent_outside}
+use Rattle.be_descent.proofs.ReachLemmas.{root_outside, root_reached, way_fits}
 use Rattle.be_descent.proofs.fronts.Fronts.+reach.Goals as goal
 
 pub returns-in_err-area-clause-none : goal.returns-in_err-area-clause-none
@@ -47,16 +46,12 @@ returns-in_err-reached-clause-none t c =
     let frame = c.unwrap-frame.result in
     let got : option_map (λ (v : View). v.frame) (slice_get tree c.args.view) ≡ Some frame =
     sym c.frame_of.ensures.frame ∙ c.unwrap-frame.ensures in
-    let view = view_framed (slice_get tree c.args.view) frame got in
-    let w = view.0 in
     let end = c.requires.end in
     let there = c.requires.there in
-    let less : c.args.view < length tree = omega arith in
-    let parent = sym (parent_is tree c.args.view w view.1.0) ∙ sym c.parent.ensures.parent
-    ∙ c.in-Some.is in
-    let lies = lies_in tree c.in-Some.parent c.args.view w c.requires.whole less view.1.0 parent in
+    let view = framed_in tree c.in-Some.parent c.args.view frame c.requires.whole (omega arith) got
+    (sym c.parent.ensures.parent ∙ c.in-Some.is) in
     rw c.from_residual-in_err-reached.ensures
-    (λ x y has. parent_outside tree c.in-Some.parent c.args.view w _ lies
+    (λ x y has. parent_outside tree c.in-Some.parent c.args.view view.0 _ view.1.0
     (c.in_err-reached.ensures.none x y has))
 
 pub returns-in_err-area-2-clause-none : goal.returns-in_err-area-2-clause-none
@@ -65,19 +60,15 @@ returns-in_err-area-2-clause-none t c =
     let frame = c.unwrap-frame.result in
     let got : option_map (λ (v : View). v.frame) (slice_get tree c.args.view) ≡ Some frame =
     sym c.frame_of.ensures.frame ∙ c.unwrap-frame.ensures in
-    let view = view_framed (slice_get tree c.args.view) frame got in
-    let w = view.0 in
     let end = c.requires.end in
     let there = c.requires.there in
-    let less : c.args.view < length tree = omega arith in
-    let parent = sym (parent_is tree c.args.view w view.1.0) ∙ sym c.parent.ensures.parent
-    ∙ c.in-Some.is in
-    let lies = lies_in tree c.in-Some.parent c.args.view w c.requires.whole less view.1.0 parent in
+    let view = framed_in tree c.in-Some.parent c.args.view frame c.requires.whole (omega arith) got
+    (sym c.parent.ensures.parent ∙ c.in-Some.is) in
     let reached = c.in_ok-reached.reached in
     let reach = c.in_ok-reached.ensures.some in
     rw c.from_residual-in_err-area-2.ensures
-    (child_outside tree c.in-Some.parent c.args.view w c.args.window c.args.area frame reached
-    c.reach.new.self lies view.1.1 reach c.in_err-area-2.ensures.none)
+    (child_outside tree c.in-Some.parent c.args.view view.0 c.args.window c.args.area frame reached
+    c.reach.new.self view.1.0 view.1.1 reach c.in_err-area-2.ensures.none)
 
 pub add-requires-clause-room : goal.add-requires-clause-room
 add-requires-clause-room t c =
@@ -105,9 +96,8 @@ overflow_add-way t c =
     let a : SFits w32 c.from.result = search rules in
     let left = simp to_z-of_z at c.from.ensures in
     let sl : SFits w32 (c.in_ok-reached.reached.way.right +ℤ c.from.result) =
-    rw left (near_sum c.in_ok-reached.reached.way.right frame.left f
-    (near_less (suc c.in-Some.parent) 32 c.in_ok-reached.reached.way.right (omega arith)
-    reach.across)) in
+    rw left (way_fits c.in-Some.parent c.in_ok-reached.reached.way.right frame.left (omega arith)
+    f reach.across) in
     simp to_z-of_z sl
 
 pub overflow_add-way-2 : goal.overflow_add-way-2
@@ -128,9 +118,8 @@ overflow_add-way-2 t c =
     let b : SFits w32 c.from-2.result = search rules in
     let top = simp to_z-of_z at c.from-2.ensures in
     let st : SFits w32 (c.in_ok-reached.reached.way.down +ℤ c.from-2.result) =
-    rw top (near_sum c.in_ok-reached.reached.way.down frame.top g
-    (near_less (suc c.in-Some.parent) 32 c.in_ok-reached.reached.way.down (omega arith)
-    reach.down)) in
+    rw top (way_fits c.in-Some.parent c.in_ok-reached.reached.way.down frame.top (omega arith)
+    g reach.down) in
     simp to_z-of_z st
 
 pub returns-clause-some : goal.returns-clause-some
@@ -154,24 +143,18 @@ returns-clause-some t c =
     let b : SFits w32 c.from-2.result = search rules in
     let top = simp to_z-of_z at c.from-2.ensures in
     let sl : SFits w32 (c.in_ok-reached.reached.way.right +ℤ c.from.result) =
-    rw left (near_sum c.in_ok-reached.reached.way.right frame.left f
-    (near_less (suc c.in-Some.parent) 32 c.in_ok-reached.reached.way.right (omega arith)
-    reach.across)) in
+    rw left (way_fits c.in-Some.parent c.in_ok-reached.reached.way.right frame.left (omega arith)
+    f reach.across) in
     let st : SFits w32 (c.in_ok-reached.reached.way.down +ℤ c.from-2.result) =
-    rw top (near_sum c.in_ok-reached.reached.way.down frame.top g
-    (near_less (suc c.in-Some.parent) 32 c.in_ok-reached.reached.way.down (omega arith)
-    reach.down)) in
-    let view = view_framed (slice_get tree c.args.view) frame got in
-    let w = view.0 in
-    let less : c.args.view < length tree = omega arith in
-    let parent = sym (parent_is tree c.args.view w view.1.0) ∙ sym c.parent.ensures.parent
-    ∙ c.in-Some.is in
-    let lies = lies_in tree c.in-Some.parent c.args.view w c.requires.whole less view.1.0 parent in
+    rw top (way_fits c.in-Some.parent c.in_ok-reached.reached.way.down frame.top (omega arith)
+    g reach.down) in
+    let view = framed_in tree c.in-Some.parent c.args.view frame c.requires.whole (omega arith) got
+    (sym c.parent.ensures.parent ∙ c.in-Some.is) in
     let reached = c.in_ok-reached.reached in
     let pixels = c.add.ensures.pixels in
-    simp to_z-of_z (rw (left, top) (child_reached tree c.in-Some.parent c.args.view w c.args.window
+    simp to_z-of_z (rw (left, top) (child_reached tree c.in-Some.parent c.args.view view.0 c.args.window
     c.args.area frame c.in_ok-area-2.area reached record
     { right = reached.way.right +ℤ frame.left; down = reached.way.down +ℤ frame.top }
-    c.reach.new.self c.add.new.self lies view.1.1 f g below refl refl reach
+    c.reach.new.self c.add.new.self view.1.0 view.1.1 f g below refl refl reach
     c.in_ok-area-2.ensures.some c.add.ensures.few
     (lying_drop c.in-Some.parent (c.args.view + 1) tree) pixels))
