@@ -1,7 +1,8 @@
 //! A script and a history of it from a source.
 ghost use Rattle.std.specs.Prelude.{◌≡◌, ◌≤◌, IfErr, IfNone, IfOk, IfSome, drop, length, take};
 ghost use Rattle.app_server.specs.Headline.{turn};
-ghost use Rattle.app_server.specs.Inputs.{begins_history, report_part, script_lines, script_part, told_in};
+ghost use Rattle.app_server.specs.Inputs.{begins_history, report_part, script_lines, script_part};
+ghost use Rattle.app_server.specs.Inputs.{told_in};
 ghost use Rattle.app_server.specs.Parts.{IsScriptLine, IsTold, Stops};
 ghost use Rattle.app_server.specs.Scripts.{Reads, Refuses};
 ghost use Rattle.be_lex.specs.Lines.{lines_of};

@@ -1,5 +1,7 @@
--- What a call for the next wish asks of its program, its place and the current message (this project's own).
-use Rattle.std.specs.Prelude.{◌≡◌, ℕ, ◌≤◌, ◌==◌, Bool, true, false, ◌&&◌, ◌||◌, nat_le, List, length, Option, Some, None, slice_get}
+-- What a call for the next wish asks of its program, its place and the current message (this
+-- project's own).
+use Rattle.std.specs.Prelude.{◌≡◌, ℕ, ◌≤◌, ◌==◌, Bool, true, false, ◌&&◌, ◌||◌, nat_le, List}
+use Rattle.std.specs.Prelude.{length, Option, Some, None, slice_get}
 use Rattle.std.specs.List.{list_all, list_any}
 use Rattle.std.specs.Option.{IfSome, IsSomeAnd, option_and_then}
 use Rattle.be_message.specs.Depths.{depth_of}
@@ -14,7 +16,9 @@ use Rattle.be_actor.specs.Limits.{is_word, all_go_together}
 
 -- the words can stand in one line of a handler's body, where there is a current message
 abbrev pub keeps_fields : DraftWords → Bool
-keeps_fields draft = nat_le (length draft.words) 255 && list_all (is_word true) draft.words && all_go_together draft.words
+keeps_fields draft =
+    nat_le (length draft.words) 255 && list_all (is_word true) draft.words
+    && all_go_together draft.words
 
 -- the draft of the message that an instruction makes
 abbrev pub draft_of : Instruction → Option DraftWords
@@ -45,7 +49,8 @@ takes_current (value name datum) = false
 takes_current (current name) = true
 takes_current (copied name) = true
 
--- Where a word takes from the current message, there is one. It lies at most 15 deep, so that it can lie in another.
+-- Where a word takes from the current message, there is one. It lies at most 15 deep, so that it
+-- can lie in another.
 abbrev pub HasCurrent : List Word → Option Message → Type 0
 HasCurrent words now = list_any takes_current words ≡ true → IsSomeAnd now (λ m. depth_of m ≤ 15)
 
@@ -71,6 +76,9 @@ abbrev pub is_second_part : ℕ → Option Instruction → Bool
 is_second_part part (Some at) = part == 1 && has_two_parts at
 is_second_part part None = false
 
--- at an instruction or at the end, in the first part or in the second of an instruction that has two
+-- at an instruction or at the end, in the first part or in the second of an instruction that has
+-- two
 abbrev pub is_place : List Instruction → Place → Bool
-is_place program place = nat_le place.step (length program) && (place.part == 0 || is_second_part place.part (slice_get program place.step))
+is_place program place =
+    nat_le place.step (length program)
+    && (place.part == 0 || is_second_part place.part (slice_get program place.step))

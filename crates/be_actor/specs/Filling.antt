@@ -10,5 +10,8 @@ use Rattle.be_actor.specs.Drafts.{Word, value, current, copied}
 -- a value is not refused, and a field that is copied is new and finds room
 abbrev pub FitsInto : Option Message → Message → Word → Type 0
 FitsInto now m (value name d) = (is_name name ≡ true) × (add_refusal m name d ≡ None)
-FitsInto now m (current name) = (is_name name ≡ true) × IsSomeAnd now (λ c. add_refusal m name (packed c) ≡ None)
-FitsInto now m (copied name) = (is_name name ≡ true) × IsSomeAnd now (λ c. (list_any (has_name name) m.fields ≡ false) × (length m.fields < 255))
+FitsInto now m (current name) =
+    (is_name name ≡ true) × IsSomeAnd now (λ c. add_refusal m name (packed c) ≡ None)
+FitsInto now m (copied name) =
+    (is_name name ≡ true) × IsSomeAnd now
+    (λ c. (list_any (has_name name) m.fields ≡ false) × (length m.fields < 255))

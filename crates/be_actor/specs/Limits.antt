@@ -1,5 +1,6 @@
 -- Which drafts of messages can be written in a script (limits are this project's own).
-use Rattle.std.specs.Prelude.{ℕ, ◌/◌, ◌%◌, ◌==◌, Bool, true, false, not, ◌&&◌, ◌||◌, nat_le, List, [], ◌∷◌, length}
+use Rattle.std.specs.Prelude.{ℕ, ◌/◌, ◌%◌, ◌==◌, Bool, true, false, not, ◌&&◌, ◌||◌, nat_le, List}
+use Rattle.std.specs.Prelude.{[], ◌∷◌, length}
 use Rattle.std.specs.Char.{is_ascii_digit, is_ascii_lowercase}
 use Rattle.std.specs.List.{list_all}
 use Rattle.std.specs.Str.{bytes_eq}
@@ -21,7 +22,9 @@ is_what_byte b = is_ascii_lowercase b || (nat_le 65 b && nat_le b 90) || is_asci
 
 -- a word that a script can spell: four of these, the first the highest byte
 abbrev pub is_what : ℕ → Bool
-is_what n = is_what_byte (n / 16777216) && is_what_byte (n / 65536 % 256) && is_what_byte (n / 256 % 256) && is_what_byte (n % 256)
+is_what n =
+    is_what_byte (n / 16777216) && is_what_byte (n / 65536 % 256) && is_what_byte (n / 256 % 256)
+    && is_what_byte (n % 256)
 
 -- a value that a line can spell: any but a message, and a text without spaces
 abbrev pub is_spelt : Datum → Bool
@@ -38,8 +41,8 @@ is_word has_message (value name datum) = is_name name && is_spelt datum
 is_word has_message (current name) = has_message && is_name name
 is_word has_message (copied name) = has_message && is_name name
 
--- Two words may stand in one line: values under one name have one type; a name that is copied or has the current message
--- stands once; the current message stands once, and not beside a copy.
+-- Two words may stand in one line: values under one name have one type; a name that is copied or
+-- has the current message stands once; the current message stands once, and not beside a copy.
 abbrev pub go_together : Word → Word → Bool
 go_together (value a x) (value b y) = not (bytes_eq a b) || is_kind (kind_of x) (kind_of y)
 go_together (value a x) (current b) = not (bytes_eq a b)

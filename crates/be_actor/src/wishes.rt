@@ -1,6 +1,7 @@
 ghost use Rattle.std.specs.Prelude.{◌≡◌, true, slice_get, IfOk};
 ghost use Rattle.std.specs.Option.{option_copied, IfSome};
-ghost use Rattle.be_actor.specs.Conditions.{are_kept, draft_of, is_kept, is_place, HasCurrent, HasCurrentAt};
+ghost use Rattle.be_actor.specs.Conditions.{are_kept, draft_of, is_kept, is_place, HasCurrent};
+ghost use Rattle.be_actor.specs.Conditions.{HasCurrentAt};
 ghost use Rattle.be_actor.specs.Wishes.{wish_at, wish_of};
 
 use crate::{Instruction, Place, Program, Wish};

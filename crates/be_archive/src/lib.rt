@@ -1,8 +1,8 @@
 //! View trees as messages: `BView::Archive`, with fields of this project's own.
 //!
 //! The size of the root's frame is one field. Of the further views there are four, each of which
-//! has a value for each view in order: parents, frames, and how they follow their parents' size. All
-//! is linear in the views.
+//! has a value for each view in order: parents, frames, and how they follow their parents' size.
+//! All is linear in the views.
 #![tactic(auto)]
 
 mod columns;

@@ -1,5 +1,6 @@
 -- An act by the parts that it reads.
-use Rattle.std.specs.Prelude.{◌≡◌, ◌⊎◌, ◌≤◌, ℕ, ◌+◌, ◌==◌, Bool, true, false, List, length, Option, Some, None, if◌then◌else◌}
+use Rattle.std.specs.Prelude.{◌≡◌, ◌⊎◌, ◌≤◌, ℕ, ◌+◌, ◌==◌, Bool, true, false, List, length, Option}
+use Rattle.std.specs.Prelude.{Some, None, if◌then◌else◌}
 use Rattle.std.specs.Option.{option_map_or}
 use Rattle.be_hall.specs.Hands.{meant}
 use Rattle.be_hall.specs.Machine.{Fits}
@@ -17,7 +18,9 @@ use Rattle.be_script.specs.Script.{Declared}
 use Rattle.be_asking.specs.Wants.{runner_in}
 use Rattle.be_asking.specs.declared.activity.Runner.{Runner}
 use Rattle.be_asking.specs.declared.want.Request.{Request}
-use Rattle.be_asking.specs.declared.want.Request.TheVariants.{Note, Post, Send, Forward, Reply, Claim, Lock, Unlock, Flush, SyncDone, Draw}
+use Rattle.be_asking.specs.declared.want.Request.TheVariants.{Note, Post, Send, Forward, Reply}
+use Rattle.be_asking.specs.declared.want.Request.TheVariants.{Claim, Lock, Unlock, Flush, SyncDone}
+use Rattle.be_asking.specs.declared.want.Request.TheVariants.{Draw}
 
 -- the whole buffer goes over, where the link has room for it
 abbrev pub flush_by : ℕ → Buffer → List Numbered → Option Act

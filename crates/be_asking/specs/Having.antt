@@ -1,5 +1,6 @@
 -- Whether an activity has a legal act, where all parts are in hand.
-use Rattle.std.specs.Prelude.{◌≡◌, ◌<◌, ℕ, Bool, true, false, is_some, List, length, Option, Some, None}
+use Rattle.std.specs.Prelude.{◌≡◌, ◌<◌, ℕ, Bool, true, false, is_some, List, length, Option, Some}
+use Rattle.std.specs.Prelude.{None}
 use Rattle.be_hall.specs.Machine.{Fits, IsHeld}
 use Rattle.be_machine.specs.Legal.{legal_act}
 use Rattle.be_machine.specs.Program.{has_ended}

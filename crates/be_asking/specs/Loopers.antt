@@ -8,7 +8,8 @@ use Rattle.be_message.specs.Messages.{Message}
 use Rattle.be_script.specs.Script.{Declared}
 use Rattle.be_machine.specs.Activities as by
 use Rattle.be_machine.specs.Program.{hand_in, letter_program, update_program}
-use Rattle.be_machine.specs.State.{Looper, free, locked, handling, Stage, in_body, beginning, in_update, ending}
+use Rattle.be_machine.specs.State.{Looper, free, locked, handling, Stage, in_body, beginning}
+use Rattle.be_machine.specs.State.{in_update, ending}
 use Rattle.be_machine.specs.Wants.{Want, asks_or, takes, begins, flushes, draws_end, ends}
 use Rattle.be_asking.specs.Wants.{want_in}
 use Rattle.be_asking.specs.declared.want.Want as told

@@ -2,7 +2,8 @@
 ghost use Rattle.std.specs.Prelude.{◌≡◌, ◌==◌, ◌-◌, ◌^◌, ◌<◌, false, option_map, IfOk, IfErr};
 ghost use Rattle.std.specs.Option.{option_map_or};
 ghost use Rattle.be_asking.specs.Finding.{IsInHand, IsMissing};
-ghost use Rattle.be_asking.specs.Using.{Answers, AnswersBehind, ArePostable, HasNoPort, HasPort, IsFirst, IsPostable, IsSecond};
+ghost use Rattle.be_asking.specs.Using.{Answers, AnswersBehind, ArePostable, HasNoPort, HasPort};
+ghost use Rattle.be_asking.specs.Using.{IsFirst, IsPostable, IsSecond};
 ghost use Rattle.be_input.specs.Seen.{seen_delivery};
 ghost use Rattle.be_machine.specs.Touched as part;
 ghost use Rattle.be_message.specs.Messages.{Message};

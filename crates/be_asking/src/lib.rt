@@ -3,9 +3,9 @@
 //! Some sound list of slices has these parts, and there may be many: an answer holds in each of
 //! them. Asking takes a few steps: a look at one instruction, and at the fronts of a port and of a
 //! link. An application that draws looks back through its program for its lock, and a looper looks
-//! for its body among the script's. The closing activity looks at each part once. No pixel is looked
-//! at. Memory is taken for the windows that a change or an event alters and for the messages of an
-//! event, and for nothing else.
+//! for its body among the script's. The closing activity looks at each part once. No pixel is
+//! looked at. Memory is taken for the windows that a change or an event alters and for the messages
+//! of an event, and for nothing else.
 #![tactic(auto)]
 
 mod activity;

@@ -1,5 +1,6 @@
 //! The instructions at which applications and loopers are.
-ghost use Rattle.std.specs.Prelude.{◌≡◌, ◌<◌, ◌==◌, ◌&&◌, [], find, length, map, nat_le, option_map, slice_get, None};
+ghost use Rattle.std.specs.Prelude.{◌≡◌, ◌<◌, ◌==◌, ◌&&◌, [], find, length, map, nat_le};
+ghost use Rattle.std.specs.Prelude.{option_map, slice_get, None};
 ghost use Rattle.be_asking.specs.Bodies.{is_body_in};
 ghost use Rattle.std.specs.Option.{option_map_or};
 ghost use Rattle.be_machine.specs.Program.{app_program, lock_before, update_program};

@@ -1,7 +1,8 @@
 //! Whether anything of a window is on its way.
 ghost use Rattle.std.specs.Prelude.{◌≡◌, ◌&&◌, not, IfOk, IfErr};
 ghost use Rattle.be_asking.specs.Finding.{IsReachable};
-ghost use Rattle.be_asking.specs.Stopping.{HasWindow, IsLost, Tells, is_empty_link, is_empty_port, is_idle, is_quiet};
+ghost use Rattle.be_asking.specs.Stopping.{HasWindow, IsLost, Tells, is_empty_link, is_empty_port};
+ghost use Rattle.be_asking.specs.Stopping.{is_idle, is_quiet};
 ghost use Rattle.be_machine.specs.Touched as part;
 ghost use Rattle.be_script.specs.Script.{declared_by};
 

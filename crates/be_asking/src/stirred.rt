@@ -1,6 +1,7 @@
 //! The panes of the windows that an activation alters.
 ghost use Rattle.std.specs.Prelude.{◌≡◌, ◌<◌, length, IfOk, IfSome, MatchOption};
-ghost use Rattle.be_asking.specs.Using.{AreInHand, AreWindows, HasActive, HasMissing, HasStirred, LacksActive, LacksStirred};
+ghost use Rattle.be_asking.specs.Using.{AreInHand, AreWindows, HasActive, HasMissing, HasStirred};
+ghost use Rattle.be_asking.specs.Using.{LacksActive, LacksStirred};
 ghost use Rattle.be_desk.specs.Desks.{IsPaired, desk_of};
 ghost use Rattle.be_hall.specs.Hands.{meant};
 ghost use Rattle.be_hall.specs.Machine.{SomeFits};

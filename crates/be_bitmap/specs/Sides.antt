@@ -16,6 +16,8 @@ pub record IsPicture (p : Picture) : Type 0 where
 
 -- why pixels are refused: for a side first, then for their number; they come back
 abbrev pub IsRefused : BitmapFault → ℕ → ℕ → List Color → Type 0
-IsRefused (TooLarge back) width height colors = (is_too_large width height ≡ true) × (back.items ≡ colors)
+IsRefused (TooLarge back) width height colors =
+    (is_too_large width height ≡ true) × (back.items ≡ colors)
 IsRefused (WrongLength back) width height colors =
-    (is_too_large width height ≡ false) × (length colors ≡ width * height → ⊥) × (back.items ≡ colors)
+    (is_too_large width height ≡ false) × (length colors ≡ width * height → ⊥)
+    × (back.items ≡ colors)

@@ -1,4 +1,5 @@
-ghost use Rattle.std.specs.Prelude.{◌≡◌, ℕ, pos, ◌+◌, ◌-◌, nat_lt, length, slice_get, if◌then◌else◌, IfOk, IfErr};
+ghost use Rattle.std.specs.Prelude.{◌≡◌, ℕ, pos, ◌+◌, ◌-◌, nat_lt, length, slice_get};
+ghost use Rattle.std.specs.Prelude.{if◌then◌else◌, IfOk, IfErr};
 ghost use Rattle.be_bitmap.specs.Pictures.{bitmap_pixel};
 
 use crate::fault::BitmapFault;
@@ -32,7 +33,8 @@ impl Bitmap {
 
     /// A bitmap of these pixels, row by row from the top and each row from the left.
     pub fn new(width: u16, height: u16, pixels: Vec<Color>) -> Result<Bitmap, BitmapFault>
-        ensures made { IfOk result (λ bitmap. bitmap ≡ record { width = width; height = height; colors = pixels.items }) }
+        ensures made { IfOk result
+            (λ bitmap. bitmap ≡ record { width = width; height = height; colors = pixels.items }) }
         ensures picture { IfOk result (λ bitmap. IsPicture bitmap) }
         ensures refused { IfErr result (λ fault. IsRefused fault width height pixels.items) }
     {
@@ -77,8 +79,10 @@ impl Bitmap {
 
     /// The pixels of a row from a column on, as far as the bitmap goes; none outside it.
     pub fn row_from(&self, row: usize, column: usize) -> &[Color]
-        ensures pixels { (k : ℕ) → slice_get result.now k ≡ bitmap_pixel self.now (pos (column + k)) (pos row) }
-        ensures len { length result.now ≡ (if nat_lt row self.now.height then self.now.width - column else 0) }
+        ensures pixels { (k : ℕ) → slice_get result.now k
+            ≡ bitmap_pixel self.now (pos (column + k)) (pos row) }
+        ensures len { length result.now
+            ≡ (if nat_lt row self.now.height then self.now.width - column else 0) }
     {
         let width = usize::from(self.width);
         if row < usize::from(self.height) && column < width {

@@ -1,13 +1,16 @@
-use Rattle.std.specs.Prelude.{ℕ, ◌+◌, ◌-◌, ◌/◌, ◌==◌, ◌&&◌, Bool, true, false, min, max, if◌then◌else◌}
+use Rattle.std.specs.Prelude.{ℕ, ◌+◌, ◌-◌, ◌/◌, ◌==◌, ◌&&◌, Bool, true, false, min, max}
+use Rattle.std.specs.Prelude.{if◌then◌else◌}
 use Rattle.be_color.specs.declared.colors.Color.{Color}
 use Rattle.be_color.specs.declared.colors.Color.TheVariants.{Solid, Clear}
 use Rattle.be_color.specs.declared.colors.Rgb.{Rgb}
 use Rattle.be_color.specs.declared.modes.Mode.{Mode}
-use Rattle.be_color.specs.declared.modes.Mode.TheVariants.{Copy, Over, Erase, Invert, Add, Subtract, Blend, Min, Max, Select}
+use Rattle.be_color.specs.declared.modes.Mode.TheVariants.{Copy, Over, Erase, Invert, Add, Subtract}
+use Rattle.be_color.specs.declared.modes.Mode.TheVariants.{Blend, Min, Max, Select}
 
 -- These rules are this project's own. The Be Book has the names of the modes.
 
--- the colour that a bit of a pattern chooses: 1 is high; 0 is low in Copy, and transparent in every other mode
+-- the colour that a bit of a pattern chooses: 1 is high; 0 is low in Copy, and transparent in every
+-- other mode
 abbrev pub picked : Mode → Bool → Color → Color → Color
 picked mode true high low = high
 picked Copy false high low = low
@@ -26,12 +29,14 @@ abbrev pub has_color : Rgb → Color → Bool
 has_color d (Solid c) = (d.red == c.red) && (d.green == c.green) && (d.blue == c.blue)
 has_color d Clear = false
 
--- low on a pixel that is high, high on one that is low, and any other as it is; where high is low the two agree
+-- low on a pixel that is high, high on one that is low, and any other as it is; where high is low
+-- the two agree
 abbrev pub selected : Rgb → Color → Color → Color
 selected d high low =
     if has_color d high then low else (if has_color d low then high else Solid d)
 
--- what a mode paints with the source s on the pixel d: by component, but for Select, which takes whole colours
+-- what a mode paints with the source s on the pixel d: by component, but for Select, which takes
+-- whole colours
 abbrev pub drawn : Mode → Rgb → Rgb → Color → Color → Color
 drawn Copy s d high low = Solid s
 drawn Over s d high low = Solid s
@@ -49,7 +54,8 @@ abbrev pub laid_on : Color → Rgb → Rgb
 laid_on (Solid c) d = c
 laid_on Clear d = d
 
--- the new colour of a pixel d: a transparent source leaves it in every mode, and so does a mode that paints nothing
+-- the new colour of a pixel d: a transparent source leaves it in every mode, and so does a mode
+-- that paints nothing
 abbrev pub blended : Mode → Color → Rgb → Color → Color → Rgb
 blended mode Clear d high low = d
 blended mode (Solid s) d high low = laid_on (drawn mode s d high low) d

@@ -2,7 +2,11 @@
 use Rattle.std.specs.Prelude.{ℕ, nat_lt, if◌then◌else◌, Option, Some, None, Result, Ok, Err}
 use Rattle.be_command.specs.declared.fault.Fault.{Fault}
 use Rattle.be_command.specs.declared.fault.Reason.{Reason}
-use Rattle.be_command.specs.declared.fault.Reason.TheVariants.{TooLong, LongLine, BadByte, UnknownWord, Place, NotHere, Shape, Range, NameTaken, UnknownName, TooMany, BadEntry, Unfinished, TooMuchWork}
+use Rattle.be_command.specs.declared.fault.Reason.TheVariants.{TooLong, LongLine, BadByte}
+use Rattle.be_command.specs.declared.fault.Reason.TheVariants.{UnknownWord, Place, NotHere, Shape}
+use Rattle.be_command.specs.declared.fault.Reason.TheVariants.{Range, NameTaken, UnknownName}
+use Rattle.be_command.specs.declared.fault.Reason.TheVariants.{TooMany, BadEntry, Unfinished}
+use Rattle.be_command.specs.declared.fault.Reason.TheVariants.{TooMuchWork}
 
 -- the place of a reason in the order in which reasons are looked for
 abbrev pub rank_of : Reason → ℕ
@@ -21,10 +25,11 @@ rank_of BadEntry = 11
 rank_of Unfinished = 12
 rank_of TooMuchWork = 13
 
--- of two faults of a line the one that counts: the one whose reason comes first, and for the same reason that of the
--- earlier word
+-- of two faults of a line the one that counts: the one whose reason comes first, and for the same
+-- reason that of the earlier word
 abbrev pub first_of : Fault → Fault → Fault
-first_of earlier later = if nat_lt (rank_of later.reason) (rank_of earlier.reason) then later else earlier
+first_of earlier later =
+    if nat_lt (rank_of later.reason) (rank_of earlier.reason) then later else earlier
 
 -- the same where there may be none
 abbrev pub first_fault : Option Fault → Option Fault → Option Fault

@@ -1,5 +1,8 @@
--- The kinds of what a line says behind its first word, and how each is read (the language is this project's own).
-use Rattle.std.specs.Prelude.{ℕ, ℤ, pos, negsuc, zero, suc, Bool, false, if◌then◌else◌, List, [], ◌∷◌, Option, Some, None, Result, Ok, Err, codes, is_some, unsigned_abs}
+-- The kinds of what a line says behind its first word, and how each is read (the language is this
+-- project's own).
+use Rattle.std.specs.Prelude.{ℕ, ℤ, pos, negsuc, zero, suc, Bool, false, if◌then◌else◌, List, []}
+use Rattle.std.specs.Prelude.{◌∷◌, Option, Some, None, Result, Ok, Err, codes, is_some}
+use Rattle.std.specs.Prelude.{unsigned_abs}
 use Rattle.std.specs.Option.{ok_or}
 use Rattle.std.specs.Str.{bytes_eq}
 use Rattle.be_geom.specs.declared.point.Point.{Point}
@@ -77,12 +80,14 @@ as_focus (Ok view) = Ok (Some view)
 as_focus (Err reason) = Err reason
 
 abbrev pub focus_named : List (List ℕ) → List ℕ → Result (Option ℕ) Reason
-focus_named names word = if bytes_eq word (codes "none") then Ok None else as_focus (named names word)
+focus_named names word =
+    if bytes_eq word (codes "none") then Ok None else as_focus (named names word)
 
 -- a number from low to high
 abbrev pub numbered : ℤ → ℤ → List ℕ → Result ℤ Reason
 numbered low high word =
-    if is_number word then (if between low (number_of word) high then Ok (number_of word) else Err Range) else Err Shape
+    if is_number word then (if between low (number_of word) high then Ok (number_of word)
+    else Err Range) else Err Shape
 
 abbrev pub coordinate : List ℕ → Result ℤ Reason
 coordinate word = numbered (negsuc 32767) (pos 32767) word
@@ -104,12 +109,14 @@ point_at at = said_as (λ p. record { x = p.0; y = p.1 }) (pair_at coordinate at
 
 abbrev pub rect_at : At → Result Rect Fault
 rect_at at =
-    said_as (λ r. record { left = r.0.0; top = r.0.1; right = r.1.0; bottom = r.1.1 }) (both (pair_at coordinate at) (pair_at coordinate (after_pair at)))
+    said_as (λ r. record { left = r.0.0; top = r.0.1; right = r.1.0; bottom = r.1.1 })
+    (both (pair_at coordinate at) (pair_at coordinate (after_pair at)))
 
 abbrev pub after_rect : At → At
 after_rect at = after_pair (after_pair at)
 
--- the rest of the line behind a space, at most 256 bytes, each 32 to 126; without that space it is missing
+-- the rest of the line behind a space, at most 256 bytes, each 32 to 126; without that space it is
+-- missing
 abbrev pub rest_said : List ℕ → Result (List ℕ) Reason
 rest_said [] = Err Shape
 rest_said (space ∷ text) = if is_written_text text then Ok text else Err Shape
@@ -118,11 +125,14 @@ rest_said (space ∷ text) = if is_written_text text then Ok text else Err Shape
 abbrev pub rects_at : ℕ → At → Result (List Rect) Fault
 rects_at zero at = Ok []
 rects_at (suc most) at =
-    said_as (λ rects. rects.0 ∷ rects.1) (both (rect_at at) (if is_some (word_at (after_rect at)) then rects_at most (after_rect at) else Ok []))
+    said_as (λ rects. rects.0 ∷ rects.1)
+    (both (rect_at at) (if is_some (word_at (after_rect at)) then rects_at most (after_rect at)
+    else Ok []))
 
 abbrev pub after_rects : ℕ → At → At
 after_rects zero at = at
-after_rects (suc most) at = if is_some (word_at (after_rect at)) then after_rects most (after_rect at) else after_rect at
+after_rects (suc most) at =
+    if is_some (word_at (after_rect at)) then after_rects most (after_rect at) else after_rect at
 
 -- the word is there, and is `none`
 abbrev pub is_none_word : Option (List ℕ) → Bool

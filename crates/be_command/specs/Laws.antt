@@ -1,5 +1,6 @@
 -- What is written is read, and what is read is written once (this project's own).
-use Rattle.std.specs.Prelude.{◌≡◌, ℕ, ◌<◌, ◌≤◌, pos, negsuc, true, List, [], ◌∷◌, length, Option, Some, None, Ok, codes}
+use Rattle.std.specs.Prelude.{◌≡◌, ℕ, ◌<◌, ◌≤◌, pos, negsuc, true, List, [], ◌∷◌, length, Option}
+use Rattle.std.specs.Prelude.{Some, None, Ok, codes}
 use Rattle.be_geom.specs.declared.point.Point.{Point}
 use Rattle.be_geom.specs.declared.rect.Rect.{Rect}
 use Rattle.be_geom.specs.Points.{between, in_range}
@@ -9,7 +10,9 @@ use Rattle.be_command.specs.declared.Command.{Command}
 use Rattle.be_command.specs.declared.first_word.FirstWord.{FirstWord}
 use Rattle.be_command.specs.Names.{Known, AreNames}
 use Rattle.be_command.specs.Limits.{is_written_text}
-use Rattle.be_command.specs.Kinds.{Kind, a_view, a_window, a_bitmap, a_focus, a_point, a_rect, a_distance, a_size, a_pen_size, a_pattern, a_color, a_mode, a_text, a_clip, Said, SaidAll}
+use Rattle.be_command.specs.Kinds.{Kind, a_view, a_window, a_bitmap, a_focus, a_point, a_rect}
+use Rattle.be_command.specs.Kinds.{a_distance, a_size, a_pen_size, a_pattern, a_color, a_mode}
+use Rattle.be_command.specs.Kinds.{a_text, a_clip, Said, SaidAll}
 use Rattle.be_command.specs.Forms.{form_of}
 use Rattle.be_command.specs.Reading.{command_of}
 use Rattle.be_command.specs.Spelling.{spelling}
@@ -28,7 +31,9 @@ abbrev pub IsPoint : Point → Type 0
 IsPoint p = (in_range p.x ≡ true) × (in_range p.y ≡ true)
 
 abbrev pub IsRect : Rect → Type 0
-IsRect r = ((in_range r.left ≡ true) × (in_range r.top ≡ true)) × ((in_range r.right ≡ true) × (in_range r.bottom ≡ true))
+IsRect r =
+    ((in_range r.left ≡ true) × (in_range r.top ≡ true))
+    × ((in_range r.right ≡ true) × (in_range r.bottom ≡ true))
 
 abbrev pub AreRects : List Rect → Type 0
 AreRects [] = Unit {0}
@@ -49,8 +54,11 @@ IsWithin known a_bitmap b = b < length known.bitmaps
 IsWithin known a_focus v = IsFocus known.views v
 IsWithin known a_point p = IsPoint p
 IsWithin known a_rect r = IsRect r
-IsWithin known a_distance d = (between (negsuc 65534) d.0 (pos 65535) ≡ true) × (between (negsuc 65534) d.1 (pos 65535) ≡ true)
-IsWithin known a_size s = (between (pos 0) s.0 (pos 32767) ≡ true) × (between (pos 0) s.1 (pos 32767) ≡ true)
+IsWithin known a_distance d =
+    (between (negsuc 65534) d.0 (pos 65535) ≡ true)
+    × (between (negsuc 65534) d.1 (pos 65535) ≡ true)
+IsWithin known a_size s =
+    (between (pos 0) s.0 (pos 32767) ≡ true) × (between (pos 0) s.1 (pos 32767) ≡ true)
 IsWithin known a_pen_size n = (1 ≤ n) × (n ≤ 32)
 IsWithin known a_pattern p = is_pattern p ≡ true
 IsWithin known a_color c = is_color c ≡ true
@@ -62,7 +70,8 @@ abbrev pub AreWithin : Known → (kinds : List Kind) → SaidAll kinds → Type 
 AreWithin known [] x = Unit {0}
 AreWithin known (kind ∷ kinds) x = IsWithin known kind x.0 × AreWithin known kinds x.1
 
--- a command that a line can be: what its form makes of values within their limits. No form makes the end of an update
+-- a command that a line can be: what its form makes of values within their limits. No form makes
+-- the end of an update
 pub record IsSpoken (known : Known) (c : Command) : Type 0 where
   pub word : FirstWord
   pub said : SaidAll (form_of word).kinds

@@ -1,18 +1,25 @@
 -- Which commands can be written in a script (limits are this project's own).
-use Rattle.std.specs.Prelude.{ℕ, pos, negsuc, Bool, true, false, ◌&&◌, nat_le, nat_lt, List, length, Option, Some, None}
+use Rattle.std.specs.Prelude.{ℕ, pos, negsuc, Bool, true, false, ◌&&◌, nat_le, nat_lt, List, length}
+use Rattle.std.specs.Prelude.{Option, Some, None}
 use Rattle.std.specs.List.{list_all}
 use Rattle.be_geom.specs.Points.{between}
 use Rattle.be_geom.specs.declared.change.Change.{Change}
-use Rattle.be_geom.specs.declared.change.Change.TheVariants.{Show, Hide, MoveTo, MoveBy, ResizeTo, Activate, Behind, Focus, Close}
+use Rattle.be_geom.specs.declared.change.Change.TheVariants.{Show, Hide, MoveTo, MoveBy, ResizeTo}
+use Rattle.be_geom.specs.declared.change.Change.TheVariants.{Activate, Behind, Focus, Close}
 use Rattle.be_geom.specs.declared.rect.Rect.{Rect}
 use Rattle.be_command.specs.declared.Command.{Command}
-use Rattle.be_command.specs.Effects.{Figure, filled, framed, lined, written, pictured, Setting, high_color, low_color, drawing_mode, pen_size, pen_place, origin, clipping, Deed, draws, sets, colors, saves, restores, copies, invalidates, Effect, at_view, changes, ends_update, effect_of}
+use Rattle.be_command.specs.Effects.{Figure, filled, framed, lined, written, pictured, Setting}
+use Rattle.be_command.specs.Effects.{high_color, low_color, drawing_mode, pen_size, pen_place}
+use Rattle.be_command.specs.Effects.{origin, clipping, Deed, draws, sets, colors, saves, restores}
+use Rattle.be_command.specs.Effects.{copies, invalidates, Effect, at_view, changes, ends_update}
+use Rattle.be_command.specs.Effects.{effect_of}
 
 -- ---- numbers
 
 -- a text has at most 256 bytes, each 32 to 126
 abbrev pub is_written_text : List ℕ → Bool
-is_written_text bytes = nat_le (length bytes) 256 && list_all (λ b. nat_le 32 b && nat_le b 126) bytes
+is_written_text bytes =
+    nat_le (length bytes) 256 && list_all (λ b. nat_le 32 b && nat_le b 126) bytes
 
 -- a figure's numbers
 abbrev pub is_figure : Figure → Bool
@@ -48,8 +55,10 @@ is_deed (invalidates r) = true
 
 -- a move goes by at most 65535 in each direction, and a width and a height are 0 to 32767
 abbrev pub is_change : Change → Bool
-is_change (MoveBy dx dy) = between (negsuc 65534) dx (pos 65535) && between (negsuc 65534) dy (pos 65535)
-is_change (ResizeTo width height) = between (pos 0) width (pos 32767) && between (pos 0) height (pos 32767)
+is_change (MoveBy dx dy) =
+    between (negsuc 65534) dx (pos 65535) && between (negsuc 65534) dy (pos 65535)
+is_change (ResizeTo width height) =
+    between (pos 0) width (pos 32767) && between (pos 0) height (pos 32767)
 is_change Show = true
 is_change Hide = true
 is_change (MoveTo corner) = true
@@ -70,7 +79,8 @@ is_command c = is_effect (effect_of c)
 
 -- ---- what an update may draw
 
--- the first group of commands: what draws and what is set for drawing, and nothing that may bring an update
+-- the first group of commands: what draws and what is set for drawing, and nothing that may bring
+-- an update
 abbrev pub is_drawing_deed : Deed → Bool
 is_drawing_deed (draws figure) = true
 is_drawing_deed (sets setting) = true

@@ -1,12 +1,15 @@
 -- The names of windows, views and bitmaps that a command may use (this project's own).
-use Rattle.std.specs.Prelude.{◌≡◌, ℕ, ◌+◌, Bool, true, not, ◌&&◌, ◌||◌, nat_le, if◌then◌else◌, List, [], ◌∷◌, length, Option, Some, None, Result, Ok, Err}
+use Rattle.std.specs.Prelude.{◌≡◌, ℕ, ◌+◌, Bool, true, not, ◌&&◌, ◌||◌, nat_le, if◌then◌else◌, List}
+use Rattle.std.specs.Prelude.{[], ◌∷◌, length, Option, Some, None, Result, Ok, Err}
 use Rattle.std.specs.List.{list_all, list_any, position_from}
 use Rattle.std.specs.Str.{bytes_eq}
 use Rattle.be_lex.specs.Names.{is_name, is_reserved_name}
 use Rattle.be_command.specs.declared.fault.NameFault.{NameFault}
-use Rattle.be_command.specs.declared.fault.NameFault.TheVariants.{BadName, NameTaken, TooMany, NoMemory}
+use Rattle.be_command.specs.declared.fault.NameFault.TheVariants.{BadName, NameTaken, TooMany}
+use Rattle.be_command.specs.declared.fault.NameFault.TheVariants.{NoMemory}
 
--- the windows, the views of one of them, the root view first, and the bitmaps; each has its place in its list as number
+-- the windows, the views of one of them, the root view first, and the bitmaps; each has its place
+-- in its list as number
 pub record Known : Type 0 where
   pub windows : List (List ℕ)
   pub views : List (List ℕ)
@@ -20,7 +23,8 @@ number_in names name = position_from (λ other. bytes_eq other name) 0 names
 abbrev pub name_fault : ℕ → List (List ℕ) → List ℕ → Option NameFault
 name_fault most names name =
     if not (is_name name) then Some BadName
-    else if is_reserved_name name || list_any (λ other. bytes_eq other name) names then Some NameTaken
+    else if is_reserved_name name || list_any (λ other. bytes_eq other name) names
+    then Some NameTaken
     else if nat_le most (length names) then Some TooMany
     else None
 
@@ -31,7 +35,8 @@ IsNameFault NameTaken due = due ≡ Some NameTaken
 IsNameFault TooMany due = due ≡ Some TooMany
 IsNameFault NoMemory due = Unit {0}
 
--- a name is refused where a fault is due, with that fault, and else has the next number, where the first is this one
+-- a name is refused where a fault is due, with that fault, and else has the next number, where the
+-- first is this one
 abbrev pub IsNumberedFrom : ℕ → Result ℕ NameFault → Option NameFault → List (List ℕ) → Type 0
 IsNumberedFrom first (Ok number) due names = (due ≡ None) × (number ≡ first + length names)
 IsNumberedFrom first (Err fault) due names = IsNameFault fault due
@@ -44,7 +49,8 @@ IsNumbered result due names = IsNumberedFrom 0 result due names
 -- no two are the same
 abbrev pub are_different : List (List ℕ) → Bool
 are_different [] = true
-are_different (name ∷ names) = not (list_any (λ other. bytes_eq name other) names) && are_different names
+are_different (name ∷ names) =
+    not (list_any (λ other. bytes_eq name other) names) && are_different names
 
 -- each may be declared, and no two are the same
 pub record AreNames (names : List (List ℕ)) : Type 0 where

@@ -16,7 +16,9 @@ use Rattle.be_command.specs.Forms.{Form, form_of, first_word_of}
 
 -- what stands behind the first word, to the line's end, read by its form
 abbrev pub read_by : Known → Form → At → Result Command Fault
-read_by known form at = said_as (λ x. form.makes x.0) (both (said_all known form.kinds at) (ended (after_all form.kinds at)))
+read_by known form at =
+    said_as (λ x. form.makes x.0)
+    (both (said_all known form.kinds at) (ended (after_all form.kinds at)))
 
 -- the same, where the first word is that of a command
 abbrev pub read_after : Known → Option FirstWord → At → Result Command Fault
@@ -29,7 +31,8 @@ line_start line = record { text = line; place = 0 }
 -- the command that a line is
 unfoldable pub command_of : Known → List ℕ → Result Command Fault
 command_of known line =
-    read_after known (option_and_then first_word_of (word_at (line_start line))) (after_word (line_start line))
+    read_after known (option_and_then first_word_of (word_at (line_start line)))
+    (after_word (line_start line))
 
 -- the same, where the place of a fault doesn't matter
 abbrev by_reason : Result Command Fault → Result Command Reason
@@ -41,7 +44,9 @@ command_or_reason known line = by_reason (command_of known line)
 
 -- the line of a text or a clip, which alone are kept as lists
 abbrev pub IsOfList : List ℕ → Type 0
-IsOfList line = (word_at (line_start line) ≡ Some (codes "text")) ⊎ (word_at (line_start line) ≡ Some (codes "clip"))
+IsOfList line =
+    (word_at (line_start line) ≡ Some (codes "text"))
+    ⊎ (word_at (line_start line) ≡ Some (codes "clip"))
 
 -- a fault is the line's, but for memory, which only a text and a clip take
 abbrev pub IsFault : CommandFault → List ℕ → Result Command Fault → Type 0

@@ -1,5 +1,6 @@
 -- The one spelling of a command (this project's own).
-use Rattle.std.specs.Prelude.{ℕ, ℤ, pos, List, [], ◌∷◌, ◌++◌, slice_index_or, Option, Some, None, codes}
+use Rattle.std.specs.Prelude.{ℕ, ℤ, pos, List, [], ◌∷◌, ◌++◌, slice_index_or, Option, Some, None}
+use Rattle.std.specs.Prelude.{codes}
 use Rattle.std.specs.Fmt.{signed_decimal}
 use Rattle.be_geom.specs.declared.change.Change.{Change}
 use Rattle.be_geom.specs.declared.change.Change.TheVariants as change
@@ -60,22 +61,31 @@ change_line known change.Close = codes "close"
 
 -- the end of an update has no line
 unfoldable pub spelling : Known → Command → List ℕ
-spelling known (command.Fill v r p) = codes "fill" ++ name_word known.views v ++ rect_words r ++ spaced (pattern_text p)
-spelling known (command.Frame v r p) = codes "frame" ++ name_word known.views v ++ rect_words r ++ spaced (pattern_text p)
-spelling known (command.Line v from to p) = codes "line" ++ name_word known.views v ++ point_words from ++ point_words to ++ spaced (pattern_text p)
+spelling known (command.Fill v r p) =
+    codes "fill" ++ name_word known.views v ++ rect_words r ++ spaced (pattern_text p)
+spelling known (command.Frame v r p) =
+    codes "frame" ++ name_word known.views v ++ rect_words r ++ spaced (pattern_text p)
+spelling known (command.Line v from to p) =
+    codes "line" ++ name_word known.views v ++ point_words from ++ point_words to
+    ++ spaced (pattern_text p)
 spelling known (command.Text v text) = codes "text" ++ name_word known.views v ++ spaced text
-spelling known (command.Bitmap v b at) = codes "bitmap" ++ name_word known.views v ++ name_word known.bitmaps b ++ point_words at
+spelling known (command.Bitmap v b at) =
+    codes "bitmap" ++ name_word known.views v ++ name_word known.bitmaps b ++ point_words at
 spelling known (command.High v c) = codes "high" ++ name_word known.views v ++ spaced (color_text c)
 spelling known (command.Low v c) = codes "low" ++ name_word known.views v ++ spaced (color_text c)
-spelling known (command.ViewColor v c) = codes "viewcolor" ++ name_word known.views v ++ spaced (color_text c)
+spelling known (command.ViewColor v c) =
+    codes "viewcolor" ++ name_word known.views v ++ spaced (color_text c)
 spelling known (command.Mode v m) = codes "mode" ++ name_word known.views v ++ spaced (mode_text m)
-spelling known (command.PenSize v n) = codes "pensize" ++ name_word known.views v ++ number_word (pos n)
+spelling known (command.PenSize v n) =
+    codes "pensize" ++ name_word known.views v ++ number_word (pos n)
 spelling known (command.Pen v at) = codes "pen" ++ name_word known.views v ++ point_words at
 spelling known (command.Origin v at) = codes "origin" ++ name_word known.views v ++ point_words at
 spelling known (command.Clip v rects) = codes "clip" ++ name_word known.views v ++ clip_words rects
 spelling known (command.Push v) = codes "push" ++ name_word known.views v
 spelling known (command.Pop v) = codes "pop" ++ name_word known.views v
-spelling known (command.CopyBits v r at) = codes "copybits" ++ name_word known.views v ++ rect_words r ++ point_words at
-spelling known (command.Invalidate v r) = codes "invalidate" ++ name_word known.views v ++ rect_words r
+spelling known (command.CopyBits v r at) =
+    codes "copybits" ++ name_word known.views v ++ rect_words r ++ point_words at
+spelling known (command.Invalidate v r) =
+    codes "invalidate" ++ name_word known.views v ++ rect_words r
 spelling known (command.Change change) = change_line known change
 spelling known command.EndUpdate = []

@@ -1,12 +1,17 @@
 -- What the types of the code say of a command's numbers: coordinates of 16 bits, and bytes.
 use Rattle.std.specs.Prelude.{◌≡◌, true, List, Option, Some, None}
 use Rattle.be_geom.specs.declared.change.Change.{Change}
-use Rattle.be_geom.specs.declared.change.Change.TheVariants.{Show, Hide, MoveTo, MoveBy, ResizeTo, Activate, Behind, Focus, Close}
+use Rattle.be_geom.specs.declared.change.Change.TheVariants.{Show, Hide, MoveTo, MoveBy, ResizeTo}
+use Rattle.be_geom.specs.declared.change.Change.TheVariants.{Activate, Behind, Focus, Close}
 use Rattle.be_geom.specs.declared.rect.Rect.{Rect}
 use Rattle.be_lex.specs.Colors.{is_color}
 use Rattle.be_lex.specs.Patterns.{is_pattern}
 use Rattle.be_command.specs.declared.Command.{Command}
-use Rattle.be_command.specs.Effects.{Figure, filled, framed, lined, written, pictured, Setting, high_color, low_color, drawing_mode, pen_size, pen_place, origin, clipping, Deed, draws, sets, colors, saves, restores, copies, invalidates, Effect, at_view, changes, ends_update, effect_of}
+use Rattle.be_command.specs.Effects.{Figure, filled, framed, lined, written, pictured, Setting}
+use Rattle.be_command.specs.Effects.{high_color, low_color, drawing_mode, pen_size, pen_place}
+use Rattle.be_command.specs.Effects.{origin, clipping, Deed, draws, sets, colors, saves, restores}
+use Rattle.be_command.specs.Effects.{copies, invalidates, Effect, at_view, changes, ends_update}
+use Rattle.be_command.specs.Effects.{effect_of}
 use Rattle.be_command.specs.Laws.{IsPoint, IsRect, AreRects}
 
 abbrev pub IsTypedFigure : Figure → Type 0

@@ -1,10 +1,12 @@
-ghost use Rattle.std.specs.Prelude.{◌≡◌, ◌≤◌, ◌≤ℤ◌, pos, negsuc, unsigned_abs, if◌then◌else◌, Ok, Err};
+ghost use Rattle.std.specs.Prelude.{◌≡◌, ◌≤◌, ◌≤ℤ◌, pos, negsuc, unsigned_abs, if◌then◌else◌, Ok};
+ghost use Rattle.std.specs.Prelude.{Err};
 ghost use Rattle.std.specs.Option.{option_map, ok_or};
 ghost use Rattle.std.specs.Result.{result_map_both};
 ghost use Rattle.be_lex.specs.Colors.{color_of};
 ghost use Rattle.be_lex.specs.Patterns.{pattern_of};
 ghost use Rattle.be_lex.specs.Modes.{mode_of};
-ghost use Rattle.be_command.specs.Kinds.{numbered_name, named, focus_named, numbered, coordinate, formed, rest_said};
+ghost use Rattle.be_command.specs.Kinds.{numbered_name, named, focus_named, numbered, coordinate};
+ghost use Rattle.be_command.specs.Kinds.{formed, rest_said};
 ghost use Rattle.be_command.specs.Places.{judged};
 ghost use Rattle.be_command.specs.Limits.{is_written_text};
 

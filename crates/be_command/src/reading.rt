@@ -1,11 +1,14 @@
-ghost use Rattle.std.specs.Prelude.{◌≡◌, ◌+◌, ◌^◌, ◌<◌, length, unsigned_abs, [], None, Some, pos, negsuc, IfOk, OnOk};
+ghost use Rattle.std.specs.Prelude.{◌≡◌, ◌+◌, ◌^◌, ◌<◌, length, unsigned_abs, [], None, Some, pos};
+ghost use Rattle.std.specs.Prelude.{negsuc, IfOk, OnOk};
 ghost use Rattle.std.specs.Option.{option_map};
 ghost use Rattle.std.specs.Result.{result_err};
 ghost use Rattle.be_command.specs.Faults.{first_fault, said_as};
 ghost use Rattle.be_lex.specs.Colors.{color_of};
 ghost use Rattle.be_lex.specs.Patterns.{pattern_of};
 ghost use Rattle.be_lex.specs.Modes.{mode_of};
-ghost use Rattle.be_command.specs.Kinds.{named, focus_named, numbered, coordinate, formed, pair_at, after_pair, point_at, rect_at, after_rect, rest_said, is_none_word, rects_at, after_rects, clip_at, after_clip};
+ghost use Rattle.be_command.specs.Kinds.{named, focus_named, numbered, coordinate, formed, pair_at};
+ghost use Rattle.be_command.specs.Kinds.{after_pair, point_at, rect_at, after_rect, rest_said};
+ghost use Rattle.be_command.specs.Kinds.{is_none_word, rects_at, after_rects, clip_at, after_clip};
 ghost use Rattle.be_command.specs.Places.{word_at, after_word, said_at, next_said, ended};
 ghost use Rattle.be_command.specs.Progress.{Takes, TakesMore};
 

@@ -2,7 +2,8 @@ ghost use Rattle.std.specs.Prelude.{◌≡◌, ◌++◌, ◌∷◌, OnOk, IfOk};
 ghost use Rattle.be_lex.specs.Colors.{color_text};
 ghost use Rattle.be_lex.specs.Patterns.{pattern_text};
 ghost use Rattle.be_lex.specs.Modes.{mode_text};
-ghost use Rattle.be_command.specs.Spelling.{spaced, number_word, pair_words, point_words, rect_words, rects_words};
+ghost use Rattle.be_command.specs.Spelling.{spaced, number_word, pair_words, point_words};
+ghost use Rattle.be_command.specs.Spelling.{rect_words, rects_words};
 
 // The words of a line as they are written, each behind a space. Without memory some may be missing.
 

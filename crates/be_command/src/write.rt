@@ -1,7 +1,8 @@
 ghost use Rattle.std.specs.Prelude.{◌≡◌, ◌++◌, IfOk, codes};
 ghost use Rattle.be_lex.specs.Colors.{color_text};
 ghost use Rattle.be_lex.specs.Patterns.{pattern_text};
-ghost use Rattle.be_command.specs.Spelling.{spaced, pair_words, point_words, rect_words, clip_words, change_line, spelling};
+ghost use Rattle.be_command.specs.Spelling.{spaced, pair_words, point_words, rect_words};
+ghost use Rattle.be_command.specs.Spelling.{clip_words, change_line, spelling};
 
 use crate::names::Names;
 use crate::spelling::{

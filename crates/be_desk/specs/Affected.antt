@@ -8,7 +8,8 @@ use Rattle.be_stack.specs.Windows.{Windows}
 
 -- a window owns the same pixels of both screens
 abbrev pub OwnsTheSame : Windows → Windows → ℕ → Type 0
-OwnsTheSame before after u = (x y : ℤ) → is_number u (owner_at before x y) ≡ is_number u (owner_at after x y)
+OwnsTheSame before after u =
+    (x y : ℤ) → is_number u (owner_at before x y) ≡ is_number u (owner_at after x y)
 
 -- the changed window and exactly those that own other pixels than before, in ascending order
 pub record AreAffected (before after : Windows) (w : ℕ) (names : List ℕ) : Type 0 where

@@ -1,7 +1,8 @@
 -- A pane once its change is carried out, as the pane alone tells it (this project's own).
 use Rattle.std.specs.Prelude.{◌≡◌, ℕ, ◌==◌, true, false, Option, Some}
 use Rattle.be_geom.specs.declared.change.Change.{Change}
-use Rattle.be_geom.specs.declared.change.Change.TheVariants.{Show, Hide, MoveTo, MoveBy, ResizeTo, Activate, Behind, Focus, Close}
+use Rattle.be_geom.specs.declared.change.Change.TheVariants.{Show, Hide, MoveTo, MoveBy, ResizeTo}
+use Rattle.be_geom.specs.declared.change.Change.TheVariants.{Activate, Behind, Focus, Close}
 use Rattle.be_input.specs.Pointing.{corner_of}
 use Rattle.be_pane.specs.declared.pane.Pane.{Pane}
 use Rattle.be_span.specs.Spans.{Spans}
@@ -12,7 +13,8 @@ use Rattle.be_desk.specs.Plans.{then_spans}
 
 -- the views after their window's change: resized where they can be, and else as they were
 abbrev pub IsFollowed : Change → Tree → Tree → Type 0
-IsFollowed (ResizeTo width height) old new = (next : Tree) → resized old width height ≡ Some next → new ≡ next
+IsFollowed (ResizeTo width height) old new =
+    (next : Tree) → resized old width height ≡ Some next → new ≡ next
 IsFollowed Show old new = new ≡ old
 IsFollowed Hide old new = new ≡ old
 IsFollowed (MoveTo corner) old new = new ≡ old
@@ -22,8 +24,10 @@ IsFollowed (Behind front) old new = new ≡ old
 IsFollowed (Focus view) old new = new ≡ old
 IsFollowed Close old new = new ≡ old
 
--- a pane with these spans, where its window is among the windows afterwards; of window w the views follow
-pub record IsCarriedOver (these : Option Spans) (windows : Windows) (w : ℕ) (change : Change) (old new : Pane) : Type 0 where
+-- a pane with these spans, where its window is among the windows afterwards; of window w the views
+-- follow
+pub record IsCarriedOver (these : Option Spans) (windows : Windows) (w : ℕ) (change : Change)
+    (old new : Pane) : Type 0 where
   pub window : new.window ≡ old.window
   pub place : corner_of windows old.window ≡ Some new.place
   pub spans : new.spans ≡ then_spans these old

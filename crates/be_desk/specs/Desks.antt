@@ -1,7 +1,9 @@
 -- The desk as the code has it, and what its callers keep true of it (this project's own).
-use Rattle.std.specs.Prelude.{◌≡◌, ℕ, pos, ◌-ℤ◌, ◌<◌, true, List, length, Option, Some, None, Result, Ok, Err, slice_get, slice_set, option_and_then}
+use Rattle.std.specs.Prelude.{◌≡◌, ℕ, pos, ◌-ℤ◌, ◌<◌, true, List, length, Option, Some, None}
+use Rattle.std.specs.Prelude.{Result, Ok, Err, slice_get, slice_set, option_and_then}
 use Rattle.be_geom.specs.declared.change.Change.{Change}
-use Rattle.be_geom.specs.declared.change.Change.TheVariants.{Show, Hide, MoveTo, MoveBy, ResizeTo, Activate, Behind, Focus, Close}
+use Rattle.be_geom.specs.declared.change.Change.TheVariants.{Show, Hide, MoveTo, MoveBy, ResizeTo}
+use Rattle.be_geom.specs.declared.change.Change.TheVariants.{Activate, Behind, Focus, Close}
 use Rattle.be_geom.specs.declared.rect.Rect.{Rect}
 use Rattle.be_geom.specs.Rects.{moved_rect}
 use Rattle.be_input.specs.Pointing.{Pointing}
@@ -36,9 +38,12 @@ pub record IsRootIn (window : Window) (root : View) : Type 0 where
 -- there are views for each window, and their root is the window's
 pub record IsPaired (desk : Desk) : Type 0 where
   pub each : length desk.pointing.trees ≡ length desk.windows.windows
-  pub rooted : (u : ℕ) (window : Window) (root : View) → slice_get desk.windows.windows u ≡ Some window → root_of desk.pointing.trees u ≡ Some root → IsRootIn window root
+  pub rooted : (u : ℕ) (window : Window) (root : View)
+      → slice_get desk.windows.windows u ≡ Some window → root_of desk.pointing.trees u ≡ Some root
+      → IsRootIn window root
 
--- what may be asked of the desk: a change within its limits, of a window that is there and by one that is there
+-- what may be asked of the desk: a change within its limits, of a window that is there and by one
+-- that is there
 pub record IsAsked (desk : Desk) (w : ℕ) (change : Change) : Type 0 where
   pub paired : IsPaired desk
   pub there : w < length desk.windows.windows
@@ -77,8 +82,12 @@ focus_with focus w Close = focus
 
 abbrev pub pointing_with : Pointing → ℕ → Change → Option Tree → Pointing
 pointing_with pointing w change tree =
-    record pointing { trees = trees_with pointing.trees w tree; focus = focus_with pointing.focus w change }
+    record pointing {
+      trees = trees_with pointing.trees w tree;
+      focus = focus_with pointing.focus w change;
+    }
 
 -- the desk with these windows, and with these views of window w where it has others
 abbrev pub desk_with_both : Desk → ℕ → Change → Windows → Option Tree → Desk
-desk_with_both desk w change windows tree = record { windows = windows; pointing = pointing_with desk.pointing w change tree }
+desk_with_both desk w change windows tree =
+    record { windows = windows; pointing = pointing_with desk.pointing w change tree }

@@ -19,12 +19,16 @@ pub record IsStretch {A : Type 0} (answer : ℤ → A) (x end last : ℤ) : Type
 abbrev pub Rule : Type 0
 Rule = ℤ → ℤ → Cell → Cell
 
--- each pixel of row y from column x up to before column `end` has what the rule makes of its cell, and all others stay
+-- each pixel of row y from column x up to before column `end` has what the rule makes of its cell,
+-- and all others stay
 pub record IsRuledRow (rule : Rule) (old new : Spans) (x y end : ℤ) : Type 0 where
-  pub inside : (z : ℤ) → x ≤ℤ z → z <ℤ end → cell_in new z y ≡ option_map (rule z y) (cell_in old z y)
+  pub inside : (z : ℤ) → x ≤ℤ z → z <ℤ end
+      → cell_in new z y ≡ option_map (rule z y) (cell_in old z y)
   pub beside : (z w : ℤ) → (w ≡ y → ⊥) ⊎ (z <ℤ x) ⊎ (end ≤ℤ z) → cell_in new z w ≡ cell_in old z w
 
 -- the same of each pixel of the rectangle above row `end`
 pub record IsRuledAbove (rule : Rule) (old new : Spans) (r : Rect) (end : ℤ) : Type 0 where
-  pub inside : (x y : ℤ) → r.left ≤ℤ x → x ≤ℤ r.right → r.top ≤ℤ y → y <ℤ end → cell_in new x y ≡ option_map (rule x y) (cell_in old x y)
-  pub beside : (x y : ℤ) → (x <ℤ r.left) ⊎ (r.right <ℤ x) ⊎ (y <ℤ r.top) ⊎ (end ≤ℤ y) → cell_in new x y ≡ cell_in old x y
+  pub inside : (x y : ℤ) → r.left ≤ℤ x → x ≤ℤ r.right → r.top ≤ℤ y → y <ℤ end
+      → cell_in new x y ≡ option_map (rule x y) (cell_in old x y)
+  pub beside : (x y : ℤ) → (x <ℤ r.left) ⊎ (r.right <ℤ x) ⊎ (y <ℤ r.top) ⊎ (end ≤ℤ y)
+      → cell_in new x y ≡ cell_in old x y

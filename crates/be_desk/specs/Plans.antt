@@ -1,5 +1,7 @@
--- What is made ready of a change before it is carried out, and what it leaves then (this project's own).
-use Rattle.std.specs.Prelude.{◌≡◌, ◌<◌, ℕ, ℤ, true, List, length, map, Some, None, Ok, slice_get, Option}
+-- What is made ready of a change before it is carried out, and what it leaves then (this project's
+-- own).
+use Rattle.std.specs.Prelude.{◌≡◌, ◌<◌, ℕ, ℤ, true, List, length, map, Some, None, Ok, slice_get}
+use Rattle.std.specs.Prelude.{Option}
 use Rattle.std.specs.Borrow.{Bor}
 use Rattle.std.specs.List.{AllPairs}
 use Rattle.be_color.specs.declared.colors.Color.{Color}
@@ -18,8 +20,8 @@ use Rattle.be_desk.specs.Desks.{IsAsked, IsPaired, IsTaken}
 
 -- ---- panes of a desk
 
--- A pane is of its window on the desk: where the window is, with its views, each of which has a colour and drawing states,
--- and with the pixels that the window owns.
+-- A pane is of its window on the desk: where the window is, with its views, each of which has a
+-- colour and drawing states, and with the pixels that the window owns.
 pub record IsPaneOf (desk : Desk) (pane : Pane) : Type 0 where
   pub place : corner_of desk.windows pane.window ≡ Some pane.place
   pub views : slice_get desk.pointing.trees pane.window ≡ Some pane.tree
@@ -40,10 +42,11 @@ lent panes = map (λ pane. pane.now) panes
 abbrev pub AreAscending : List Pane → Type 0
 AreAscending panes = AllPairs (λ pane other. pane.window < other.window) panes
 
--- A screen of which the panes have their windows' cells, and on which the desktop shows where no window is. A cell is
--- given for each pixel.
+-- A screen of which the panes have their windows' cells, and on which the desktop shows where no
+-- window is. A cell is given for each pixel.
 pub record IsScreenOf (cells : ℤ → ℤ → Cell) (desk : Desk) (panes : List Pane) : Type 0 where
-  pub windows : (k : ℕ) (pane : Pane) → slice_get panes k ≡ Some pane → (x y : ℤ) → owns desk pane.window x y ≡ true → cell_in pane.spans x y ≡ Some (cells x y)
+  pub windows : (k : ℕ) (pane : Pane) → slice_get panes k ≡ Some pane → (x y : ℤ)
+      → owns desk pane.window x y ≡ true → cell_in pane.spans x y ≡ Some (cells x y)
   pub desktop : (x y : ℤ) → owner_at desk.windows x y ≡ None → cells x y ≡ desktop_cell
 
 -- a lookup has the screen's cells where the window owns the pixels
@@ -52,8 +55,8 @@ LooksUp old desk w cells = (x y : ℤ) → owns desk w x y ≡ true → old x y 
 
 -- ---- a plan
 
--- a change of a window, the windows after it, and for each pane the pixels that its window owns then, with their cells;
--- none where they are as before
+-- a change of a window, the windows after it, and for each pane the pixels that its window owns
+-- then, with their cells; none where they are as before
 pub record Planned : Type 0 where
   pub window : ℕ
   pub change : Change
@@ -65,11 +68,15 @@ abbrev pub then_spans : Option Spans → Pane → Spans
 then_spans (Some spans) pane = spans
 then_spans None pane = pane.spans
 
--- A pane's spans after a change of window w: the pixels that its window owns then, and on each screen of the panes the
--- cells that the change rule gives.
-pub record AreChanged (before after : Desk) (w : ℕ) (change : Change) (panes : List Pane) (pane : Pane) (spans : Spans) : Type 0 where
+-- A pane's spans after a change of window w: the pixels that its window owns then, and on each
+-- screen of the panes the cells that the change rule gives.
+pub record AreChanged (before after : Desk) (w : ℕ) (change : Change) (panes : List Pane)
+    (pane : Pane) (spans : Spans) : Type 0 where
   pub pixels : (x y : ℤ) → region_has spans.rects x y ≡ owns after pane.window x y
-  pub cells : (cells : ℤ → ℤ → Cell) (colors : List (List Color)) (old : Lookup) → IsScreenOf cells before panes → slice_get colors pane.window ≡ Some pane.colors.items → LooksUp old before w cells → (x y : ℤ) → owns after pane.window x y ≡ true → cell_in spans x y ≡ Some (changed_cell before after colors w change old x y (cells x y))
+  pub cells : (cells : ℤ → ℤ → Cell) (colors : List (List Color)) (old : Lookup)
+      → IsScreenOf cells before panes → slice_get colors pane.window ≡ Some pane.colors.items
+      → LooksUp old before w cells → (x y : ℤ) → owns after pane.window x y ≡ true
+      → cell_in spans x y ≡ Some (changed_cell before after colors w change old x y (cells x y))
 
 -- a change of window w that may be asked of the desk and isn't refused, and the windows after it
 pub record LeadsTo (desk : Desk) (w : ℕ) (change : Change) (windows : Windows) : Type 0 where
@@ -86,7 +93,10 @@ pub record IsPlanOf (plan : Planned) (desk : Desk) (panes : List Pane) : Type 0 
   pub on_desk : IsDeskPlan plan desk
   pub panes_of : ArePanesOf desk panes
   pub each : length plan.spans ≡ length panes
-  pub changed : (after : Desk) → desk_after desk plan.window plan.change ≡ Ok after → (k : ℕ) (pane : Pane) (spans : Option Spans) → slice_get panes k ≡ Some pane → slice_get plan.spans k ≡ Some spans → AreChanged desk after plan.window plan.change panes pane (then_spans spans pane)
+  pub changed : (after : Desk) → desk_after desk plan.window plan.change ≡ Ok after
+      → (k : ℕ) (pane : Pane) (spans : Option Spans) → slice_get panes k ≡ Some pane
+      → slice_get plan.spans k ≡ Some spans
+      → AreChanged desk after plan.window plan.change panes pane (then_spans spans pane)
 
 -- ---- once it is carried out
 
@@ -101,10 +111,12 @@ pub record IsCarried (after : Desk) (these : Spans) (old new : Pane) : Type 0 wh
   pub session : new.session ≡ old.session
   pub notice : new.notified ≡ old.notified
 
--- What becomes of a pane on which a plan is carried out with these spans: whatever pane of the desk it is, as long as the
--- spans are those of the pane after the change.
+-- What becomes of a pane on which a plan is carried out with these spans: whatever pane of the desk
+-- it is, as long as the spans are those of the pane after the change.
 abbrev pub CarriesOver : Planned → Option Spans → Pane → Pane → Type 0
 CarriesOver plan these old new =
-    (before after : Desk) (panes : List Pane) → IsPaired before → desk_after before plan.window plan.change ≡ Ok after → after.windows ≡ plan.windows →
-    IsPaneOf before old → AreChanged before after plan.window plan.change panes old (then_spans these old) →
+    (before after : Desk) (panes : List Pane) → IsPaired before
+    → desk_after before plan.window plan.change ≡ Ok after → after.windows ≡ plan.windows →
+    IsPaneOf before old → AreChanged before after plan.window plan.change panes old
+    (then_spans these old) →
     IsPaneOf after new × IsWhole new × IsCarried after (then_spans these old) old new

@@ -1,5 +1,7 @@
--- The new pixels of a window in a change, told by its pane and the cells of the screen (the rule is that of Changes).
-use Rattle.std.specs.Prelude.{◌≡◌, ℕ, ℤ, ◌-ℤ◌, Bool, true, false, ◌&&◌, ◌==◌, All, IsSome, List, Option, Some, None, slice_get, option_and_then, if◌then◌else◌}
+-- The new pixels of a window in a change, told by its pane and the cells of the screen (the rule is
+-- that of Changes).
+use Rattle.std.specs.Prelude.{◌≡◌, ℕ, ℤ, ◌-ℤ◌, Bool, true, false, ◌&&◌, ◌==◌, All, IsSome, List}
+use Rattle.std.specs.Prelude.{Option, Some, None, slice_get, option_and_then, if◌then◌else◌}
 use Rattle.std.specs.List.{list_any}
 use Rattle.be_geom.specs.declared.point.Point.{Point}
 use Rattle.be_geom.specs.declared.rect.Rect.{Rect}
@@ -26,14 +28,16 @@ view_from tree corner x y = view_at tree (x -ℤ corner.x) (y -ℤ corner.y)
 
 -- the same view is at the pixel, and its left top within the window is as before
 abbrev pub is_kept_view : Tree → Tree → Option ℕ → Option ℕ → Bool
-is_kept_view before after (Some v) (Some u) = v == u && is_same_place (place_of before v) (place_of after u)
+is_kept_view before after (Some v) (Some u) =
+    v == u && is_same_place (place_of before v) (place_of after u)
 is_kept_view before after (Some v) None = false
 is_kept_view before after None view = false
 
 -- the pixel shows the same spot of the same view as before
 abbrev pub shows_same_spot : Renewal → ℤ → ℤ → Bool
 shows_same_spot r x y =
-    is_kept_view r.pane.now.tree r.tree.now (view_from r.pane.now.tree r.pane.now.place x y) (view_from r.tree.now r.place x y)
+    is_kept_view r.pane.now.tree r.tree.now (view_from r.pane.now.tree r.pane.now.place x y)
+    (view_from r.tree.now r.place x y)
 
 -- ---- kept pixels
 
@@ -41,8 +45,8 @@ shows_same_spot r x y =
 abbrev pub owned : Renewal → ℤ → ℤ → Bool
 owned r x y = region_has r.pane.now.spans.rects x y
 
--- the window keeps what it shows at the pixel: it owned the pixel, or the one from which a move brings it, or it owned
--- the pixel and a resize shifted nothing there
+-- the window keeps what it shows at the pixel: it owned the pixel, or the one from which a move
+-- brings it, or it owned the pixel and a resize shifted nothing there
 abbrev pub is_kept_by : Motion → Renewal → ℤ → ℤ → Bool
 is_kept_by Still r x y = owned r x y
 is_kept_by (Moving dx dy) r x y = owned r (x -ℤ dx) (y -ℤ dy)
@@ -64,11 +68,14 @@ brought_to r x y = brought_by r.motion r.pane.now.spans x y
 
 -- the colour of the view that is at the pixel afterwards
 abbrev pub color_at : Renewal → ℤ → ℤ → Option Color
-color_at r x y = option_and_then (slice_get r.pane.now.colors.items) (view_from r.tree.now r.place x y)
+color_at r x y =
+    option_and_then (slice_get r.pane.now.colors.items) (view_from r.tree.now r.place x y)
 
--- the new cell of a pixel that had cell c: what is kept, else newly exposed in the colour of the view
+-- the new cell of a pixel that had cell c: what is kept, else newly exposed in the colour of the
+-- view
 abbrev pub renewed_cell : Renewal → ℤ → ℤ → Cell → Cell
-renewed_cell r x y c = or_exposed (if is_kept_at r x y then brought_to r x y else None) (exposed_as (color_at r x y) c)
+renewed_cell r x y c =
+    or_exposed (if is_kept_at r x y then brought_to r x y else None) (exposed_as (color_at r x y) c)
 
 -- the colour in which a pixel is newly exposed; none where it is kept
 abbrev pub exposure : Renewal → ℤ → ℤ → Option Color
@@ -95,7 +102,8 @@ abbrev pub is_clear : Color → Bool
 is_clear (Solid rgb) = false
 is_clear Clear = true
 
--- what lies under a pixel before it is exposed: some cell, and the screen's own where a colour is transparent
+-- what lies under a pixel before it is exposed: some cell, and the screen's own where a colour is
+-- transparent
 pub record IsBackground (colors : List Color) (c : Cell) (under : Option Cell) : Type 0 where
   pub some : IsSome under
   pub clear : list_any is_clear colors ≡ true → under ≡ Some c
@@ -106,14 +114,16 @@ is_in_some panes x y = list_any (λ pane. region_has pane.spans.rects x y) panes
 
 -- the pixels of a pane have these cells
 abbrev pub IsShown : (ℤ → ℤ → Cell) → Pane → Type 0
-IsShown cells pane = (x y : ℤ) → region_has pane.spans.rects x y ≡ true → cell_in pane.spans x y ≡ Some (cells x y)
+IsShown cells pane =
+    (x y : ℤ) → region_has pane.spans.rects x y ≡ true → cell_in pane.spans x y ≡ Some (cells x y)
 
 -- the same of each pane
 abbrev pub AreShown : (ℤ → ℤ → Cell) → List Pane → Type 0
 AreShown cells panes = All (IsShown cells) panes
 
--- the cells of the screen where these panes and the desktop are: each pane shows them, and in the region the desktop
--- does where no pane is
+-- the cells of the screen where these panes and the desktop are: each pane shows them, and in the
+-- region the desktop does where no pane is
 pub record AreUnder (panes : List Pane) (region : List Rect) (cells : ℤ → ℤ → Cell) : Type 0 where
   pub shown : AreShown cells panes
-  pub desktop : (x y : ℤ) → region_has region x y ≡ true → is_in_some panes x y ≡ false → cells x y ≡ desktop_cell
+  pub desktop : (x y : ℤ) → region_has region x y ≡ true → is_in_some panes x y ≡ false
+      → cells x y ≡ desktop_cell

@@ -1,4 +1,5 @@
-ghost use Rattle.std.specs.Prelude.{◌≡◌, ◌↔◌, ◌<◌, ◌⊎◌, ℤ, Ok, IfOk, IfErr, IfSome, IsTrue, true, false, length};
+ghost use Rattle.std.specs.Prelude.{◌≡◌, ◌↔◌, ◌<◌, ◌⊎◌, ℤ, Ok, IfOk, IfErr, IfSome, IsTrue, true};
+ghost use Rattle.std.specs.Prelude.{false, length};
 ghost use Rattle.be_geom.specs.Rects.{AreDisjoint};
 ghost use Rattle.be_region.specs.Regions.{SamePixels};
 ghost use Rattle.be_desk.specs.Affected.{AreAffected, OthersStay, OwnsTheSame};
@@ -59,8 +60,8 @@ fn is_altered(before: &Stack, after: &Stack, w: u16, u: u16) -> Result<bool, NoM
     Ok(!same)
 }
 
-/// Whether window `u` isn't `w`, and its frame has no pixel of `w`'s, before or after. So it keeps its
-/// pixels.
+/// Whether window `u` isn't `w`, and its frame has no pixel of `w`'s, before or after. So it keeps
+/// its pixels.
 pub(crate) fn is_apart(before: &Stack, after: &Stack, w: u16, u: u16) -> bool
     requires { OthersStay before.now after.now w }
     ensures other { result ≡ true → u ≡ w → ⊥ }

@@ -1,4 +1,5 @@
-ghost use Rattle.std.specs.Prelude.{◌≡◌, ◌<◌, IsTrue, Ok, Option, Some, length, slice_get, slice_set};
+ghost use Rattle.std.specs.Prelude.{◌≡◌, ◌<◌, IsTrue, Ok, Option, Some, length, slice_get};
+ghost use Rattle.std.specs.Prelude.{slice_set};
 ghost use Rattle.be_input.specs.Pointing.{corner_of};
 ghost use Rattle.be_span.specs.Spans.{Spans};
 ghost use Rattle.be_stack.specs.Limits.{is_within_limits};
@@ -34,8 +35,8 @@ pub fn carry_out_pane(plan: &mut Plan, number: usize, pane: &mut Pane)
     carry_over(pane, spans, &plan.stack, plan.window, plan.change);
 }
 
-/// Carries a planned change out on the desk, once it is carried out on each pane. It takes no memory
-/// either.
+/// Carries a planned change out on the desk, once it is carried out on each pane. It takes no
+/// memory either.
 pub fn carry_out_desk(desk: &mut Desk, plan: Plan)
     requires { IsDeskPlan plan (desk_of desk.old) }
     ensures desk { desk_after (desk_of desk.old) plan.window plan.change ≡ Ok (desk_of desk.new) }
@@ -57,7 +58,8 @@ fn point(pointing: &mut Pointing, w: u16, change: Change)
     requires within_limits { IsTrue (is_within_limits change) }
     requires taken { (s : windows.Windows)
         → IsTaken (desk_with record { windows = s; pointing = pointing.old } w s change) }
-    ensures { (s t : windows.Windows) → desk_with record { windows = s; pointing = pointing.old } w t change
+    ensures { (s t : windows.Windows)
+        → desk_with record { windows = s; pointing = pointing.old } w t change
         ≡ Ok record { windows = t; pointing = pointing.new } }
 {
     match change {

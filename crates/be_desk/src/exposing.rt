@@ -1,4 +1,5 @@
-ghost use Rattle.std.specs.Prelude.{◌≡◌, ℤ, negsuc, pos, ◌+ℤ◌, ◌≤ℤ◌, true, Option, slice_get, option_and_then, if◌then◌else◌};
+ghost use Rattle.std.specs.Prelude.{◌≡◌, ℤ, negsuc, pos, ◌+ℤ◌, ◌≤ℤ◌, true, Option, slice_get};
+ghost use Rattle.std.specs.Prelude.{option_and_then, if◌then◌else◌};
 ghost use Rattle.std.specs.Option.{option_map};
 ghost use Rattle.be_geom.specs.Rects.{rect_has};
 ghost use Rattle.be_region.specs.Regions.{IsNotEmpty, region_has};

@@ -1,4 +1,5 @@
-ghost use Rattle.be_desk.specs.Laws.{CarriedAsTheMachine, EachPixelOnce, OthersAsTheMachine, PanesAreWhole, PanesShowAScreen, PlannedForEach};
+ghost use Rattle.be_desk.specs.Laws.{CarriedAsTheMachine, EachPixelOnce, OthersAsTheMachine};
+ghost use Rattle.be_desk.specs.Laws.{PanesAreWhole, PanesShowAScreen, PlannedForEach};
 
 /// A pane that stands for its window stands for it once a change is carried out, where the machine
 /// has it then, with the pixels that the rule of changes gives.
@@ -11,7 +12,8 @@ pub fn a_plan_is_for_each_pane_of_its_window()
     ensures { PlannedForEach }
 {}
 
-/// The pane of a window that `affected` doesn't name stands for its window after the change as it is.
+/// The pane of a window that `affected` doesn't name stands for its window after the change as it
+/// is.
 pub fn other_windows_stay()
     ensures { OthersAsTheMachine }
 {}
@@ -27,8 +29,8 @@ pub fn panes_of_a_desk_show_a_screen()
     ensures { PanesShowAScreen }
 {}
 
-/// A pane with the pixels of its window has none outside its root's frame, so that the window can be
-/// drawn on and updated.
+/// A pane with the pixels of its window has none outside its root's frame, so that the window can
+/// be drawn on and updated.
 pub fn panes_of_a_desk_are_whole()
     ensures { PanesAreWhole }
 {}

@@ -1,4 +1,5 @@
-ghost use Rattle.std.specs.Prelude.{◌≡◌, ◌<◌, ◌≤ℤ◌, ◌⊎◌, pos, Ok, Err, None, Some, IfOk, IfErr, IsTrue, length, slice_get, option_and_then};
+ghost use Rattle.std.specs.Prelude.{◌≡◌, ◌<◌, ◌≤ℤ◌, ◌⊎◌, pos, Ok, Err, None, Some, IfOk, IfErr};
+ghost use Rattle.std.specs.Prelude.{IsTrue, length, slice_get, option_and_then};
 ghost use Rattle.be_stack.specs.Limits.{is_within_limits};
 ghost use Rattle.be_stack.specs.Windows as windows;
 ghost use Rattle.be_views.specs.Resizing.{resized};

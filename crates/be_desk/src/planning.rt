@@ -1,4 +1,5 @@
-ghost use Rattle.std.specs.Prelude.{◌≡◌, ◌<◌, ◌-ℤ◌, true, List, Contains, IfOk, IfErr, Ok, Some, length, map, slice_get};
+ghost use Rattle.std.specs.Prelude.{◌≡◌, ◌<◌, ◌-ℤ◌, true, List, Contains, IfOk, IfErr, Ok, Some};
+ghost use Rattle.std.specs.Prelude.{length, map, slice_get};
 ghost use Rattle.be_input.specs.Pointing.{corner_of};
 ghost use Rattle.be_span.specs.Laid.{IsShift};
 ghost use Rattle.be_views.specs.Trees.{Tree};
@@ -6,7 +7,8 @@ ghost use Rattle.be_desk.specs.Affected.{HasAltered};
 ghost use Rattle.be_desk.specs.Changes as machine;
 ghost use Rattle.be_desk.specs.Changes.{desk_after};
 ghost use Rattle.be_desk.specs.Desks.{desk_of, desk_with_both, trees_with, IsAsked, IsRefusedFor};
-ghost use Rattle.be_desk.specs.Plans.{AreAscending, AreChanged, ArePanesOf, IsPlanOf, lent, then_spans};
+ghost use Rattle.be_desk.specs.Plans.{AreAscending, AreChanged, ArePanesOf, IsPlanOf, lent};
+ghost use Rattle.be_desk.specs.Plans.{then_spans};
 ghost use Rattle.be_desk.specs.Renewed.{AreChangedTo, IsChange, IsRenewalIn, motion_in};
 ghost use Rattle.be_desk.specs.Renewals.{IsNearBy};
 ghost use Rattle.be_desk.specs.declared.renewal.Motion.TheVariants.{Still, Moving};
@@ -24,11 +26,11 @@ use be_stack::Stack;
 use be_views::ViewTree;
 use std::alloc::Global;
 
-/// Makes ready a change of window `w`. The panes are those of the windows that `affected` names, and
-/// more may be among them, each of another window, in order of number.
+/// Makes ready a change of window `w`. The panes are those of the windows that `affected` names,
+/// and more may be among them, each of another window, in order of number.
 ///
-/// It costs the rectangles of those whose frames meet `w`'s, and the pixels of those that win or lose
-/// some, are moved or resized.
+/// It costs the rectangles of those whose frames meet `w`'s, and the pixels of those that win or
+/// lose some, are moved or resized.
 pub fn plan(
     alloc: Global,
     desk: &Desk,

@@ -1,10 +1,12 @@
-ghost use Rattle.std.specs.Prelude.{◌≡◌, ℤ, pos, ◌-ℤ◌, true, false, Some, Contains, IfOk, IsSome, if◌then◌else◌};
+ghost use Rattle.std.specs.Prelude.{◌≡◌, ℤ, pos, ◌-ℤ◌, true, false, Some, Contains, IfOk, IsSome};
+ghost use Rattle.std.specs.Prelude.{if◌then◌else◌};
 ghost use Rattle.std.specs.List.{list_any};
 ghost use Rattle.be_region.specs.Regions.{region_has};
 ghost use Rattle.be_span.specs.declared.Cell.{Cell};
 ghost use Rattle.be_span.specs.Spans.{cell_in, laid};
 ghost use Rattle.be_desk.specs.Plans.{lent};
-ghost use Rattle.be_desk.specs.Renewals.{AreColored, AreShown, AreUnder, IsBackground, IsNearBy, brought_to, is_clear, is_in_some, renewed_cell};
+ghost use Rattle.be_desk.specs.Renewals.{AreColored, AreShown, AreUnder, IsBackground, IsNearBy};
+ghost use Rattle.be_desk.specs.Renewals.{brought_to, is_clear, is_in_some, renewed_cell};
 
 use crate::exposing::expose;
 use be_color::{Color, Rgb};

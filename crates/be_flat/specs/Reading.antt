@@ -1,5 +1,6 @@
 -- What reading bytes from the first one on comes to: a part and what is left, or the first failure.
-use Rattle.std.specs.Prelude.{◌≡◌, ℤ, ℕ, zero, suc, ◌+◌, ◌*◌, ◌-◌, ◌==◌, Bool, ◌&&◌, nat_le, nat_lt, if◌then◌else◌, List, [], ◌∷◌, ◌++◌, Result, Ok, Err}
+use Rattle.std.specs.Prelude.{◌≡◌, ℤ, ℕ, zero, suc, ◌+◌, ◌*◌, ◌-◌, ◌==◌, Bool, ◌&&◌, nat_le, nat_lt}
+use Rattle.std.specs.Prelude.{if◌then◌else◌, List, [], ◌∷◌, ◌++◌, Result, Ok, Err}
 use Rattle.std.specs.List.{list_any}
 use Rattle.std.specs.Char.{is_ascii_lowercase}
 use Rattle.std.specs.Int.{w16, w32, from_le_bytes, cast_signed}
@@ -23,7 +24,8 @@ abbrev pub Read : Type 0 → Type 0
 Read X = Result (X × Rest) FlatError
 
 infixl 10 ◌>>=◌
-abbrev pub ◌>>=◌ : {A B : Type 0} → Result A FlatError → (A → Result B FlatError) → Result B FlatError
+abbrev pub ◌>>=◌ : {A B : Type 0} → Result A FlatError → (A → Result B FlatError)
+    → Result B FlatError
 (Ok x) >>= f = f x
 (Err e) >>= f = Err e
 
@@ -44,7 +46,8 @@ byte_that passes s = byte_at s >>= λ x. if passes x.0 then Ok x else Err (BadBy
 -- so many bytes behind those that were read already, each of which passes behind those before it
 unfoldable pub bytes_that : (List ℕ → ℕ → Bool) → ℕ → List ℕ → Rest → Read (List ℕ)
 bytes_that passes zero read s = Ok (read, s)
-bytes_that passes (suc n) read s = byte_that (passes read) s >>= λ x. bytes_that passes n (read ++ x.0 ∷ []) x.1
+bytes_that passes (suc n) read s =
+    byte_that (passes read) s >>= λ x. bytes_that passes n (read ++ x.0 ∷ []) x.1
 
 -- ---- numbers
 
@@ -71,17 +74,23 @@ int_at s = u32_at s >>= λ n. Ok (int (cast_signed w32 n.0), n.1)
 -- the second byte of the length fails where the text would be too long
 unfoldable pub text_length_at : Rest → Read ℕ
 text_length_at s =
-    byte_at s >>= λ low. byte_that (λ high. nat_le (low.0 + 256 * high) most_text_bytes) low.1 >>= λ high. Ok (low.0 + 256 * high.0, high.1)
+    byte_at s >>= λ low. byte_that (λ high. nat_le (low.0 + 256 * high) most_text_bytes)
+    low.1 >>= λ high. Ok (low.0 + 256 * high.0, high.1)
 
 unfoldable pub text_at : Rest → Read Datum
-text_at s = text_length_at s >>= λ n. bytes_that (λ read b. is_text_byte b) n.0 [] n.1 >>= λ t. Ok (text t.0, t.1)
+text_at s =
+    text_length_at s >>= λ n. bytes_that (λ read b. is_text_byte b) n.0 [] n.1 >>= λ t. Ok
+    (text t.0, t.1)
 
 unfoldable pub point_at : Rest → Read Datum
-point_at s = coordinate_at s >>= λ x. coordinate_at x.1 >>= λ y. Ok (point (record { x = x.0; y = y.0 }), y.1)
+point_at s =
+    coordinate_at s >>= λ x. coordinate_at x.1 >>= λ y. Ok
+    (point (record { x = x.0; y = y.0 }), y.1)
 
 unfoldable pub rect_at : Rest → Read Datum
 rect_at s =
-    coordinate_at s >>= λ left. coordinate_at left.1 >>= λ top. coordinate_at top.1 >>= λ right. coordinate_at right.1 >>= λ bottom.
+    coordinate_at s >>= λ left. coordinate_at left.1 >>= λ top. coordinate_at top.1 >>= λ right.
+    coordinate_at right.1 >>= λ bottom.
     Ok (rect (record { left = left.0; top = top.0; right = right.0; bottom = bottom.0 }), bottom.1)
 
 -- a message within a message is read by what is given
@@ -106,7 +115,9 @@ so_many part (suc n) m s = part m s >>= λ x. so_many part n x.0 x.1
 
 -- the letters of a type's code; one after which no code is begun fails
 unfoldable pub kind_at : Bool → Rest → Read Kind
-kind_at nested s = bytes_that (λ read b. begin_code nested (read ++ b ∷ [])) 4 [] s >>= λ letters. Ok (kind_spelt letters.0, letters.1)
+kind_at nested s =
+    bytes_that (λ read b. begin_code nested (read ++ b ∷ [])) 4 [] s >>= λ letters. Ok
+    (kind_spelt letters.0, letters.1)
 
 -- a letter first, and then any byte of a name
 abbrev pub goes_on_name : List ℕ → ℕ → Bool
@@ -119,18 +130,22 @@ unless_taken m x = if list_any (has_name x.0) m.fields then Err (BadByte (x.1.at
 
 unfoldable pub name_at : Message → Rest → Read (List ℕ)
 name_at m s =
-    byte_that (λ n. nat_lt 0 n && nat_le n most_name_bytes) s >>= λ n. bytes_that goes_on_name n.0 [] n.1 >>= unless_taken m
+    byte_that (λ n. nat_lt 0 n && nat_le n most_name_bytes) s >>= λ n. bytes_that goes_on_name
+    n.0 [] n.1 >>= unless_taken m
 
 -- a field, added to the message value by value
 unfoldable pub field_into : (Rest → Read Message) → Bool → Message → Rest → Read Message
 field_into inner nested m s =
-    kind_at nested s >>= λ k. name_at m k.1 >>= λ name. byte_that (λ n. nat_lt 0 n) name.1 >>= λ n. so_many (value_into inner k.0 name.0) n.0 m n.1
+    kind_at nested s >>= λ k. name_at m k.1 >>= λ name. byte_that (λ n. nat_lt 0 n) name.1 >>= λ n.
+    so_many (value_into inner k.0 name.0) n.0 m n.1
 
 -- a message of which so many may lie within one another, itself counted
 unfoldable pub message_at : ℕ → Rest → Read Message
 message_at zero s = Err (BadByte s.at)
 message_at (suc levels) s =
-    u32_at s >>= λ what. byte_at what.1 >>= λ n. so_many (field_into (message_at levels) (nat_lt 0 levels)) n.0 (record { what = what.0; fields = [] }) n.1
+    u32_at s >>= λ what. byte_at what.1 >>= λ n. so_many
+    (field_into (message_at levels) (nat_lt 0 levels)) n.0
+    (record { what = what.0; fields = [] }) n.1
 
 -- what stands behind the message fails
 abbrev pub whole : List ℕ → ℕ → Message → Result Message FlatError
@@ -139,7 +154,8 @@ whole (b ∷ bytes) at m = Err (Extra at)
 
 -- all of the bytes
 unfoldable pub reading : List ℕ → Result Message FlatError
-reading bytes = message_at most_depth (record { bytes = bytes; at = 0 }) >>= λ x. whole x.1.bytes x.1.at x.0
+reading bytes =
+    message_at most_depth (record { bytes = bytes; at = 0 }) >>= λ x. whole x.1.bytes x.1.at x.0
 
 -- ---- what a call gives
 

@@ -1,4 +1,5 @@
--- Whether a message has room for values that are to be added under a name, so that only memory can be missing.
+-- Whether a message has room for values that are to be added under a name, so that only memory can
+-- be missing.
 use Rattle.std.specs.Prelude.{◌≡◌, ◌+◌, ◌<◌, ◌≤◌, ℕ, true, List, length, Option, Some, None}
 use Rattle.be_message.specs.declared.kind.Kind.{Kind}
 use Rattle.be_message.specs.Fields.{field_named}

@@ -4,7 +4,8 @@ ghost use Rattle.be_flat.specs.Codes.{code_of, plain_kinds, begin_code, kind_spe
 
 use be_message::Kind;
 
-/// Whether the letters are the first of a type's code, where messages may lie within the message or not.
+/// Whether the letters are the first of a type's code, where messages may lie within the message or
+/// not.
 #[tactic(auto, unfolding(crate::specs::Codes::begin_code))]
 pub(crate) fn begin_code(nested: bool, letters: &[u8]) -> bool
     ensures { result ≡ begin_code nested letters.now }

@@ -3,7 +3,9 @@ ghost use Rattle.be_message.specs.Limits.{most_name_bytes, most_values};
 ghost use Rattle.be_message.specs.Names.{is_text_byte};
 ghost use Rattle.be_message.specs.Views.{seen_value};
 ghost use Rattle.be_flat.specs.Codes.{begin_code};
-ghost use Rattle.be_flat.specs.Reading.{Gives, byte_that, bytes_that, bool_at, int_at, text_length_at, text_at, point_at, rect_at, kind_at, goes_on_name, unless_taken, name_at};
+ghost use Rattle.be_flat.specs.Reading.{Gives, byte_that, bytes_that, bool_at, int_at};
+ghost use Rattle.be_flat.specs.Reading.{text_length_at, text_at, point_at, rect_at, kind_at};
+ghost use Rattle.be_flat.specs.Reading.{goes_on_name, unless_taken, name_at};
 
 use crate::code::{begin_code, kind_spelt};
 use crate::cursor::Cursor;
@@ -81,7 +83,8 @@ fn text_length_at(cursor: &mut Cursor<'_>) -> Result<usize, FlatError>
 }
 
 fn text_bytes_at<'a>(cursor: &mut Cursor<'a>, length: usize) -> Result<&'a [u8], FlatError>
-    ensures { Gives (λ bytes. (bytes.now, cursor.new)) result (bytes_that (λ read b. is_text_byte b) length [] cursor.old) }
+    ensures { Gives (λ bytes. (bytes.now, cursor.new)) result
+        (bytes_that (λ read b. is_text_byte b) length [] cursor.old) }
 {
     let start = cursor.rest();
     for _ in 0..length {
@@ -110,7 +113,8 @@ pub(crate) fn kind_at(cursor: &mut Cursor<'_>, nested: bool) -> Result<Kind, Fla
 }
 
 fn letters_at<'a>(cursor: &mut Cursor<'a>, nested: bool) -> Result<&'a [u8], FlatError>
-    ensures { Gives (λ letters. (letters.now, cursor.new)) result (bytes_that (λ read b. begin_code nested (read ++ b ∷ [])) 4 [] cursor.old) }
+    ensures { Gives (λ letters. (letters.now, cursor.new)) result
+        (bytes_that (λ read b. begin_code nested (read ++ b ∷ [])) 4 [] cursor.old) }
 {
     let start = cursor.rest();
     for place in 0..4 {
@@ -138,7 +142,8 @@ pub(crate) fn value_count_at(cursor: &mut Cursor<'_>) -> Result<u8, FlatError>
 
 #[tactic(auto, unfolding(crate::specs::Reading::byte_that))]
 fn name_length_at(cursor: &mut Cursor<'_>) -> Result<u8, FlatError>
-    ensures { Gives (λ n. (n, cursor.new)) result (byte_that (λ n. nat_lt 0 n && nat_le n most_name_bytes) cursor.old) }
+    ensures { Gives (λ n. (n, cursor.new)) result
+        (byte_that (λ n. nat_lt 0 n && nat_le n most_name_bytes) cursor.old) }
 {
     let at = cursor.at();
     let length = cursor.byte()?;
@@ -149,7 +154,8 @@ fn name_length_at(cursor: &mut Cursor<'_>) -> Result<u8, FlatError>
 }
 
 fn name_bytes_at<'a>(cursor: &mut Cursor<'a>, length: usize) -> Result<&'a [u8], FlatError>
-    ensures { Gives (λ bytes. (bytes.now, cursor.new)) result (bytes_that goes_on_name length [] cursor.old) }
+    ensures { Gives (λ bytes. (bytes.now, cursor.new)) result
+        (bytes_that goes_on_name length [] cursor.old) }
 {
     let start = cursor.rest();
     for place in 0..length {

@@ -1,11 +1,13 @@
-ghost use Rattle.std.specs.Prelude.{◌≡◌, ◌+◌, ◌<◌, ◌≤◌, nat_lt, length, None, Ok, IfOk, IfErr, OnOk};
+ghost use Rattle.std.specs.Prelude.{◌≡◌, ◌+◌, ◌<◌, ◌≤◌, nat_lt, length, None, Ok, IfOk, IfErr};
+ghost use Rattle.std.specs.Prelude.{OnOk};
 ghost use Rattle.be_message.specs.Fields.{add_refusal, with_value};
 ghost use Rattle.be_message.specs.Limits.{most_fields, most_depth};
 ghost use Rattle.be_message.specs.Messages as messages;
 ghost use Rattle.be_message.specs.Views.{seen_value};
 ghost use Rattle.be_flat.specs.declared.fault.FlatError.TheVariants.{NoMemory};
 ghost use Rattle.be_flat.specs.Grammar.{Spells};
-ghost use Rattle.be_flat.specs.Reading.{Gives, value_at, value_into, so_many, field_into, message_at, reading};
+ghost use Rattle.be_flat.specs.Reading.{Gives, value_at, value_into, so_many, field_into};
+ghost use Rattle.be_flat.specs.Reading.{message_at, reading};
 ghost use Rattle.be_flat.specs.Room.{HasRoom};
 
 use crate::cursor::Cursor;
@@ -16,12 +18,14 @@ use std::alloc::Global;
 
 const MOST_DEPTH: u8 = 16;
 
-/// The message that the bytes spell, or the first failure, from the first byte on: `BMessage::Unflatten`.
+/// The message that the bytes spell, or the first failure, from the first byte on:
+/// `BMessage::Unflatten`.
 pub fn unflatten(alloc: Global, bytes: &[u8]) -> Result<Message, FlatError>
     // What is read is spelt so.
     ensures found { IfOk result (λ message. Spells bytes.now message) }
     // What is spelt so is read, unless memory runs out.
-    ensures only { (m : messages.Message) → Spells bytes.now m → Gives (λ message. message) result (Ok m) }
+    ensures only { (m : messages.Message) → Spells bytes.now m
+        → Gives (λ message. message) result (Ok m) }
     // Which failure it is, and where.
     ensures exact { Gives (λ message. message) result (reading bytes.now) }
 {
@@ -69,7 +73,8 @@ fn fields_into(
 ) -> Result<(), FlatError>
     requires levels { levels < most_depth }
     requires fields { length message.old.fields + count ≤ most_fields }
-    ensures { Gives (λ _. (message.new, cursor.new)) result (so_many (field_into (message_at levels) (nat_lt 0 levels)) count message.old cursor.old) }
+    ensures { Gives (λ _. (message.new, cursor.new)) result
+        (so_many (field_into (message_at levels) (nat_lt 0 levels)) count message.old cursor.old) }
 {
     for _ in 0..count {
         field_into(alloc, cursor, levels, message)?;
@@ -88,7 +93,8 @@ fn field_into(
 ) -> Result<(), FlatError>
     requires levels { levels < most_depth }
     requires fields { length message.old.fields < most_fields }
-    ensures { Gives (λ _. (message.new, cursor.new)) result (field_into (message_at levels) (nat_lt 0 levels) message.old cursor.old) }
+    ensures { Gives (λ _. (message.new, cursor.new)) result
+        (field_into (message_at levels) (nat_lt 0 levels) message.old cursor.old) }
 {
     let kind = kind_at(cursor, levels > 0)?;
     let name = name_at(cursor, message)?;
@@ -109,7 +115,8 @@ fn values_into(
 ) -> Result<(), FlatError>
     requires levels { levels < most_depth }
     requires room { HasRoom message.old name.now kind count }
-    ensures { Gives (λ _. (message.new, cursor.new)) result (so_many (value_into (message_at levels) kind name.now) count message.old cursor.old) }
+    ensures { Gives (λ _. (message.new, cursor.new)) result
+        (so_many (value_into (message_at levels) kind name.now) count message.old cursor.old) }
 {
     for _ in 0..count {
         value_into(alloc, cursor, levels, kind, name, message)?;
@@ -130,7 +137,8 @@ fn value_into(
 ) -> Result<(), FlatError>
     requires levels { levels < most_depth }
     requires room { HasRoom message.old name.now kind 1 }
-    ensures { Gives (λ _. (message.new, cursor.new)) result (value_into (message_at levels) kind name.now message.old cursor.old) }
+    ensures { Gives (λ _. (message.new, cursor.new)) result
+        (value_into (message_at levels) kind name.now message.old cursor.old) }
 {
     let value = value_at(alloc, cursor, levels, kind)?;
     add(message, name, value)
@@ -158,7 +166,8 @@ fn value_at(
     kind: Kind,
 ) -> Result<Value, FlatError>
     requires { levels < most_depth }
-    ensures { Gives (λ value. (seen_value value, cursor.new)) result (value_at (message_at levels) kind cursor.old) }
+    ensures { Gives (λ value. (seen_value value, cursor.new)) result
+        (value_at (message_at levels) kind cursor.old) }
 {
     match kind {
         Kind::Bool => bool_at(cursor),

@@ -5,7 +5,8 @@ ghost use Rattle.be_message.specs.Messages.{all_values, all_fields};
 ghost use Rattle.be_message.specs.Names.{is_name, is_text};
 ghost use Rattle.be_message.specs.Sound.{IsSound, AreSoundFields, AreSoundValues};
 ghost use Rattle.be_message.specs.Views.{seen_value, seen_field, seen_fields};
-ghost use Rattle.be_flat.specs.Grammar.{Spells, SpellsDatum, SpellsFields, SpellsValues, SpellsText, SpellsInt, SpellsCoordinate, SpellsPoint};
+ghost use Rattle.be_flat.specs.Grammar.{Spells, SpellsDatum, SpellsFields, SpellsValues};
+ghost use Rattle.be_flat.specs.Grammar.{SpellsText, SpellsInt, SpellsCoordinate, SpellsPoint};
 ghost use Rattle.be_flat.specs.Writing.{Appends};
 
 use crate::code::code_of;
@@ -26,7 +27,8 @@ pub fn flatten(alloc: Global, message: &Message) -> Result<Vec<u8>, NoMemory>
 /// The what, the number of fields, and the fields.
 #[cycle(writing)]
 fn append_message(out: &mut Vec<u8>, message: &Message) -> Result<(), NoMemory>
-    ensures { OnOk result (Appends (λ bytes. Spells bytes message.now) out.old.items out.new.items) }
+    ensures { OnOk result
+        (Appends (λ bytes. Spells bytes message.now) out.old.items out.new.items) }
 {
     append_what(out, message.what())?;
     out.push(message.field_count() as u8)?;
@@ -36,7 +38,9 @@ fn append_message(out: &mut Vec<u8>, message: &Message) -> Result<(), NoMemory>
 #[cycle(writing)]
 fn append_fields(out: &mut Vec<u8>, fields: &[Field]) -> Result<(), NoMemory>
     requires { AreSoundFields (all_fields (seen_fields fields.now)) }
-    ensures { OnOk result (Appends (λ bytes. SpellsFields bytes (all_fields (seen_fields fields.now))) out.old.items out.new.items) }
+    ensures { OnOk result
+        (Appends (λ bytes. SpellsFields bytes (all_fields (seen_fields fields.now))) out.old.items
+        out.new.items) }
 {
     for field in fields {
         append_field(out, field)?;
@@ -48,7 +52,9 @@ fn append_fields(out: &mut Vec<u8>, fields: &[Field]) -> Result<(), NoMemory>
 #[cycle(writing)]
 fn append_field(out: &mut Vec<u8>, field: &Field) -> Result<(), NoMemory>
     requires { AreSoundFields (all_fields (seen_field field.now ∷ [])) }
-    ensures { OnOk result (Appends (λ bytes. SpellsFields bytes (all_fields (seen_field field.now ∷ []))) out.old.items out.new.items) }
+    ensures { OnOk result
+        (Appends (λ bytes. SpellsFields bytes (all_fields (seen_field field.now ∷ [])))
+        out.old.items out.new.items) }
 {
     out.extend_from_slice(code_of(field.kind()))?;
     append_name(out, field.name())?;
@@ -58,8 +64,11 @@ fn append_field(out: &mut Vec<u8>, field: &Field) -> Result<(), NoMemory>
 
 #[cycle(writing)]
 fn append_values(out: &mut Vec<u8>, field: &Field) -> Result<(), NoMemory>
-    requires { AreSoundValues (seen_field field.now).kind (all_values (seen_field field.now).values) }
-    ensures { OnOk result (Appends (λ bytes. SpellsValues (seen_field field.now).kind bytes (all_values (seen_field field.now).values)) out.old.items out.new.items) }
+    requires { AreSoundValues (seen_field field.now).kind
+        (all_values (seen_field field.now).values) }
+    ensures { OnOk result
+        (Appends (λ bytes. SpellsValues (seen_field field.now).kind bytes
+        (all_values (seen_field field.now).values)) out.old.items out.new.items) }
 {
     for value in field.values() {
         append_value(out, value)?;
@@ -70,7 +79,8 @@ fn append_values(out: &mut Vec<u8>, field: &Field) -> Result<(), NoMemory>
 #[cycle(writing)]
 fn append_value(out: &mut Vec<u8>, value: &Value) -> Result<(), NoMemory>
     requires { IsSound (seen_value value.now) }
-    ensures { OnOk result (Appends (λ bytes. SpellsDatum bytes (seen_value value.now)) out.old.items out.new.items) }
+    ensures { OnOk result
+        (Appends (λ bytes. SpellsDatum bytes (seen_value value.now)) out.old.items out.new.items) }
 {
     match value {
         Value::Bool(is_set) => append_bool(out, *is_set),
@@ -95,7 +105,8 @@ fn append_name(out: &mut Vec<u8>, name: &str) -> Result<(), NoMemory>
 /// The length, and then the text.
 fn append_text(out: &mut Vec<u8>, text: &[u8]) -> Result<(), NoMemory>
     requires { is_text text.now ≡ true }
-    ensures { OnOk result (Appends (λ bytes. SpellsText bytes text.now) out.old.items out.new.items) }
+    ensures { OnOk result
+        (Appends (λ bytes. SpellsText bytes text.now) out.old.items out.new.items) }
 {
     let mut length = [0; 2];
     LittleEndian::write_u16(&mut length, text.len() as u16);
@@ -114,7 +125,8 @@ fn append_what(out: &mut Vec<u8>, what: u32) -> Result<(), NoMemory>
 }
 
 fn append_bool(out: &mut Vec<u8>, is_set: bool) -> Result<(), NoMemory>
-    ensures { OnOk result (Appends (λ bytes. SpellsDatum bytes (messages.bool is_set)) out.old.items out.new.items) }
+    ensures { OnOk result
+        (Appends (λ bytes. SpellsDatum bytes (messages.bool is_set)) out.old.items out.new.items) }
 {
     out.push(u8::from(is_set))?;
     Ok(())
@@ -130,7 +142,8 @@ fn append_int(out: &mut Vec<u8>, number: i32) -> Result<(), NoMemory>
 }
 
 fn append_coordinate(out: &mut Vec<u8>, coordinate: i16) -> Result<(), NoMemory>
-    ensures { OnOk result (Appends (λ bytes. SpellsCoordinate bytes coordinate) out.old.items out.new.items) }
+    ensures { OnOk result
+        (Appends (λ bytes. SpellsCoordinate bytes coordinate) out.old.items out.new.items) }
 {
     let mut bytes = [0; 2];
     LittleEndian::write_i16(&mut bytes, coordinate);
@@ -147,7 +160,8 @@ fn append_point(out: &mut Vec<u8>, x: i16, y: i16) -> Result<(), NoMemory>
 
 /// The corner at the left and the top, and the one at the right and the bottom.
 fn append_rect(out: &mut Vec<u8>, rect: Rect) -> Result<(), NoMemory>
-    ensures { OnOk result (Appends (λ bytes. SpellsDatum bytes (messages.rect rect)) out.old.items out.new.items) }
+    ensures { OnOk result
+        (Appends (λ bytes. SpellsDatum bytes (messages.rect rect)) out.old.items out.new.items) }
 {
     append_point(out, rect.left, rect.top)?;
     append_point(out, rect.right, rect.bottom)

@@ -1,12 +1,13 @@
--- How far each edge of a view goes with its parent's size (The Be Book: the following modes of BView).
+-- How far each edge of a view goes with its parent's size (The Be Book: the following modes of
+-- BView).
 use Rattle.std.specs.Prelude.{ℤ, pos, negsuc, ◌-ℤ◌, ◌/◌}
 use Rattle.be_follow.specs.declared.mode.Across.{Across}
 use Rattle.be_follow.specs.declared.mode.Across.TheVariants as across
 use Rattle.be_follow.specs.declared.mode.Down.{Down}
 use Rattle.be_follow.specs.declared.mode.Down.TheVariants as down
 
--- half of a number, rounded down also where it is negative (this project's own rounding): half of -1, -2 and -3 is -1,
--- -1 and -2
+-- half of a number, rounded down also where it is negative (this project's own rounding): half of
+-- -1, -2 and -3 is -1, -1 and -2
 abbrev pub half : ℤ → ℤ
 half (pos n) = pos (n / 2)
 half (negsuc n) = negsuc (n / 2)

@@ -10,8 +10,8 @@ pub enum Across {
     Right,
     /// `B_FOLLOW_LEFT_RIGHT`: the left edge stays, the right one goes with the parent's.
     LeftRight,
-    /// `B_FOLLOW_H_CENTER`: both edges go with the parent's middle, half its width. Half a column is
-    /// rounded down, also below 0: half of 5 is 2, half of -5 is -3.
+    /// `B_FOLLOW_H_CENTER`: both edges go with the parent's middle, half its width. Half a column
+    /// is rounded down, also below 0: half of 5 is 2, half of -5 is -3.
     Center,
 }
 

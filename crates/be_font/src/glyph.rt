@@ -12,7 +12,8 @@ const LAST_CODE: u8 = 126;
 /// The lowest row.
 const LAST_ROW: u8 = 6;
 
-/// Whether a glyph has a bit at a column from the left and a row from the top. False outside the table.
+/// Whether a glyph has a bit at a column from the left and a row from the top. False outside the
+/// table.
 #[tactic(auto, unfolding(crate::specs::Runs::row_bit))]
 pub fn bit(code: u8, column: u8, row: u8) -> bool
     ensures { result ≡ glyph_bit code column row }
@@ -20,8 +21,9 @@ pub fn bit(code: u8, column: u8, row: u8) -> bool
     column < 8 && self::row(code, row) >> (7 - column) & 1 == 1
 }
 
-/// The first run of a glyph's bits in a row, from a column on: its first and its last column. What lies left
-/// of that column doesn't count, so the run may begin in the middle of a longer one. None where no bit is left.
+/// The first run of a glyph's bits in a row, from a column on: its first and its last column. What
+/// lies left of that column doesn't count, so the run may begin in the middle of a longer one. None
+/// where no bit is left.
 pub fn next_run(code: u8, row: u8, from: u8) -> Option<(u8, u8)>
     ensures run { MatchOption result (HasNoBit (λ column. glyph_bit code column row) from)
         (λ run. IsFirstRun (λ column. glyph_bit code column row) from run.0 run.1) }

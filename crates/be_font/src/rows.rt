@@ -1,4 +1,5 @@
-/// The glyphs from code 32 on, by their rows from the top. A row's leftmost column is its highest bit.
+/// The glyphs from code 32 on, by their rows from the top. A row's leftmost column is its highest
+/// bit.
 pub(crate) const ROWS: [[u8; 7]; 95] = [
     // space
     [

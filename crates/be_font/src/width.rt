@@ -6,15 +6,16 @@ use thiserror::Error;
 /// The columns from one glyph's first to that of the next.
 const ADVANCE: u64 = 6;
 
-/// A text has a byte that the font has no glyph for: the first one is at this place, counted from 0.
+/// A text has a byte that the font has no glyph for: the first one is at this place, counted from
+/// 0.
 #[derive(Clone, Copy, Debug, PartialEq, Eq, Error)]
 #[error("byte {at} isn't in the font")]
 pub struct NotInFont {
     pub at: usize,
 }
 
-/// How many columns a text moves the pen by: `BFont::StringWidth`. Linear in the text. Texts that are so long
-/// that the width has no u64 don't fit into memory; for them it would be the last u64.
+/// How many columns a text moves the pen by: `BFont::StringWidth`. Linear in the text. Texts that
+/// are so long that the width has no u64 don't fit into memory; for them it would be the last u64.
 pub fn width_of(text: &[u8]) -> Result<u64, NotInFont>
     ensures first { MatchResult result (λ _. position is_outside_font text.now ≡ None)
         (λ fault. position is_outside_font text.now ≡ Some fault.at) }

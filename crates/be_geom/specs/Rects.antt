@@ -1,5 +1,5 @@
--- Rectangles as sets of pixels (The Be Book: BRect, whose right and bottom edges belong to it; whole numbers and their
--- range are this project's own).
+-- Rectangles as sets of pixels (The Be Book: BRect, whose right and bottom edges belong to it;
+-- whole numbers and their range are this project's own).
 use Rattle.std.specs.Prelude.{◌≡◌, ℤ, Bool, false, ◌+ℤ◌, ◌&&◌}
 use Rattle.be_geom.specs.declared.rect.Rect.{Rect}
 use Rattle.be_geom.specs.Points.{in_range, between}
@@ -22,7 +22,13 @@ AreDisjoint a b = (x y : ℤ) → (rect_has a x y && rect_has b x y) ≡ false
 
 -- the same pixels, each dx further right and dy further down
 abbrev pub moved_rect : Rect → ℤ → ℤ → Rect
-moved_rect r dx dy = record { left = r.left +ℤ dx; top = r.top +ℤ dy; right = r.right +ℤ dx; bottom = r.bottom +ℤ dy }
+moved_rect r dx dy =
+    record {
+      left = r.left +ℤ dx;
+      top = r.top +ℤ dy;
+      right = r.right +ℤ dx;
+      bottom = r.bottom +ℤ dy;
+    }
 
 -- each coordinate of the rectangle lies in its range
 abbrev pub rect_fits : Rect → Bool

@@ -1,6 +1,7 @@
 ghost use Rattle.std.specs.Prelude.{◌≡◌, ◌+ℤ◌, ◌↔◌, false, IsTrue, IsNone, IfSome, IsErr, IfOk};
 ghost use Rattle.be_geom.specs.Points.{in_range, between};
-ghost use Rattle.be_geom.specs.Rects.{rect_has, rect_fits, moved_rect, HasNoPixel, HasPixelsOfBoth, AreDisjoint};
+ghost use Rattle.be_geom.specs.Rects.{rect_has, rect_fits, moved_rect, HasNoPixel, HasPixelsOfBoth};
+ghost use Rattle.be_geom.specs.Rects.{AreDisjoint};
 
 use crate::point::{OutOfRange, Point};
 

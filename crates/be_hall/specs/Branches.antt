@@ -1,5 +1,5 @@
--- How passes come of one another. Each but the first is split off one that lies a split less deep, and a pass stands for
--- itself and for those that were joined into it.
+-- How passes come of one another. Each but the first is split off one that lies a split less deep,
+-- and a pass stands for itself and for those that were joined into it.
 use Rattle.std.specs.Prelude.{ℕ, ◌+◌, ◌==◌, if◌then◌else◌, List, [], ◌∷◌}
 use Rattle.be_hall.specs.declared.view.Branch.{Branch}
 use Rattle.be_hall.specs.Numbers.{one_if, total}

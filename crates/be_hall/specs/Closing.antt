@@ -8,9 +8,12 @@ use Rattle.be_hall.specs.Views.{counted}
 use Rattle.be_hall.specs.Logs.{logged, AllInHistory}
 use Rattle.be_hall.specs.History.{RisesOver, EachRises, Suits}
 
-module _ {P T M E : Type 0} (machine : P → Machine M E) (meaning : T → M) (log : T → List (ℕ × E)) (a : About P M) where
-  -- One history has each commit of the pass and of those joined into it, and no other entry, and leads to the parts. It is what the logs of the parts that were in hand spell by number.
-  pub record Closes (v : View P M E) (held : List (ℕ × T)) (parts : List T) (history : List E) : Type 0 where
+module _ {P T M E : Type 0} (machine : P → Machine M E) (meaning : T → M) (log : T → List (ℕ × E))
+    (a : About P M) where
+  -- One history has each commit of the pass and of those joined into it, and no other entry, and
+  -- leads to the parts. It is what the logs of the parts that were in hand spell by number.
+  pub record Closes (v : View P M E) (held : List (ℕ × T)) (parts : List T)
+      (history : List E) : Type 0 where
     pub suits : Suits machine history v a
     pub each_once : (n : ℕ) → counted n v ≡ once (length history) n
     pub rises : RisesOver 0 v.own × EachRises v.ended

@@ -6,9 +6,12 @@ use Rattle.be_hall.specs.declared.view.About.{About}
 use Rattle.be_hall.specs.Machine.{Machine, Fits, leads, Legal}
 
 module _ {M E : Type 0} where
-  -- the commit is the entry of its number, and what it was made from is what the entries before it give
+  -- the commit is the entry of its number, and what it was made from is what the entries before it
+  -- give
   abbrev pub Stands : Machine M E → List M → List E → Commit M E → Type 0
-  Stands x o h c = (front : List E) × (back : List E) × (h ≡ front ++ c.entry ∷ back) × (c.number ≡ length front + 1) × Fits (leads x o front) c.before
+  Stands x o h c =
+      (front : List E) × (back : List E) × (h ≡ front ++ c.entry ∷ back)
+      × (c.number ≡ length front + 1) × Fits (leads x o front) c.before
 
   abbrev pub AllStand : Machine M E → List M → List E → List (Commit M E) → Type 0
   AllStand x o h [] = Unit {0}
@@ -30,9 +33,14 @@ module _ {M E : Type 0} where
 module _ {P M E : Type 0} where
   -- what the rule says of a view, beside the marks
   abbrev pub Knows : Machine M E → List M → List E → View P M E → Type 0
-  Knows x o h v = (v.seen ≤ length h) × AllStand x o h v.own × EachStand x o h v.ended × RisesOver 0 v.own × EachRises v.ended
+  Knows x o h v =
+      (v.seen ≤ length h) × AllStand x o h v.own × EachStand x o h v.ended × RisesOver 0 v.own
+      × EachRises v.ended
 
   module _ (machine : P → Machine M E) where
     -- the list suits the pass
     abbrev pub Suits : List E → View P M E → About P M → Type 0
-    Suits h v a = Legal (machine a.rules) a.opening h × (v.seen ≤ length h) × AllStand (machine a.rules) a.opening h v.own × EachStand (machine a.rules) a.opening h v.ended
+    Suits h v a =
+        Legal (machine a.rules) a.opening h × (v.seen ≤ length h)
+        × AllStand (machine a.rules) a.opening h v.own
+        × EachStand (machine a.rules) a.opening h v.ended

@@ -14,20 +14,26 @@ IsNamed (q ∷ qs) p = (q ≡ p) ⊎ IsNamed qs p
 module _ {P M E : Type 0} where
   -- another view than this one ever marked the place, or met it
   abbrev pub IsHadElsewhere : List (View P M E) → ℕ → ℕ → Type 0
-  IsHadElsewhere views id p = (j : ℕ) × (w : View P M E) × (j ≢ id) × (get_elem? views j ≡ some w) × (IsNamed w.had p ⊎ IsNamed w.met p)
+  IsHadElsewhere views id p =
+      (j : ℕ) × (w : View P M E) × (j ≢ id) × (get_elem? views j ≡ some w)
+      × (IsNamed w.had p ⊎ IsNamed w.met p)
 
-  -- A view names each place that it has marked among those that it ever had. One that it missed another pass had, which
-  -- is there or was joined into it.
+  -- A view names each place that it has marked among those that it ever had. One that it missed
+  -- another pass had, which is there or was joined into it.
   pub record Misses (views : List (View P M E)) : Type 0 where
-    pub had : (id : ℕ) (v : View P M E) → get_elem? views id ≡ some v → (p : ℕ) → HasPlace v.marks p → IsNamed v.had p
-    pub missed : (id : ℕ) (v : View P M E) → get_elem? views id ≡ some v → (p : ℕ) → IsNamed v.missed p → IsNamed v.met p ⊎ IsHadElsewhere views id p
+    pub had : (id : ℕ) (v : View P M E) → get_elem? views id ≡ some v → (p : ℕ) → HasPlace v.marks p
+        → IsNamed v.had p
+    pub missed : (id : ℕ) (v : View P M E) → get_elem? views id ≡ some v → (p : ℕ)
+        → IsNamed v.missed p → IsNamed v.met p ⊎ IsHadElsewhere views id p
 
-  -- One first pass, and as many of each depth as were split off those that lie a split less deep. A view that has marked a
-  -- place stands for a pass.
+  -- One first pass, and as many of each depth as were split off those that lie a split less deep. A
+  -- view that has marked a place stands for a pass.
   pub record Family (views : List (View P M E)) : Type 0 where
     pub first : total (λ v. deep 0 v.branches) views ≡ 1
-    pub each : (d : ℕ) → total (λ v. deep (d + 1) v.branches) views ≡ total (λ v. split_off d v.branches) views
-    pub real : (id : ℕ) (v : View P M E) → get_elem? views id ≡ some v → (p : ℕ) → HasPlace v.marks p → 0 < length v.branches
+    pub each : (d : ℕ) → total (λ v. deep (d + 1) v.branches) views
+        ≡ total (λ v. split_off d v.branches) views
+    pub real : (id : ℕ) (v : View P M E) → get_elem? views id ≡ some v → (p : ℕ)
+        → HasPlace v.marks p → 0 < length v.branches
 
 -- A view stands for all passes of its hall: all that were ever split off were joined into it.
 abbrev pub IsAlone : {P M E : Type 0} → View P M E → Type 0

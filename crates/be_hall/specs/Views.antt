@@ -1,5 +1,6 @@
 -- What a pass knows, and how each step changes it.
-use Rattle.std.specs.Prelude.{◌≡◌, ℕ, ◌+◌, ◌⊎◌, List, [], ◌∷◌, ◌++◌, map, length, max, true, false, ◌||◌}
+use Rattle.std.specs.Prelude.{◌≡◌, ℕ, ◌+◌, ◌⊎◌, List, [], ◌∷◌, ◌++◌, map, length, max, true, false}
+use Rattle.std.specs.Prelude.{◌||◌}
 use Rattle.be_hall.specs.declared.view.View.{View}
 use Rattle.be_hall.specs.declared.view.Mark.{Mark}
 use Rattle.be_hall.specs.declared.view.Commit.{Commit}
@@ -41,43 +42,211 @@ module _ {M E : Type 0} where
 
 module _ {P M E : Type 0} where
   abbrev pub blank : About P M → View P M E
-  blank a = record { about = a ∷ []; seen = 0; own = []; ended = []; marks = []; missed = []; had = []; met = []; branches = branch 0 0 ∷ []; raised = false; knows = false; quiet = 0 }
+  blank a =
+      record {
+        about = a ∷ [];
+        seen = 0;
+        own = [];
+        ended = [];
+        marks = [];
+        missed = [];
+        had = [];
+        met = [];
+        branches = branch 0 0 ∷ [];
+        raised = false;
+        knows = false;
+        quiet = 0;
+      }
 
   abbrev pub marking : View P M E → Mark M E → View P M E
-  marking v y = record { about = v.about; seen = v.seen; own = v.own; ended = v.ended; marks = v.marks ++ y ∷ []; missed = v.missed; had = v.had ++ y.place ∷ []; met = v.met; branches = v.branches; raised = v.raised; knows = v.knows; quiet = v.quiet }
+  marking v y =
+      record {
+        about = v.about;
+        seen = v.seen;
+        own = v.own;
+        ended = v.ended;
+        marks = v.marks ++ y ∷ [];
+        missed = v.missed;
+        had = v.had ++ y.place ∷ [];
+        met = v.met;
+        branches = v.branches;
+        raised = v.raised;
+        knows = v.knows;
+        quiet = v.quiet;
+      }
 
   abbrev pub missing : View P M E → ℕ → View P M E
-  missing v p = record { about = v.about; seen = v.seen; own = v.own; ended = v.ended; marks = v.marks; missed = v.missed ++ p ∷ []; had = v.had; met = v.met; branches = v.branches; raised = v.raised; knows = v.knows; quiet = v.quiet }
+  missing v p =
+      record {
+        about = v.about;
+        seen = v.seen;
+        own = v.own;
+        ended = v.ended;
+        marks = v.marks;
+        missed = v.missed ++ p ∷ [];
+        had = v.had;
+        met = v.met;
+        branches = v.branches;
+        raised = v.raised;
+        knows = v.knows;
+        quiet = v.quiet;
+      }
 
   abbrev pub letting_go : View P M E → View P M E
-  letting_go v = record { about = v.about; seen = v.seen; own = v.own; ended = v.ended; marks = but_last v.marks; missed = v.missed; had = v.had; met = v.met; branches = v.branches; raised = v.raised; knows = v.knows; quiet = v.quiet }
+  letting_go v =
+      record {
+        about = v.about;
+        seen = v.seen;
+        own = v.own;
+        ended = v.ended;
+        marks = but_last v.marks;
+        missed = v.missed;
+        had = v.had;
+        met = v.met;
+        branches = v.branches;
+        raised = v.raised;
+        knows = v.knows;
+        quiet = v.quiet;
+      }
 
   abbrev pub committing : View P M E → ℕ → E → List (Mark M E) → View P M E
-  committing v n e ys = record { about = v.about; seen = n; own = v.own ++ commit n e (known v.marks) ∷ []; ended = v.ended; marks = ys; missed = v.missed; had = v.had; met = v.met; branches = v.branches; raised = v.raised; knows = v.knows; quiet = v.quiet }
+  committing v n e ys =
+      record {
+        about = v.about;
+        seen = n;
+        own = v.own ++ commit n e (known v.marks) ∷ [];
+        ended = v.ended;
+        marks = ys;
+        missed = v.missed;
+        had = v.had;
+        met = v.met;
+        branches = v.branches;
+        raised = v.raised;
+        knows = v.knows;
+        quiet = v.quiet;
+      }
 
   -- a pass from which another is split off
   abbrev pub parting : View P M E → View P M E
-  parting v = record { about = v.about; seen = v.seen; own = v.own; ended = v.ended; marks = v.marks; missed = v.missed; had = v.had; met = v.met; branches = parting_branches v.branches; raised = v.raised; knows = v.knows; quiet = v.quiet }
+  parting v =
+      record {
+        about = v.about;
+        seen = v.seen;
+        own = v.own;
+        ended = v.ended;
+        marks = v.marks;
+        missed = v.missed;
+        had = v.had;
+        met = v.met;
+        branches = parting_branches v.branches;
+        raised = v.raised;
+        knows = v.knows;
+        quiet = v.quiet;
+      }
 
   -- the new pass has seen as much, and nothing else
   abbrev pub parted : View P M E → View P M E
-  parted v = record { about = v.about; seen = v.seen; own = []; ended = []; marks = []; missed = []; had = []; met = []; branches = parted_branches v.branches; raised = false; knows = false; quiet = 0 }
+  parted v =
+      record {
+        about = v.about;
+        seen = v.seen;
+        own = [];
+        ended = [];
+        marks = [];
+        missed = [];
+        had = [];
+        met = [];
+        branches = parted_branches v.branches;
+        raised = false;
+        knows = false;
+        quiet = 0;
+      }
 
   abbrev pub joined : View P M E → View P M E → View P M E
-  joined v w = record { about = v.about; seen = max v.seen w.seen; own = v.own; ended = v.ended ++ w.own ∷ w.ended; marks = v.marks; missed = v.missed; had = v.had; met = v.met ++ (w.had ++ w.met); branches = v.branches ++ w.branches; raised = v.raised || w.raised; knows = v.knows || w.knows; quiet = v.quiet }
+  joined v w =
+      record {
+        about = v.about;
+        seen = max v.seen w.seen;
+        own = v.own;
+        ended = v.ended ++ w.own ∷ w.ended;
+        marks = v.marks;
+        missed = v.missed;
+        had = v.had;
+        met = v.met ++ (w.had ++ w.met);
+        branches = v.branches ++ w.branches;
+        raised = v.raised || w.raised;
+        knows = v.knows || w.knows;
+        quiet = v.quiet;
+      }
 
   -- what is left of a pass that was joined into another
   abbrev pub spent : View P M E
-  spent = record { about = []; seen = 0; own = []; ended = []; marks = []; missed = []; had = []; met = []; branches = []; raised = false; knows = false; quiet = 0 }
+  spent =
+      record {
+        about = [];
+        seen = 0;
+        own = [];
+        ended = [];
+        marks = [];
+        missed = [];
+        had = [];
+        met = [];
+        branches = [];
+        raised = false;
+        knows = false;
+        quiet = 0;
+      }
 
   abbrev pub raising : View P M E → View P M E
-  raising v = record { about = v.about; seen = v.seen; own = v.own; ended = v.ended; marks = v.marks; missed = v.missed; had = v.had; met = v.met; branches = v.branches; raised = true; knows = true; quiet = v.quiet }
+  raising v =
+      record {
+        about = v.about;
+        seen = v.seen;
+        own = v.own;
+        ended = v.ended;
+        marks = v.marks;
+        missed = v.missed;
+        had = v.had;
+        met = v.met;
+        branches = v.branches;
+        raised = true;
+        knows = true;
+        quiet = v.quiet;
+      }
 
   abbrev pub hearing : View P M E → View P M E
-  hearing v = record { about = v.about; seen = v.seen; own = v.own; ended = v.ended; marks = v.marks; missed = v.missed; had = v.had; met = v.met; branches = v.branches; raised = v.raised; knows = true; quiet = v.quiet }
+  hearing v =
+      record {
+        about = v.about;
+        seen = v.seen;
+        own = v.own;
+        ended = v.ended;
+        marks = v.marks;
+        missed = v.missed;
+        had = v.had;
+        met = v.met;
+        branches = v.branches;
+        raised = v.raised;
+        knows = true;
+        quiet = v.quiet;
+      }
 
   abbrev pub unheard : View P M E → View P M E
-  unheard v = record { about = v.about; seen = v.seen; own = v.own; ended = v.ended; marks = v.marks; missed = v.missed; had = v.had; met = v.met; branches = v.branches; raised = v.raised; knows = v.knows; quiet = v.quiet + 1 }
+  unheard v =
+      record {
+        about = v.about;
+        seen = v.seen;
+        own = v.own;
+        ended = v.ended;
+        marks = v.marks;
+        missed = v.missed;
+        had = v.had;
+        met = v.met;
+        branches = v.branches;
+        raised = v.raised;
+        knows = v.knows;
+        quiet = v.quiet + 1;
+      }
 
   -- how many commits a pass has, and those that were joined into it
   abbrev pub gathered : View P M E → ℕ

@@ -30,7 +30,8 @@ module _ {P T E R M : Type 0} {g : _} where
 
   -- the pass is one of the hall
   abbrev pub IsPassOf : (T → M) → Hall P T E R M g → Pass P T E R M g → Type 0
-  IsPassOf meaning hall pass = IsOf meaning hall.table.shared.table_id hall.table.shared.key pass.seat
+  IsPassOf meaning hall pass =
+      IsOf meaning hall.table.shared.table_id hall.table.shared.key pass.seat
 
   -- the two passes know the same, and have the same in their hands
   abbrev pub IsSame : Pass P T E R M g → Pass P T E R M g → Type 0

@@ -1,5 +1,6 @@
 //! How a hall is closed.
-ghost use Rattle.std.specs.Prelude.{◌≡◌, ◌≢◌, ◌++◌, ◌+◌, ◌≤◌, ℕ, List, [], map, length, vec_len, vec_capacity, IfOk, IfErr};
+ghost use Rattle.std.specs.Prelude.{◌≡◌, ◌≢◌, ◌++◌, ◌+◌, ◌≤◌, ℕ, List, [], map, length, vec_len};
+ghost use Rattle.std.specs.Prelude.{vec_capacity, IfOk, IfErr};
 ghost use Rattle.std.specs.List.Sorted.{IsNonDecreasingBy, IsPermutation};
 ghost use Rattle.be_hall.specs.Hands.{places_of, up_from};
 ghost use Rattle.be_hall.specs.Numbers.{once};
@@ -32,10 +33,18 @@ impl<P: Parts + Drop> Hall<P> {
         requires hall { IsPassOf P.meaning self pass }
         requires all { places_of (in_hand pass) ≡ up_from 0 (P.machine (rules_of self)).places }
         ensures rules { IfOk result (λ c. c.rules ≡ rules_of self) }
-        ensures closed { IfOk result (λ c. Closes P.machine P.meaning P.log (opened P.meaning self) (view_of pass) (in_hand pass) c.parts.items c.history.items) }
+        ensures closed { IfOk result
+            (λ c. Closes P.machine P.meaning P.log (opened P.meaning self) (view_of pass)
+            (in_hand pass) c.parts.items c.history.items) }
         ensures refused { IfErr result (λ f. MatchFault f
-            (λ clock made hall other. (made ≡ gathered (view_of pass)) × (clock ≢ made) × Sees P.machine (P.machine (rules_of self)).places (opened P.meaning self) clock (view_of pass) × (hall ≡ self) × (hands_of other ≡ hands_of pass) × (view_of other ≡ view_of pass) × IsPassOf P.meaning hall other)
-            (λ hall other. Sees P.machine (P.machine (rules_of self)).places (opened P.meaning self) (gathered (view_of pass)) (view_of pass) × (hall ≡ self) × (hands_of other ≡ hands_of pass) × (view_of other ≡ view_of pass) × IsPassOf P.meaning hall other)) }
+            (λ clock made hall other. (made ≡ gathered (view_of pass)) × (clock ≢ made)
+            × Sees P.machine (P.machine (rules_of self)).places (opened P.meaning self) clock
+            (view_of pass) × (hall ≡ self) × (hands_of other ≡ hands_of pass)
+            × (view_of other ≡ view_of pass) × IsPassOf P.meaning hall other)
+            (λ hall other. Sees P.machine (P.machine (rules_of self)).places (opened P.meaning self)
+            (gathered (view_of pass)) (view_of pass) × (hall ≡ self)
+            × (hands_of other ≡ hands_of pass) × (view_of other ≡ view_of pass)
+            × IsPassOf P.meaning hall other)) }
     {
         let clock = self.look(&mut pass.seat);
         if clock != pass.made {
@@ -74,7 +83,9 @@ fn make_room<T: Drop, E: Drop>(
     entries: usize,
 ) -> Result<(Vec<T>, Vec<(u64, E)>, Vec<E>), NoMemory>
     ensures empty { IfOk result (λ r. (r.0.items ≡ []) × (r.1.items ≡ []) × (r.2.items ≡ [])) }
-    ensures room { IfOk result (λ r. (places ≤ vec_capacity r.0) × (entries ≤ vec_capacity r.1) × (entries ≤ vec_capacity r.2)) }
+    ensures room { IfOk result
+        (λ r. (places ≤ vec_capacity r.0) × (entries ≤ vec_capacity r.1)
+        × (entries ≤ vec_capacity r.2)) }
 {
     let parts = Vec::with_capacity(alloc, places)?;
     let pairs = Vec::with_capacity(alloc, entries)?;
@@ -90,8 +101,10 @@ fn unlog_parts<P: Parts>(
     pairs: &mut Vec<(u64, P::Entry)>,
 )
     requires parts { vec_len parts.old + vec_len old ≤ vec_capacity parts.old }
-    requires pairs { vec_len pairs.old + length (flat (map P.log old.items)) ≤ vec_capacity pairs.old }
-    ensures parts { map P.meaning parts.new.items ≡ map P.meaning parts.old.items ++ map P.meaning old.items }
+    requires pairs { vec_len pairs.old + length (flat (map P.log old.items))
+        ≤ vec_capacity pairs.old }
+    ensures parts { map P.meaning parts.new.items
+        ≡ map P.meaning parts.old.items ++ map P.meaning old.items }
     ensures pairs { pairs.new.items ≡ pairs.old.items ++ flat (map P.log old.items) }
 {
     for mut part in old {
@@ -116,7 +129,8 @@ fn unlog_part<P: Parts>(rules: &P, part: &mut P::Part, pairs: &mut Vec<(u64, P::
 fn in_order<E: Drop>(mut pairs: Vec<(u64, E)>, history: &mut Vec<E>)
     requires room { vec_len history.old + vec_len pairs ≤ vec_capacity history.old }
     requires empty { history.old.items ≡ [] }
-    ensures { (h : List E) → InHistory h pairs.items → ((n : ℕ) → logged n pairs.items ≡ once (length h) n) → history.new.items ≡ h }
+    ensures { (h : List E) → InHistory h pairs.items
+        → ((n : ℕ) → logged n pairs.items ≡ once (length h) n) → history.new.items ≡ h }
 {
     sort_pairs(&mut pairs);
     put_entries(pairs, history);

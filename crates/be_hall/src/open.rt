@@ -1,5 +1,6 @@
 //! How a hall is opened.
-ghost use Rattle.std.specs.Prelude.{◌≡◌, ◌+◌, ◌^◌, ◌<◌, ◌≤◌, [], map, length, All, Some, IfOk, replicate, vec_len, vec_capacity};
+ghost use Rattle.std.specs.Prelude.{◌≡◌, ◌+◌, ◌^◌, ◌<◌, ◌≤◌, [], map, length, All, Some, IfOk};
+ghost use Rattle.std.specs.Prelude.{replicate, vec_len, vec_capacity};
 ghost use Rattle.be_hall.specs.Numbers.{total};
 ghost use Rattle.be_hall.specs.Machine.{AllFit};
 ghost use Rattle.be_hall.specs.Views.{blank};
@@ -18,7 +19,8 @@ use std::alloc::Global;
 use std::snapshot::Snapshot;
 
 impl<P: Parts + Drop> Hall<P> {
-    /// A hall with these parts, by place, and its first pass. `limit` bounds how many entries there can be.
+    /// A hall with these parts, by place, and its first pass. `limit` bounds how many entries there
+    /// can be.
     pub fn open(
         alloc: Global,
         rules: P,
@@ -34,7 +36,8 @@ impl<P: Parts + Drop> Hall<P> {
         ensures rules { IfOk result (λ r. rules_of r.0 ≡ rules) }
         ensures opened { IfOk result (λ r. opened P.meaning r.0
             ≡ record { rules = rules; opening = map P.meaning parts.items; limit = limit }) }
-        ensures pass { IfOk result (λ r. (view_of r.1 ≡ blank (opened P.meaning r.0)) × (in_hand r.1 ≡ [])) }
+        ensures pass { IfOk result
+            (λ r. (view_of r.1 ≡ blank (opened P.meaning r.0)) × (in_hand r.1 ≡ [])) }
     {
         let key = Key {
             rules: Snapshot::of(&rules),

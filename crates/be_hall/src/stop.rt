@@ -22,7 +22,8 @@ impl<P: Parts + Drop> Hall<P> {
 
     fn raise(&self, seat: &mut Place<P>)
         requires { seat.old.table_id ≡ self.now.table.shared.table_id }
-        ensures same { (seat.new.table_id ≡ seat.old.table_id) × (seat.new.id ≡ seat.old.id) × (seat.new.me.1 ≡ seat.old.me.1) }
+        ensures same { (seat.new.table_id ≡ seat.old.table_id) × (seat.new.id ≡ seat.old.id)
+            × (seat.new.me.1 ≡ seat.old.me.1) }
         ensures raised { seat.new.me.0 ≡ raising seat.old.me.0 }
     {
         self.table.shared.store::<Raises>(seat, STOP, 1);
@@ -33,7 +34,9 @@ impl<P: Parts + Drop> Hall<P> {
         requires { IsPassOf P.meaning self.now pass.old }
         ensures hall { IsPassOf P.meaning self.now pass.new }
         ensures stopped { result ≡ true → view_of pass.new ≡ hearing (view_of pass.old) }
-        ensures quiet { result ≡ false → ((view_of pass.old).knows ≡ false) × ((view_of pass.old).raised ≡ false) × (view_of pass.new ≡ unheard (view_of pass.old)) }
+        ensures quiet { result ≡ false
+            → ((view_of pass.old).knows ≡ false) × ((view_of pass.old).raised ≡ false)
+            × (view_of pass.new ≡ unheard (view_of pass.old)) }
         ensures held { hands_of pass.new ≡ hands_of pass.old }
     {
         self.ask(&mut pass.seat)
@@ -41,9 +44,12 @@ impl<P: Parts + Drop> Hall<P> {
 
     fn ask(&self, seat: &mut Place<P>) -> bool
         requires { seat.old.table_id ≡ self.now.table.shared.table_id }
-        ensures same { (seat.new.table_id ≡ seat.old.table_id) × (seat.new.id ≡ seat.old.id) × (seat.new.me.1 ≡ seat.old.me.1) }
+        ensures same { (seat.new.table_id ≡ seat.old.table_id) × (seat.new.id ≡ seat.old.id)
+            × (seat.new.me.1 ≡ seat.old.me.1) }
         ensures stopped { result ≡ true → seat.new.me.0 ≡ hearing seat.old.me.0 }
-        ensures quiet { result ≡ false → (seat.old.me.0.knows ≡ false) × (seat.old.me.0.raised ≡ false) × (seat.new.me.0 ≡ unheard seat.old.me.0) }
+        ensures quiet { result ≡ false
+            → (seat.old.me.0.knows ≡ false) × (seat.old.me.0.raised ≡ false)
+            × (seat.new.me.0 ≡ unheard seat.old.me.0) }
     {
         self.table.shared.load::<Asks>(seat, STOP) == 1
     }

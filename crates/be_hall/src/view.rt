@@ -36,8 +36,8 @@ pub struct Mark<M, E> {
     pub log: LinkedList<(u64, E)>,
 }
 
-/// A pass as one of those that came of the first one: how many splits lie between the two, and how many passes
-/// were split off it.
+/// A pass as one of those that came of the first one: how many splits lie between the two, and how
+/// many passes were split off it.
 pub struct Branch {
     pub depth: u64,
     pub parted: u64,

@@ -1,5 +1,6 @@
 -- How a window gets handlers, filters and bodies.
-use Rattle.std.specs.Prelude.{ℕ, ◌==◌, Bool, true, ◌&&◌, nat_lt, List, [], ◌∷◌, ◌++◌, length, filter, Option, Some, None, if◌then◌else◌}
+use Rattle.std.specs.Prelude.{ℕ, ◌==◌, Bool, true, ◌&&◌, nat_lt, List, [], ◌∷◌, ◌++◌, length}
+use Rattle.std.specs.Prelude.{filter, Option, Some, None, if◌then◌else◌}
 use Rattle.be_message.specs.declared.target.Target.{Target}
 use Rattle.be_message.specs.declared.target.Target.TheVariants.{Window, View, Plain}
 use Rattle.be_handler.specs.declared.Rule.{Rule}
@@ -17,7 +18,8 @@ is_there c Window = true
 is_there c (View v) = nat_lt v (length c.parents)
 is_there c (Plain h) = nat_lt h (length c.nexts)
 
--- a new view may be put there: the first one has no parent, and each later one has a parent that is there
+-- a new view may be put there: the first one has no parent, and each later one has a parent that is
+-- there
 abbrev pub is_parent : Chain → Option ℕ → Bool
 is_parent c (Some parent) = nat_lt parent (length c.parents)
 is_parent c None = length c.parents == 0
@@ -51,7 +53,8 @@ abbrev pub with_filter : Chain → Filter → Chain
 with_filter c f = record c { filters = c.filters ++ f ∷ [] }
 
 abbrev pub with_new_body : Chain → Target → ℕ → Chain
-with_new_body c target what = record c { bodies = c.bodies ++ record { target = target; what = what } ∷ [] }
+with_new_body c target what =
+    record c { bodies = c.bodies ++ record { target = target; what = what } ∷ [] }
 
 -- a body that is there already changes nothing
 abbrev pub with_body : Chain → Target → ℕ → Chain

@@ -11,4 +11,5 @@ has_word words word = list_any (is_at (nat_cmp word)) words
 -- of several sets one has this word beside what it had, and the others are as they were
 pub record AddsWord (old new : List (List ℕ)) (number what : ℕ) : Type 0 where
   pub same_length : length new ≡ length old
-  pub words : (k word : ℕ) → has_word (slice_index_or new k []) word ≡ ((number == k && what == word) || has_word (slice_index_or old k []) word)
+  pub words : (k word : ℕ) → has_word (slice_index_or new k []) word
+      ≡ ((number == k && what == word) || has_word (slice_index_or old k []) word)

@@ -1,7 +1,11 @@
-ghost use Rattle.std.specs.Prelude.{◌≡◌, ◌<◌, ◌≤◌, ◌↔◌, vec_len, vec_capacity, slice_index_or, ◌+◌, true, false, [], length, OnOk, OnErr};
-ghost use Rattle.be_handler.specs.Routes.{next_handler, common_filters, own_filters, filtered, has_body, handler_from, route_of};
+ghost use Rattle.std.specs.Prelude.{◌≡◌, ◌<◌, ◌≤◌, ◌↔◌, vec_len, vec_capacity, slice_index_or, ◌+◌};
+ghost use Rattle.std.specs.Prelude.{true, false, [], length, OnOk, OnErr};
+ghost use Rattle.be_handler.specs.Routes.{next_handler, common_filters, own_filters, filtered};
+ghost use Rattle.be_handler.specs.Routes.{has_body, handler_from, route_of};
 ghost use Rattle.be_handler.specs.Words.{has_word, AddsWord};
-ghost use Rattle.be_handler.specs.Growth.{with_new_body, empty_chain, is_there, is_parent, is_place, listed, with_view, with_plain, with_filter, with_body};
+ghost use Rattle.be_handler.specs.Growth.{with_new_body, empty_chain, is_there, is_parent};
+ghost use Rattle.be_handler.specs.Growth.{is_place, listed, with_view, with_plain, with_filter};
+ghost use Rattle.be_handler.specs.Growth.{with_body};
 
 use crate::body::Body;
 use crate::fault::ChainFault;
@@ -23,7 +27,8 @@ const MAX_BODIES: usize = 512;
 
 const MAX_FILTERS: usize = 32;
 
-/// A window's handlers, each with the next one, the filters in front of them and the bodies that they have.
+/// A window's handlers, each with the next one, the filters in front of them and the bodies that
+/// they have.
 #[derive(Debug, Drop)]
 pub struct Chain {
     parents: Vec<Option<u16>>,
@@ -68,10 +73,11 @@ impl Chain {
         }
     }
 
-    /// Adds a view, whose number is the count of those before it: `BView::AddChild`. The first one is the
-    /// root, which alone has no parent.
+    /// Adds a view, whose number is the count of those before it: `BView::AddChild`. The first one
+    /// is the root, which alone has no parent.
     pub fn add_view(&mut self, parent: Option<u16>) -> Result<(), ChainFault>
-        ensures no_target { (result ≡ Err ChainFault.NoTarget) ↔ (is_parent self.old parent ≡ false) }
+        ensures no_target { (result ≡ Err ChainFault.NoTarget)
+            ↔ (is_parent self.old parent ≡ false) }
         ensures too_many { (result ≡ Err ChainFault.TooMany)
             ↔ ((is_parent self.old parent ≡ true) × (32 ≤ length self.old.parents)) }
         ensures added { OnOk result (self.new ≡ with_view self.old parent) }
@@ -90,7 +96,8 @@ impl Chain {
         Ok(())
     }
 
-    /// Adds a plain handler, whose number is the count of those before it: `BHandler::SetNextHandler`.
+    /// Adds a plain handler, whose number is the count of those before it:
+    /// `BHandler::SetNextHandler`.
     pub fn add_plain(&mut self, next: Target) -> Result<(), ChainFault>
         ensures no_target { (result ≡ Err ChainFault.NoTarget) ↔ (is_there self.old next ≡ false) }
         ensures too_many { (result ≡ Err ChainFault.TooMany)
@@ -119,10 +126,12 @@ impl Chain {
         what: Option<u32>,
         rule: Rule,
     ) -> Result<(), ChainFault>
-        ensures no_target { (result ≡ Err ChainFault.NoTarget) ↔ (is_place self.old list rule ≡ false) }
+        ensures no_target { (result ≡ Err ChainFault.NoTarget)
+            ↔ (is_place self.old list rule ≡ false) }
         ensures too_many { (result ≡ Err ChainFault.TooMany)
             ↔ ((is_place self.old list rule ≡ true) × (32 ≤ length (listed self.old list))) }
-        ensures added { OnOk result (self.new ≡ with_filter self.old record { list = list; what = what; rule = rule }) }
+        ensures added { OnOk result
+            (self.new ≡ with_filter self.old record { list = list; what = what; rule = rule }) }
         ensures err { OnErr result (self.new ≡ self.old) }
     {
         if !self.is_place(list, rule) {
@@ -137,11 +146,14 @@ impl Chain {
         Ok(())
     }
 
-    /// Adds a body: what the handler's `MessageReceived` does for a word. One that is there already stays.
+    /// Adds a body: what the handler's `MessageReceived` does for a word. One that is there already
+    /// stays.
     pub fn add_body(&mut self, target: Target, what: u32) -> Result<(), ChainFault>
-        ensures no_target { (result ≡ Err ChainFault.NoTarget) ↔ (is_there self.old target ≡ false) }
+        ensures no_target { (result ≡ Err ChainFault.NoTarget)
+            ↔ (is_there self.old target ≡ false) }
         ensures too_many { (result ≡ Err ChainFault.TooMany)
-            ↔ ((is_there self.old target ≡ true) × (has_body self.old what target ≡ false) × (512 ≤ length self.old.bodies)) }
+            ↔ ((is_there self.old target ≡ true) × (has_body self.old what target ≡ false)
+            × (512 ≤ length self.old.bodies)) }
         ensures added { OnOk result (self.new ≡ with_body self.old target what) }
         ensures err { OnErr result (self.new ≡ self.old) }
     {
@@ -162,8 +174,9 @@ impl Chain {
         Ok(())
     }
 
-    /// Where a message for a target goes: first through the common filters, then through the own ones of the
-    /// target that they left, then to the first handler from there on that has a body for its word.
+    /// Where a message for a target goes: first through the common filters, then through the own
+    /// ones of the target that they left, then to the first handler from there on that has a body
+    /// for its word.
     pub fn route(&self, what: u32, target: Target) -> Route
         ensures { result ≡ route_of self.now what target }
     {
@@ -177,7 +190,8 @@ impl Chain {
     }
 
     fn handler_from(&self, what: u32, target: Target) -> Route
-        ensures { let c = self.now in result ≡ handler_from (length c.parents + length c.nexts + 1) c what target }
+        ensures { let c = self.now in result
+            ≡ handler_from (length c.parents + length c.nexts + 1) c what target }
     {
         let mut at = target;
         'up: for _step in 0..self.parents.len() + self.nexts.len() + 1 {
@@ -272,7 +286,8 @@ impl Chain {
         }
     }
 
-    /// Whether the handlers of a filter are there: the one whose list it is in, and where it redirects to.
+    /// Whether the handlers of a filter are there: the one whose list it is in, and where it
+    /// redirects to.
     fn is_place(&self, list: Option<Target>, rule: Rule) -> bool
         ensures { result ≡ is_place self.now list rule }
     {

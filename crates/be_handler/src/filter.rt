@@ -43,7 +43,8 @@ impl Filter {
         }
     }
 
-    /// The target after this filter, and whether the list has redirected yet; None where it skips the message.
+    /// The target after this filter, and whether the list has redirected yet; None where it skips
+    /// the message.
     fn step(&self, what: u32, at: (Target, bool)) -> Option<(Target, bool)>
         ensures { result ≡ step_of what self.now at }
     {

@@ -36,7 +36,8 @@ impl Words {
     }
 
     pub fn add(&mut self, what: u32) -> Result<(), NoMemory>
-        ensures ok { OnOk result ((word : ℕ) → has_word self.new word ≡ ((what == word) || has_word self.old word)) }
+        ensures ok { OnOk result
+            ((word : ℕ) → has_word self.new word ≡ ((what == word) || has_word self.old word)) }
         ensures err { OnErr result (self.new ≡ self.old) }
     {
         self.words.insert(what)?;

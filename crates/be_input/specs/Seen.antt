@@ -33,7 +33,8 @@ mouse_message (Moved transit) p = transit_message (transit_number transit) p
 -- a pixel as it is seen from a view's left top
 abbrev pub place_seen : Windows → List Tree → Point → ℕ × ℕ → Option Point
 place_seen windows trees p at =
-    option_and_then (λ corner. option_map (λ place. less (less p corner) place) (place_in trees at)) (corner_of windows at.0)
+    option_and_then (λ corner. option_map (λ place. less (less p corner) place) (place_in trees at))
+    (corner_of windows at.0)
 
 abbrev pub seen_post : sent.Post → Post
 seen_post post = record { window = post.window; target = post.target; message = post.message }

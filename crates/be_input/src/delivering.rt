@@ -1,8 +1,10 @@
-ghost use Rattle.std.specs.Prelude.{◌≡◌, ◌++◌, ◌==◌, None, option_map, option_and_then, option_to_list, IfOk};
+ghost use Rattle.std.specs.Prelude.{◌≡◌, ◌++◌, ◌==◌, None, option_map, option_and_then};
+ghost use Rattle.std.specs.Prelude.{option_to_list, IfOk};
 ghost use Rattle.std.specs.Int.RustNames.{bit_and};
 ghost use Rattle.be_geom.specs.Numbers.{is_number};
 ghost use Rattle.be_stack.specs.declared.window.Window.{Window};
-ghost use Rattle.be_input.specs.Deliveries.{delivery, mouse_posts, is_same, key_post, pressed_on, delivered};
+ghost use Rattle.be_input.specs.Deliveries.{delivery, mouse_posts, is_same, key_post, pressed_on};
+ghost use Rattle.be_input.specs.Deliveries.{delivered};
 ghost use Rattle.be_input.specs.Seen.{mouse_message, seen_post, seen_delivery};
 
 use crate::message::{Mouse, Transit, key_message, mouse_message};
@@ -197,7 +199,8 @@ fn move_to(
 #[tactic(auto, using(crate::proofs::PostLemmas::two_delivered, crate::proofs::PostLemmas::other_delivered))]
 fn two(one: Option<Post>, other: Option<Post>, under: Option<(u16, u16)>) -> Delivery
     ensures { seen_delivery result ≡ delivery None
-        (option_to_list (option_map seen_post one) ++ option_to_list (option_map seen_post other)) under }
+        (option_to_list (option_map seen_post one) ++ option_to_list (option_map seen_post other))
+        under }
 {
     let (first, second) = match one {
         Some(one) => (Some(one), other),

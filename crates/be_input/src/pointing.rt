@@ -1,4 +1,5 @@
-ghost use Rattle.std.specs.Prelude.{◌≡◌, ◌<◌, ◌≤ℤ◌, ◌↔◌, pos, None, Some, length, slice_get, slice_set, replicate, IfOk, OnOk, OnErr, IsErr};
+ghost use Rattle.std.specs.Prelude.{◌≡◌, ◌<◌, ◌≤ℤ◌, ◌↔◌, pos, None, Some, length, slice_get};
+ghost use Rattle.std.specs.Prelude.{slice_set, replicate, IfOk, OnOk, OnErr, IsErr};
 ghost use Rattle.std.specs.Option.{option_map};
 ghost use Rattle.be_input.specs.Pointing.{trees_resized};
 
@@ -35,7 +36,11 @@ impl Pointing {
     /// Nothing has the focus, and no view is remembered. There is a tree for each window.
     pub fn new(alloc: Global, trees: Vec<ViewTree>) -> Result<Pointing, NoMemory>
         ensures { IfOk result (λ pointing. pointing
-            ≡ record { trees = trees.items; focus = replicate (length trees.items) None; under = None }) }
+            ≡ record {
+              trees = trees.items;
+              focus = replicate (length trees.items) None;
+              under = None;
+            }) }
     {
         let focus = vec![in alloc; None; trees.len()]?;
         Ok(Pointing {

@@ -1,5 +1,6 @@
 -- Colours as words (this project's own).
-use Rattle.std.specs.Prelude.{ℕ, Bool, true, List, [], ◌∷◌, slice_index, codes, if◌then◌else◌, Option, Some}
+use Rattle.std.specs.Prelude.{ℕ, Bool, true, List, [], ◌∷◌, slice_index, codes, if◌then◌else◌}
+use Rattle.std.specs.Prelude.{Option, Some}
 use Rattle.std.specs.Option.{option_map}
 use Rattle.std.specs.Str.{bytes_eq}
 use Rattle.be_color.specs.declared.colors.Color.{Color}
@@ -9,7 +10,8 @@ use Rattle.be_lex.specs.Hex.{hex_bytes, hex_text, are_bytes}
 
 -- three bytes: red, green and blue
 abbrev pub rgb_from : List ℕ → Rgb
-rgb_from bytes = record { red = slice_index bytes 0; green = slice_index bytes 1; blue = slice_index bytes 2 }
+rgb_from bytes =
+    record { red = slice_index bytes 0; green = slice_index bytes 1; blue = slice_index bytes 2 }
 
 -- six hexadecimal digits
 unfoldable pub rgb_of : List ℕ → Option Rgb
@@ -25,7 +27,8 @@ color_of word = if bytes_eq word (codes "clear") then Some Clear else option_map
 
 -- a colour among the pixels of a row: its digits, or `------` for the transparent one
 unfoldable pub pixel_of : List ℕ → Option Color
-pixel_of word = if bytes_eq word (codes "------") then Some Clear else option_map Solid (rgb_of word)
+pixel_of word =
+    if bytes_eq word (codes "------") then Some Clear else option_map Solid (rgb_of word)
 
 -- the one word of a colour
 unfoldable pub color_text : Color → List ℕ

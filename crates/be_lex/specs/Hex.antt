@@ -10,9 +10,11 @@ use Rattle.hex.specs.Hex.{decode_sized, encode_lower}
 abbrev pub is_hex_digit : ℕ → Bool
 is_hex_digit c = is_ascii_digit c || is_in_range 97 102 c
 
--- the bytes that a word writes, where it is the digits of just so many: two of each, the high one first
+-- the bytes that a word writes, where it is the digits of just so many: two of each, the high one
+-- first
 unfoldable pub hex_bytes : ℕ → List ℕ → Option (List ℕ)
-hex_bytes count word = if list_all is_hex_digit word then result_ok (decode_sized word count) else None
+hex_bytes count word =
+    if list_all is_hex_digit word then result_ok (decode_sized word count) else None
 
 -- the digits of some bytes
 abbrev pub hex_text : List ℕ → List ℕ

@@ -1,18 +1,23 @@
 -- What lines a text is cut into (this project's own).
-use Rattle.std.specs.Prelude.{ℕ, ◌-◌, Bool, true, false, not, ◌==◌, ◌&&◌, nat_le, if◌then◌else◌, List, [], ◌∷◌, length, take, slice_index}
+use Rattle.std.specs.Prelude.{ℕ, ◌-◌, Bool, true, false, not, ◌==◌, ◌&&◌, nat_le, if◌then◌else◌}
+use Rattle.std.specs.Prelude.{List, [], ◌∷◌, length, take, slice_index}
 use Rattle.std.specs.List.{slice_split, list_all}
 use Rattle.be_lex.specs.Words.{is_empty}
 
--- a line: its bytes without the line feed behind them, and whether one is there, which the last line may lack
+-- a line: its bytes without the line feed behind them, and whether one is there, which the last
+-- line may lack
 pub record Line : Type 0 where
   pub bytes : List ℕ
   pub ended : Bool
 
--- what stands before a line feed is a line that it ends; what stands behind the last is a line only where it has bytes
+-- what stands before a line feed is a line that it ends; what stands behind the last is a line only
+-- where it has bytes
 abbrev pub lines_from : List (List ℕ) → List Line
 lines_from [] = []
-lines_from (piece ∷ []) = if is_empty piece then [] else record { bytes = piece; ended = false } ∷ []
-lines_from (piece ∷ next ∷ pieces) = record { bytes = piece; ended = true } ∷ lines_from (next ∷ pieces)
+lines_from (piece ∷ []) =
+    if is_empty piece then [] else record { bytes = piece; ended = false } ∷ []
+lines_from (piece ∷ next ∷ pieces) =
+    record { bytes = piece; ended = true } ∷ lines_from (next ∷ pieces)
 
 -- the lines of a text
 unfoldable pub lines_of : List ℕ → List Line

@@ -3,7 +3,8 @@ use Rattle.std.specs.Prelude.{ℕ, List, [], ◌∷◌, Option, codes}
 use Rattle.std.specs.Str.{bytes_eq}
 use Rattle.std.specs.Map.{lookup}
 use Rattle.be_color.specs.declared.modes.Mode.{Mode}
-use Rattle.be_color.specs.declared.modes.Mode.TheVariants.{Copy, Over, Erase, Invert, Add, Subtract, Blend, Min, Max, Select}
+use Rattle.be_color.specs.declared.modes.Mode.TheVariants.{Copy, Over, Erase, Invert, Add, Subtract}
+use Rattle.be_color.specs.declared.modes.Mode.TheVariants.{Blend, Min, Max, Select}
 
 -- each mode with its word
 abbrev pub mode_words : List (List ℕ × Mode)

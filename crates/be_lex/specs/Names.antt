@@ -1,5 +1,6 @@
 -- Which words are names (this project's own).
-use Rattle.std.specs.Prelude.{ℕ, Bool, false, ◌==◌, ◌&&◌, ◌||◌, nat_le, List, [], ◌∷◌, length, codes}
+use Rattle.std.specs.Prelude.{ℕ, Bool, false, ◌==◌, ◌&&◌, ◌||◌, nat_le, List, [], ◌∷◌, length}
+use Rattle.std.specs.Prelude.{codes}
 use Rattle.std.specs.Char.{is_ascii_digit, is_ascii_lowercase}
 use Rattle.std.specs.List.{list_all}
 use Rattle.std.specs.Str.{bytes_eq}
@@ -11,7 +12,8 @@ is_name_byte b = is_ascii_lowercase b || is_ascii_digit b || b == 95
 -- at most so many of those bytes, a letter first
 unfoldable pub is_name_within : ℕ → List ℕ → Bool
 is_name_within most [] = false
-is_name_within most (b ∷ bytes) = is_ascii_lowercase b && list_all is_name_byte bytes && nat_le (length (b ∷ bytes)) most
+is_name_within most (b ∷ bytes) =
+    is_ascii_lowercase b && list_all is_name_byte bytes && nat_le (length (b ∷ bytes)) most
 
 -- a name of a script's things: 1 to 16 bytes
 abbrev pub is_name : List ℕ → Bool
@@ -24,4 +26,5 @@ is_field_name word = is_name_within 32 word
 -- the four names that mean something everywhere, which no line may declare
 unfoldable pub is_reserved_name : List ℕ → Bool
 is_reserved_name word =
-    bytes_eq word (codes "window") || bytes_eq word (codes "root") || bytes_eq word (codes "common") || bytes_eq word (codes "none")
+    bytes_eq word (codes "window") || bytes_eq word (codes "root") || bytes_eq word (codes "common")
+    || bytes_eq word (codes "none")

@@ -1,5 +1,6 @@
 -- Which words are numbers, and which numbers (this project's own).
-use Rattle.std.specs.Prelude.{ℕ, ℤ, pos, neg_ℤ, Bool, true, false, not, ◌==◌, ◌&&◌, if◌then◌else◌, List, [], ◌∷◌, codes}
+use Rattle.std.specs.Prelude.{ℕ, ℤ, pos, neg_ℤ, Bool, true, false, not, ◌==◌, ◌&&◌, if◌then◌else◌}
+use Rattle.std.specs.Prelude.{List, [], ◌∷◌, codes}
 use Rattle.std.specs.List.{list_all}
 use Rattle.std.specs.Char.{is_ascii_digit}
 use Rattle.std.specs.Str.{bytes_eq}
@@ -9,7 +10,8 @@ use Rattle.std.specs.Str.Parse.{digits_value}
 abbrev pub is_natural : List ℕ → Bool
 is_natural [] = false
 is_natural (d ∷ []) = is_ascii_digit d
-is_natural (d ∷ e ∷ digits) = (is_ascii_digit d && not (d == 48)) && list_all is_ascii_digit (e ∷ digits)
+is_natural (d ∷ e ∷ digits) =
+    (is_ascii_digit d && not (d == 48)) && list_all is_ascii_digit (e ∷ digits)
 
 -- such digits as they stand behind a `-` or without one: there is no `-0`
 abbrev pub is_signed : Bool → List ℕ → Bool
@@ -17,7 +19,8 @@ is_signed negative digits = is_natural digits && not (negative && bytes_eq digit
 
 -- the number of such digits, of any size
 abbrev pub signed : Bool → List ℕ → ℤ
-signed negative digits = if negative then neg_ℤ (pos (digits_value 10 digits)) else pos (digits_value 10 digits)
+signed negative digits =
+    if negative then neg_ℤ (pos (digits_value 10 digits)) else pos (digits_value 10 digits)
 
 -- a number: digits, or `-` and then digits
 unfoldable pub is_number : List ℕ → Bool

@@ -1,5 +1,7 @@
--- Patterns as words (the three patterns with names are The Be Book's, the words this project's own).
-use Rattle.std.specs.Prelude.{ℕ, Bool, ◌==◌, ◌&&◌, length, List, [], ◌∷◌, codes, if◌then◌else◌, Option, Some}
+-- Patterns as words (the three patterns with names are The Be Book's, the words this project's
+-- own).
+use Rattle.std.specs.Prelude.{ℕ, Bool, ◌==◌, ◌&&◌, length, List, [], ◌∷◌, codes, if◌then◌else◌}
+use Rattle.std.specs.Prelude.{Option, Some}
 use Rattle.std.specs.Option.{option_map}
 use Rattle.std.specs.Str.{bytes_eq}
 use Rattle.be_color.specs.declared.patterns.Pattern.{Pattern}

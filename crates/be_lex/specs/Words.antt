@@ -1,6 +1,8 @@
 -- What words a line has (this project's own).
-use Rattle.std.specs.Prelude.{ℕ, zero, suc, Bool, true, false, not, ◌==◌, ◌&&◌, List, [], ◌∷◌, filter, drop, slice_index, Option, Some, None, if◌then◌else◌}
-use Rattle.std.specs.List.{slice_split, list_all, list_any, position_or_len, before_first, after_first}
+use Rattle.std.specs.Prelude.{ℕ, zero, suc, Bool, true, false, not, ◌==◌, ◌&&◌, List, [], ◌∷◌}
+use Rattle.std.specs.Prelude.{filter, drop, slice_index, Option, Some, None, if◌then◌else◌}
+use Rattle.std.specs.List.{slice_split, list_all, list_any, position_or_len, before_first}
+use Rattle.std.specs.List.{after_first}
 
 -- what stands between words
 abbrev pub is_space : ℕ → Bool
@@ -44,7 +46,8 @@ is_passed_over text = begins_comment (words_of text)
 -- what stands in a word before and behind the first of a byte, where it has one
 abbrev pub cut_at : ℕ → List ℕ → Option (List ℕ × List ℕ)
 cut_at byte word =
-    if list_any (λ b. b == byte) word then Some (before_first (λ b. b == byte) word, after_first (λ b. b == byte) word) else None
+    if list_any (λ b. b == byte) word
+    then Some (before_first (λ b. b == byte) word, after_first (λ b. b == byte) word) else None
 
 -- what may stand behind a word: nothing, or a space first
 abbrev pub ends_word : List ℕ → Bool

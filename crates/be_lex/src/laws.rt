@@ -1,4 +1,5 @@
-ghost use Rattle.std.specs.Prelude.{◌≡◌, ◌≢◌, [], true, false, ◌∷◌, ◌++◌, ◌<◌, ◌^◌, ℕ, ℤ, List, Some, IsTrue, unsigned_abs};
+ghost use Rattle.std.specs.Prelude.{◌≡◌, ◌≢◌, [], true, false, ◌∷◌, ◌++◌, ◌<◌, ◌^◌, ℕ, ℤ, List};
+ghost use Rattle.std.specs.Prelude.{Some, IsTrue, unsigned_abs};
 ghost use Rattle.std.specs.Fmt.{signed_decimal};
 ghost use Rattle.be_color.specs.declared.colors.Color.{Color};
 ghost use Rattle.be_color.specs.declared.modes.Mode.{Mode};

@@ -1,7 +1,9 @@
-ghost use Rattle.std.specs.Prelude.{◌≡◌, ◌==◌, ◌≤◌, ◌<◌, ◌∷◌, [], length, not, MatchOption, OnSome, IfNone};
+ghost use Rattle.std.specs.Prelude.{◌≡◌, ◌==◌, ◌≤◌, ◌<◌, ◌∷◌, [], length, not, MatchOption, OnSome};
+ghost use Rattle.std.specs.Prelude.{IfNone};
 ghost use Rattle.std.specs.Option.{option_map};
 ghost use Rattle.std.specs.List.{position_or_len};
-ghost use Rattle.be_lex.specs.Words.{is_space, words_of, from_first, behind_word, is_passed_over, cut_at};
+ghost use Rattle.be_lex.specs.Words.{is_space, words_of, from_first, behind_word, is_passed_over};
+ghost use Rattle.be_lex.specs.Words.{cut_at};
 
 use std::marker::Model;
 

@@ -1,5 +1,7 @@
--- What a line of a script begins with, and where such a line may stand (the language is this project's own).
-use Rattle.std.specs.Prelude.{ℕ, Bool, true, false, if◌then◌else◌, List, [], ◌∷◌, Option, Some, None, codes}
+-- What a line of a script begins with, and where such a line may stand (the language is this
+-- project's own).
+use Rattle.std.specs.Prelude.{ℕ, Bool, true, false, if◌then◌else◌, List, [], ◌∷◌, Option, Some}
+use Rattle.std.specs.Prelude.{None, codes}
 use Rattle.std.specs.Map.{lookup}
 use Rattle.std.specs.Option.{option_map, option_or}
 use Rattle.std.specs.Str.{bytes_eq}
@@ -53,7 +55,9 @@ instruction_words =
     ∷ []
 
 abbrev pub in_body : List ℕ → Option Statement
-in_body word = option_or (lookup (bytes_eq word) instruction_words) (option_map statement.Command (first_word_of word))
+in_body word =
+    option_or (lookup (bytes_eq word) instruction_words)
+    (option_map statement.Command (first_word_of word))
 
 -- one of these, or the first word of a command
 unfoldable pub statement_of : List ℕ → Option Statement
@@ -61,10 +65,11 @@ statement_of word = option_or (lookup (bytes_eq word) declaration_words) (in_bod
 
 -- ---- where they stand
 
--- in which bodies and programs an instruction may stand: bodies of handlers, Draw bodies, programs without a lock and
--- under one
+-- in which bodies and programs an instruction may stand: bodies of handlers, Draw bodies, programs
+-- without a lock and under one
 abbrev pub inside : Bool → Bool → Bool → Bool → Seat
-inside h d p l = seat.Inside (record { in_handler = h; in_draw = d; in_program = p; under_lock = l })
+inside h d p l =
+    seat.Inside (record { in_handler = h; in_draw = d; in_program = p; under_lock = l })
 
 -- a command of the first group, which a Draw body may have: it draws, or sets what drawing goes by
 abbrev pub is_of_drawing : FirstWord → Bool

@@ -1,5 +1,6 @@
 -- The options of a window as they are read, one word after the other (this project's own).
-use Rattle.std.specs.Prelude.{pos, true, false, not, ◌&&◌, if◌then◌else◌, List, [], ◌∷◌, Option, Some, None, Result, Ok, Err}
+use Rattle.std.specs.Prelude.{pos, true, false, not, ◌&&◌, if◌then◌else◌, List, [], ◌∷◌, Option}
+use Rattle.std.specs.Prelude.{Some, None, Result, Ok, Err}
 use Rattle.be_command.specs.declared.fault.Reason.{Reason}
 use Rattle.be_command.specs.declared.fault.Reason.TheVariants.{Shape, Range}
 use Rattle.be_geom.specs.Points.{between}
@@ -34,7 +35,9 @@ with_one given option.AvoidFocus = record given {
   is_formed = given.is_formed && not given.has_avoid_focus;
 }
 with_one given (option.Port n) = record given {
-  options = if between (pos 1) n (pos 100) then options.with_option given.options (option.Port n) else given.options;
+  options =
+      if between (pos 1) n (pos 100) then options.with_option given.options (option.Port n)
+      else given.options;
   has_port = true;
   is_formed = given.is_formed && not given.has_port;
   is_in_range = given.is_in_range && between (pos 1) n (pos 100);
@@ -52,7 +55,9 @@ with_option given None = record given { is_formed = false }
 
 -- what they say together
 abbrev pub finished : Given → Result Options Reason
-finished given = if given.is_formed then (if given.is_in_range then Ok given.options else Err Range) else Err Shape
+finished given =
+    if given.is_formed then (if given.is_in_range then Ok given.options else Err Range)
+    else Err Shape
 
 -- what these and all further words say
 abbrev pub told : Given → List (Option WindowOption) → Result Options Reason

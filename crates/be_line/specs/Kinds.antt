@@ -1,5 +1,7 @@
 -- What a word says by itself, as of each kind (the language is this project's own).
-use Rattle.std.specs.Prelude.{ℕ, zero, suc, Bool, ◌||◌, nat_le, nat_lt, if◌then◌else◌, List, [], ◌∷◌, drop, take, length, Option, Some, None, Result, Ok, Err, codes, option_map}
+use Rattle.std.specs.Prelude.{ℕ, zero, suc, Bool, ◌||◌, nat_le, nat_lt, if◌then◌else◌, List, []}
+use Rattle.std.specs.Prelude.{◌∷◌, drop, take, length, Option, Some, None, Result, Ok, Err, codes}
+use Rattle.std.specs.Prelude.{option_map}
 use Rattle.std.specs.Option.{option_and_then}
 use Rattle.std.specs.Str.{bytes_eq}
 use Rattle.be_color.specs.declared.colors.Color.{Color}
@@ -32,9 +34,12 @@ said_as f (Err reason) = Err reason
 
 -- a name that may be there already: none of the four that mean something everywhere
 abbrev pub new_named : Bool → List ℕ → Result (List ℕ) Reason
-new_named is_there word = if is_name word then (if is_reserved_name word || is_there then Err NameTaken else Ok word) else Err Shape
+new_named is_there word =
+    if is_name word then (if is_reserved_name word || is_there then Err NameTaken else Ok word)
+    else Err Shape
 
--- how a view follows its parent's sides (The Be Book: B_FOLLOW_LEFT and the others; B_FOLLOW_NONE is left and top)
+-- how a view follows its parent's sides (The Be Book: B_FOLLOW_LEFT and the others; B_FOLLOW_NONE
+-- is left and top)
 abbrev pub across_words : List (List ℕ × Across)
 across_words =
     (codes "left", across.Left)
@@ -66,7 +71,8 @@ what_said word = free_or_missing (code_of word)
 
 -- every word, or one, those of the server among them
 abbrev pub filter_what_said : List ℕ → Result (Option ℕ) Reason
-filter_what_said word = if bytes_eq word (codes "*") then Ok None else said_as Some (formed (code_of word))
+filter_what_said word =
+    if bytes_eq word (codes "*") then Ok None else said_as Some (formed (code_of word))
 
 -- at most 32 bytes
 abbrev pub note_said : List ℕ → Result (List ℕ) Reason
@@ -76,7 +82,8 @@ note_said word = if nat_le (length word) 32 then Ok word else Err Shape
 abbrev pub pixels_in : ℕ → List ℕ → Option (List Color)
 pixels_in zero word = if is_empty word then Some [] else None
 pixels_in (suc count) word =
-    option_and_then (λ color. option_map (λ colors. color ∷ colors) (pixels_in count (drop 6 word))) (pixel_of (take 6 word))
+    option_and_then (λ color. option_map (λ colors. color ∷ colors) (pixels_in count (drop 6 word)))
+    (pixel_of (take 6 word))
 
 -- a last word, or white
 abbrev pub color_or_white : Option (List ℕ) → Result Color Reason

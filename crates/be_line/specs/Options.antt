@@ -1,5 +1,6 @@
 -- The options of a window (the language is this project's own).
-use Rattle.std.specs.Prelude.{ℕ, pos, Bool, true, false, not, ◌&&◌, if◌then◌else◌, List, [], ◌∷◌, map, fold, Option, Some, None, Result, Ok, Err, codes, unsigned_abs}
+use Rattle.std.specs.Prelude.{ℕ, pos, Bool, true, false, not, ◌&&◌, if◌then◌else◌, List, [], ◌∷◌}
+use Rattle.std.specs.Prelude.{map, fold, Option, Some, None, Result, Ok, Err, codes, unsigned_abs}
 use Rattle.std.specs.List.{list_all}
 use Rattle.std.specs.Option.{option_map, option_and_then}
 use Rattle.std.specs.Str.{bytes_eq}
@@ -65,8 +66,8 @@ is_in_range option.AvoidFocus = true
 is_in_range (option.Port n) = between (pos 1) n (pos 100)
 is_in_range (option.Color c) = true
 
--- without options a port holds 100 letters, and the root view is white (The Be Book: B_LOOPER_PORT_DEFAULT_CAPACITY, and
--- the colours of views)
+-- without options a port holds 100 letters, and the root view is white (The Be Book:
+-- B_LOOPER_PORT_DEFAULT_CAPACITY, and the colours of views)
 abbrev pub no_options : Options
 no_options = record {
   first_click = false;

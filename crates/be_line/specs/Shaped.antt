@@ -24,9 +24,16 @@ seen_word (word.Copied name) = drafts.copied name.now
 
 -- two words as a point, where both are numbers, and four as a rectangle
 abbrev pub pointed : List ℕ → List ℕ → Option Datum
-pointed x y = if is_number x && is_number y then Some (point (record { x = number_of x; y = number_of y })) else None
+pointed x y =
+    if is_number x && is_number y then Some (point (record { x = number_of x; y = number_of y }))
+    else None
 
 abbrev pub bounded : List ℕ → List ℕ → List ℕ → List ℕ → Option Datum
 bounded l t r b =
     if is_number l && (is_number t && (is_number r && is_number b))
-    then Some (rect (record { left = number_of l; top = number_of t; right = number_of r; bottom = number_of b })) else None
+    then Some (rect (record {
+      left = number_of l;
+      top = number_of t;
+      right = number_of r;
+      bottom = number_of b;
+    })) else None

@@ -1,5 +1,6 @@
 -- What the code knows of the words of FIELDS that were read (this project's own).
-use Rattle.std.specs.Prelude.{◌≡◌, ℕ, true, false, ◌&&◌, if◌then◌else◌, List, [], ◌∷◌, ◌++◌, Option, Some, None}
+use Rattle.std.specs.Prelude.{◌≡◌, ℕ, true, false, ◌&&◌, if◌then◌else◌, List, [], ◌∷◌, ◌++◌, Option}
+use Rattle.std.specs.Prelude.{Some, None}
 use Rattle.std.specs.BTreeMap.{get_by}
 use Rattle.std.specs.Cmp.Lexicographic.{slice_cmp}
 use Rattle.std.specs.List.{list_all, list_any}
@@ -35,7 +36,9 @@ pub record IsPushed (w : Word) (before after : GivenFields) : Type 0 where
   pub formed : after.is_formed ≡ before.is_formed
   pub stand : after.standing ≡ before.standing
   pub in_range : after.is_in_range ≡ (before.is_in_range && is_in_range w)
-  pub fields : seen_words after.fields.items ≡ (if is_in_range w then seen_words before.fields.items ++ w ∷ [] else seen_words before.fields.items)
+  pub fields : seen_words after.fields.items
+      ≡ (if is_in_range w then seen_words before.fields.items ++ w ∷ []
+      else seen_words before.fields.items)
 
 -- so much was read
 abbrev pub IsGiven : Option (List Word) → GivenFields → Type 0

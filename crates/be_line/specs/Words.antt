@@ -1,5 +1,7 @@
--- The words of FIELDS, one after the other: what stands under a name, and what goes with it (this project's own).
-use Rattle.std.specs.Prelude.{ℕ, Bool, true, false, ◌&&◌, not, if◌then◌else◌, List, [], ◌∷◌, ◌++◌, Option, Some, None, Result, Err}
+-- The words of FIELDS, one after the other: what stands under a name, and what goes with it (this
+-- project's own).
+use Rattle.std.specs.Prelude.{ℕ, Bool, true, false, ◌&&◌, not, if◌then◌else◌, List, [], ◌∷◌, ◌++◌}
+use Rattle.std.specs.Prelude.{Option, Some, None, Result, Err}
 use Rattle.std.specs.List.{list_all}
 use Rattle.std.specs.Str.{bytes_eq}
 use Rattle.be_actor.specs.Drafts.{Word, value, current, copied}
@@ -55,7 +57,8 @@ is_free (Some sort) = false
 -- a word goes with others of which this much is known
 abbrev pub goes_with : Option (Option Kind) → Bool → Bool → Word → Bool
 goes_with there has_current has_copy (value name datum) = fits there (kind_of datum)
-goes_with there has_current has_copy (current name) = not has_current && (not has_copy && is_free there)
+goes_with there has_current has_copy (current name) =
+    not has_current && (not has_copy && is_free there)
 goes_with there has_current has_copy (copied name) = not has_current && is_free there
 
 -- ---- words that go together
@@ -64,7 +67,8 @@ goes_with there has_current has_copy (copied name) = not has_current && is_free 
 abbrev pub next : Option (List Word) → Option Word → Option (List Word)
 next None w = None
 next (Some ws) None = None
-next (Some ws) (Some w) = if list_all (λ other. go_together other w) ws then Some (ws ++ w ∷ []) else None
+next (Some ws) (Some w) =
+    if list_all (λ other. go_together other w) ws then Some (ws ++ w ∷ []) else None
 
 abbrev pub ended : Option (List Word) → Result (List Word) Reason
 ended (Some ws) = ranged ws

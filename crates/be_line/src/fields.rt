@@ -1,4 +1,5 @@
-ghost use Rattle.std.specs.Prelude.{◌≡◌, ◌&&◌, [], ℤ, negsuc, pos, false, Some, None, Ok, Option, List, IfOk, OnOk, if◌then◌else◌};
+ghost use Rattle.std.specs.Prelude.{◌≡◌, ◌&&◌, [], ℤ, negsuc, pos, false, Some, None, Ok, Option};
+ghost use Rattle.std.specs.Prelude.{List, IfOk, OnOk, if◌then◌else◌};
 ghost use Rattle.std.specs.Option.{option_map};
 ghost use Rattle.std.specs.Result.{result_map_both};
 ghost use Rattle.be_actor.specs.Drafts.{Word};
@@ -122,7 +123,8 @@ fn field_of(alloc: Global, word: ShapedWord<'_>) -> Result<Option<FieldWord>, No
 
 fn value_of(alloc: Global, shaped: Shaped<'_>) -> Result<Option<Value>, NoMemory>
     ensures { IfOk result (λ value. option_map seen_value value
-        ≡ (if is_datum_in_range (seen_shaped shaped.entry) then Some (seen_shaped shaped.entry) else None)) }
+        ≡ (if is_datum_in_range (seen_shaped shaped.entry) then Some (seen_shaped shaped.entry)
+        else None)) }
 {
     Ok(match shaped {
         Shaped::Bool(truth) => Some(Value::Bool(truth)),
@@ -136,7 +138,8 @@ fn value_of(alloc: Global, shaped: Shaped<'_>) -> Result<Option<Value>, NoMemory
 }
 
 fn point_of(x: &Number<'_>, y: &Number<'_>) -> Option<Point>
-    ensures { result ≡ (if in_range x.now && in_range y.now then Some (record { x = x.now; y = y.now }) else None) }
+    ensures { result ≡ (if in_range x.now && in_range y.now
+        then Some (record { x = x.now; y = y.now }) else None) }
 {
     Some(Point {
         x: x.coordinate()?,
@@ -150,8 +153,14 @@ fn rect_of(
     right: &Number<'_>,
     bottom: &Number<'_>,
 ) -> Option<Rect>
-    ensures { result ≡ (if in_range left.now && in_range top.now && in_range right.now && in_range bottom.now
-        then Some (record { left = left.now; top = top.now; right = right.now; bottom = bottom.now }) else None) }
+    ensures { result ≡ (if in_range left.now && in_range top.now && in_range right.now
+        && in_range bottom.now
+        then Some (record {
+          left = left.now;
+          top = top.now;
+          right = right.now;
+          bottom = bottom.now;
+        }) else None) }
 {
     Some(Rect {
         left: left.coordinate()?,

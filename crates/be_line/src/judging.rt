@@ -1,4 +1,5 @@
-ghost use Rattle.std.specs.Prelude.{◌≡◌, ◌||◌, ◌≤◌, pos, Ok, Err, Some, None, if◌then◌else◌, nat_le, length, codes, unsigned_abs};
+ghost use Rattle.std.specs.Prelude.{◌≡◌, ◌||◌, ◌≤◌, pos, Ok, Err, Some, None, if◌then◌else◌};
+ghost use Rattle.std.specs.Prelude.{nat_le, length, codes, unsigned_abs};
 ghost use Rattle.std.specs.Map.{lookup};
 ghost use Rattle.std.specs.Option.{option_map};
 ghost use Rattle.std.specs.Result.{result_map_both};
@@ -6,7 +7,9 @@ ghost use Rattle.std.specs.Str.{bytes_eq};
 ghost use Rattle.be_lex.specs.Colors.{color_of};
 ghost use Rattle.be_command.specs.Kinds.{numbered_name, numbered, coordinate, formed};
 ghost use Rattle.be_command.specs.Places.{judged};
-ghost use Rattle.be_line.specs.Kinds.{first_of, across_words, down_words, what_said, filter_what_said, note_said, color_or_white, new_named, said_as};
+ghost use Rattle.be_line.specs.Kinds.{first_of, across_words, down_words, what_said};
+ghost use Rattle.be_line.specs.Kinds.{filter_what_said, note_said, color_or_white, new_named};
+ghost use Rattle.be_line.specs.Kinds.{said_as};
 
 // What a word of each kind says, or what is wrong with it. None stands for a missing word.
 

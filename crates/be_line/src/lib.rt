@@ -1,5 +1,6 @@
-//! What the words of a script's line say by themselves, whatever other lines said: its first word and
-//! where it may stand, numbers, words of a table, the options of a window, and the fields of a message.
+//! What the words of a script's line say by themselves, whatever other lines said: its first word
+//! and where it may stand, numbers, words of a table, the options of a window, and the fields of a
+//! message.
 #![tactic(auto)]
 
 mod fields;

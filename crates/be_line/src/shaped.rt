@@ -1,7 +1,9 @@
 ghost use Rattle.std.specs.Prelude.{◌≡◌};
 ghost use Rattle.std.specs.Option.{option_map};
 ghost use Rattle.be_message.specs.Sound.{kind_of};
-ghost use Rattle.be_line.specs.Fields.{copied_word, datum_of, field_of, int_in, named_word, numbers_in, of_numbers, point_in, rect_in, text_in, truth_in};
+ghost use Rattle.be_line.specs.Fields.{copied_word, datum_of, field_of, int_in, named_word};
+ghost use Rattle.be_line.specs.Fields.{numbers_in, of_numbers, point_in, rect_in, text_in};
+ghost use Rattle.be_line.specs.Fields.{truth_in};
 ghost use Rattle.be_line.specs.Shaped.{bounded, pointed, seen_shaped, seen_word};
 ghost use Rattle.be_line.specs.Words.{is_copied, is_current, name_of, sort_of};
 

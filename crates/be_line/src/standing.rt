@@ -31,12 +31,14 @@ impl<'a> Standing<'a> {
         }
     }
 
-    /// Takes a word in, and says whether it goes with those that stand. Where it doesn't, nothing is said of what
-    /// stands from then on.
+    /// Takes a word in, and says whether it goes with those that stand. Where it doesn't, nothing
+    /// is said of what stands from then on.
     pub(crate) fn take(&mut self, word: &ShapedWord<'a>) -> Result<bool, NoMemory>
-        ensures goes { IfOk result (λ goes. goes ≡ goes_with (kind_under self.old (name_of (seen_word word.now)))
+        ensures goes { IfOk result
+            (λ goes. goes ≡ goes_with (kind_under self.old (name_of (seen_word word.now)))
             self.old.has_current self.old.has_copy (seen_word word.now)) }
-        ensures stands { IfOk result (λ goes. goes ≡ true → (ws : List Word) → IsStanding ws self.old
+        ensures stands { IfOk result
+            (λ goes. goes ≡ true → (ws : List Word) → IsStanding ws self.old
             → IsStanding (ws ++ seen_word word.now ∷ []) self.new) }
     {
         let there = self.kinds.insert(word.name(), word.sort())?;
@@ -47,7 +49,8 @@ impl<'a> Standing<'a> {
 
     /// Whether a word goes with those that stand, where this stood under its name.
     fn goes_with(&self, there: Option<Option<Kind>>, word: &ShapedWord<'a>) -> bool
-        ensures { result ≡ goes_with there self.now.has_current self.now.has_copy (seen_word word.now) }
+        ensures { result ≡ goes_with there self.now.has_current self.now.has_copy
+            (seen_word word.now) }
     {
         match word {
             ShapedWord::Value(_, value) => fits(there, value.kind()),

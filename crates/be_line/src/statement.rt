@@ -1,7 +1,8 @@
 ghost use Rattle.std.specs.Prelude.{◌≡◌};
 ghost use Rattle.std.specs.Map.{lookup};
 ghost use Rattle.std.specs.Str.{bytes_eq};
-ghost use Rattle.be_line.specs.FirstWords.{declaration_words, instruction_words, statement_of, seat_of, inside, as_command, is_of_drawing};
+ghost use Rattle.be_line.specs.FirstWords.{declaration_words, instruction_words, statement_of};
+ghost use Rattle.be_line.specs.FirstWords.{seat_of, inside, as_command, is_of_drawing};
 
 use crate::site::{Allowed, Seat};
 use be_command::FirstWord;
@@ -198,7 +199,8 @@ fn is_of_drawing(word: FirstWord) -> bool
     }
 }
 
-/// The place of an instruction: bodies of handlers, Draw bodies, programs without a lock and under one.
+/// The place of an instruction: bodies of handlers, Draw bodies, programs without a lock and under
+/// one.
 fn inside(in_handler: bool, in_draw: bool, in_program: bool, under_lock: bool) -> Seat
     ensures { result ≡ inside in_handler in_draw in_program under_lock }
 {

@@ -1,5 +1,7 @@
-ghost use Rattle.std.specs.Prelude.{◌≡◌, ◌+◌, ◌-◌, ◌^◌, ◌<◌, ◌↔◌, true, length, option_map, slice_get, IsErr, IfOk, IfErr, OnOk, OnErr};
-ghost use Rattle.be_link.specs.Queues.{empty_buffer, is_full, numbered, with_command, without_oldest, IsBuffer};
+ghost use Rattle.std.specs.Prelude.{◌≡◌, ◌+◌, ◌-◌, ◌^◌, ◌<◌, ◌↔◌, true, length, option_map};
+ghost use Rattle.std.specs.Prelude.{slice_get, IsErr, IfOk, IfErr, OnOk, OnErr};
+ghost use Rattle.be_link.specs.Queues.{empty_buffer, is_full, numbered, with_command};
+ghost use Rattle.be_link.specs.Queues.{without_oldest, IsBuffer};
 
 use crate::fault::BufferFull;
 use be_command::Command;

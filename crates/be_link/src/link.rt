@@ -1,4 +1,5 @@
-ghost use Rattle.std.specs.Prelude.{◌≡◌, ◌≤◌, ◌<◌, ◌↔◌, ◌++◌, ◌∷◌, false, [], length, slice_get, option_map, IsErr, IfOk, OnOk, OnErr};
+ghost use Rattle.std.specs.Prelude.{◌≡◌, ◌≤◌, ◌<◌, ◌↔◌, ◌++◌, ◌∷◌, false, [], length, slice_get};
+ghost use Rattle.std.specs.Prelude.{option_map, IsErr, IfOk, OnOk, OnErr};
 ghost use Rattle.be_link.specs.Queues.{numbered, fits, lengthened, emptied, shortened};
 
 use crate::buffer::Buffer;

@@ -14,4 +14,5 @@ owner_of (holders.Itself handled) = Own
 abbrev pub hand_of : Holder → Option loopers.Handled
 hand_of holders.Nobody = None
 hand_of (holders.App app) = None
-hand_of (holders.Itself handled) = Some record { letter = handled.letter; message = handled.message; route = handled.route }
+hand_of (holders.Itself handled) =
+    Some record { letter = handled.letter; message = handled.message; route = handled.route }

@@ -9,8 +9,10 @@ use Rattle.be_port.specs.Ports as port
 use Rattle.be_port.specs.StandsFor.{LetterStandsFor}
 use Rattle.be_looper.specs.declared.Owner.TheVariants as owners
 use Rattle.be_looper.specs.Duties.{Hand, in_hand, waiter, reply_answer}
-use Rattle.be_looper.specs.Loopers.{Looper, free_looper, locked_by, with_hand, freed, duty_of, with_duty, reply_result, replied}
-use Rattle.be_looper.specs.StandsFor.{Holding, free, locked, handling, hand_in, with_duty_by, LooperStandsFor}
+use Rattle.be_looper.specs.Loopers.{Looper, free_looper, locked_by, with_hand, freed, duty_of}
+use Rattle.be_looper.specs.Loopers.{with_duty, reply_result, replied}
+use Rattle.be_looper.specs.StandsFor.{Holding, free, locked, handling, hand_in, with_duty_by}
+use Rattle.be_looper.specs.StandsFor.{LooperStandsFor}
 
 abbrev pub OpensAsLooper : Type 0
 OpensAsLooper = LooperStandsFor free_looper free empty_buffer
@@ -23,11 +25,15 @@ OwnedAsLooper =
     × ((l.hand ≡ None) ↔ (hand_in h ≡ None))
 
 abbrev pub LocksAsLooper : Type 0
-LocksAsLooper = (l : Looper) (b : Buffer) → LooperStandsFor l free b → (m : ℕ) → LooperStandsFor (locked_by m l) (locked m) b
+LocksAsLooper =
+    (l : Looper) (b : Buffer) → LooperStandsFor l free b → (m : ℕ)
+    → LooperStandsFor (locked_by m l) (locked m) b
 
 -- at an unlock and at the end of a message
 abbrev pub FreesAsLooper : Type 0
-FreesAsLooper = (l : Looper) (h : Holding) (b : Buffer) → LooperStandsFor l h b → LooperStandsFor (freed l) free b
+FreesAsLooper =
+    (l : Looper) (h : Holding) (b : Buffer) → LooperStandsFor l h b
+    → LooperStandsFor (freed l) free b
 
 -- the letter is the machine's, and its message is begun
 abbrev pub BeginsAsLooper : Type 0
@@ -42,7 +48,8 @@ HandlesAsLooper =
     (l : Looper) (hand : Hand Message) (b : Buffer) → LooperStandsFor l (handling hand) b →
     (option_map (λ handled. handled.message) l.hand ≡ Some hand.letter.body)
     × (option_map (λ handled. handled.route) l.hand ≡ Some hand.route)
-    × (option_map (λ handled. handled.letter.hop) l.hand ≡ Some hand.letter.hop) × (duty_of l ≡ Some hand.duty)
+    × (option_map (λ handled. handled.letter.hop) l.hand ≡ Some hand.letter.hop)
+    × (duty_of l ≡ Some hand.duty)
 
 -- a reply is answered as the duty says, and reaches who waits
 abbrev pub RepliesAsLooper : Type 0

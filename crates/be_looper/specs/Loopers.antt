@@ -1,5 +1,6 @@
--- A looper: who owns it, the message that it handles, and the commands that its window hasn't flushed (The Be Book:
--- BLooper, Lock, Unlock; that a message in hand makes the looper its own owner, and the buffer, are this project's own).
+-- A looper: who owns it, the message that it handles, and the commands that its window hasn't
+-- flushed (The Be Book: BLooper, Lock, Unlock; that a message in hand makes the looper its own
+-- owner, and the buffer, are this project's own).
 use Rattle.std.specs.Prelude.{ℕ, Option, Some, None, option_map, Result, Ok, Err}
 use Rattle.be_handler.specs.declared.Route.{Route}
 use Rattle.be_link.specs.Queues.{Buffer, empty_buffer}
@@ -10,7 +11,8 @@ use Rattle.be_looper.specs.Duties.{ReplyAnswer, reaches, is_second, is_unwanted,
 use Rattle.be_looper.specs.declared.Owner.{Owner}
 use Rattle.be_looper.specs.declared.Owner.TheVariants.{Free, Own, App}
 use Rattle.be_looper.specs.declared.fault.ReplyFault.{ReplyFault}
-use Rattle.be_looper.specs.declared.fault.ReplyFault.TheVariants.{NoMessage, NoReplyWanted, DuplicateReply}
+use Rattle.be_looper.specs.declared.fault.ReplyFault.TheVariants.{NoMessage, NoReplyWanted}
+use Rattle.be_looper.specs.declared.fault.ReplyFault.TheVariants.{DuplicateReply}
 
 -- a message in hand
 pub record Handled : Type 0 where
@@ -35,7 +37,12 @@ locked_by m l = record l { owner = App m }
 
 -- it has a message in hand, and so is its own
 abbrev pub with_hand : Letter → Message → Route → Looper → Looper
-with_hand letter message route l = record l { owner = Own; hand = Some record { letter = letter; message = message; route = route } }
+with_hand letter message route l =
+    record l {
+      owner = Own;
+      hand = Some
+          record { letter = letter; message = message; route = route };
+    }
 
 -- it has let go of the message in hand, or the application of it
 abbrev pub freed : Looper → Looper

@@ -1,10 +1,12 @@
-ghost use Rattle.std.specs.Prelude.{◌≡◌, ◌↔◌, None, Some, true, option_map, option_copied, is_some, IsOk, IsErr, IfOk, IfErr, OnOk, OnErr};
+ghost use Rattle.std.specs.Prelude.{◌≡◌, ◌↔◌, None, Some, true, option_map, option_copied, is_some};
+ghost use Rattle.std.specs.Prelude.{IsOk, IsErr, IfOk, IfErr, OnOk, OnErr};
 ghost use Rattle.std.specs.Borrow.{Lends, sem};
 ghost use Rattle.be_link.specs.contracts.buffer.Buffer as buffers;
 ghost use Rattle.be_looper.specs.contracts.looper.Looper.{the_row};
 ghost use Rattle.be_looper.specs.declared.Owner.TheVariants as owners;
 ghost use Rattle.be_looper.specs.Duties.{duty_handed_on, duty_after_reply, duty_after_forward};
-ghost use Rattle.be_looper.specs.Loopers.{free_looper, locked_by, with_hand, freed, duty_of, with_duty, replied};
+ghost use Rattle.be_looper.specs.Loopers.{free_looper, locked_by, with_hand, freed, duty_of};
+ghost use Rattle.be_looper.specs.Loopers.{with_duty, replied};
 
 use crate::Owner;
 use crate::fault::{BeginFault, Held, NoMessage, NotOwner, ReplyFault};
@@ -158,7 +160,8 @@ impl Looper {
     /// `BLooper::DetachCurrentMessage`. It isn't left here.
     pub fn detach(&mut self) -> Result<Duty, NoMessage>
         ensures refused { IsErr result ↔ (self.old.hand ≡ None) }
-        ensures duty { IfOk result (λ duty. option_map duty_handed_on (duty_of self.old) ≡ Some duty) }
+        ensures duty { IfOk result
+            (λ duty. option_map duty_handed_on (duty_of self.old) ≡ Some duty) }
         ensures after { self.new ≡ with_duty duty_after_forward self.old }
     {
         match &mut self.holder {

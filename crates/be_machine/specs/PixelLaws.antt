@@ -1,9 +1,12 @@
--- What is proved of single pixels, beside what Laws says of windows. Each statement is the contract of a function in
--- src/laws.
-use Rattle.std.specs.Prelude.{◌≡◌, ◌⊎◌, ◌*◌, ℕ, ℤ, Bool, true, false, List, length, Some, Ok, slice_get}
+-- What is proved of single pixels, beside what Laws says of windows. Each statement is the contract
+-- of a function in src/laws.
+use Rattle.std.specs.Prelude.{◌≡◌, ◌⊎◌, ◌*◌, ℕ, ℤ, Bool, true, false, List, length, Some, Ok}
+use Rattle.std.specs.Prelude.{slice_get}
 use Rattle.be_color.specs.declared.colors.Color.{Color}
-use Rattle.be_command.specs.Effects.{Deed, draws, sets, colors, saves, restores, copies, invalidates, at_view, changes, effect_of}
-use Rattle.be_desk.specs.Changes.{Desk, still, motion_of, view_here, color_of, place_here, desk_after}
+use Rattle.be_command.specs.Effects.{Deed, draws, sets, colors, saves, restores, copies}
+use Rattle.be_command.specs.Effects.{invalidates, at_view, changes, effect_of}
+use Rattle.be_desk.specs.Changes.{Desk, still, motion_of, view_here, color_of, place_here}
+use Rattle.be_desk.specs.Changes.{desk_after}
 use Rattle.be_geom.specs.declared.change.Change.{Change}
 use Rattle.be_geom.specs.declared.point.Point.{Point}
 use Rattle.be_geom.specs.Places.{at_pixel, less}
@@ -31,36 +34,45 @@ use Rattle.be_machine.specs.Windows.{width_of, corner_at, tree_at, view_colors}
 abbrev pub ScreenIsWhole : Type 0
 ScreenIsWhole =
     (d : Declared) (h : List Entry) → IsLegalHistory d h
-    → (width_of (state_after d h) ≡ d.width) × ((state_after d h).desk.windows.height ≡ d.height) × (length (state_after d h).screen ≡ d.width * d.height)
+    → (width_of (state_after d h) ≡ d.width) × ((state_after d h).desk.windows.height ≡ d.height)
+    × (length (state_after d h).screen ≡ d.width * d.height)
 
 -- a pixel that a window owns has a cell
 abbrev pub OwnedHaveCells : Type 0
 OwnedHaveCells =
-    (d : Declared) (h : List Entry) (w : ℕ) (x y : ℤ) → IsLegalHistory d h → owner_in (state_after d h) x y ≡ Some w
+    (d : Declared) (h : List Entry) (w : ℕ) (x y : ℤ) → IsLegalHistory d h
+    → owner_in (state_after d h) x y ≡ Some w
     → (cell : Cell) × (pixel_at (state_after d h) x y ≡ Some cell)
 
 -- one of the window's views is at it
 abbrev pub OwnedHaveViews : Type 0
 OwnedHaveViews =
-    (d : Declared) (h : List Entry) (w : ℕ) (x y : ℤ) → IsLegalHistory d h → owner_in (state_after d h) x y ≡ Some w
+    (d : Declared) (h : List Entry) (w : ℕ) (x y : ℤ) → IsLegalHistory d h
+    → owner_in (state_after d h) x y ≡ Some w
     → (v : ℕ) × (view_here (state_after d h).desk w x y ≡ Some v)
 
 -- and that view has a colour
 abbrev pub OwnedHaveColors : Type 0
 OwnedHaveColors =
-    (d : Declared) (h : List Entry) (w : ℕ) (x y : ℤ) → IsLegalHistory d h → owner_in (state_after d h) x y ≡ Some w
-    → (color : Color) × (color_of (view_colors (state_after d h)) w (view_here (state_after d h).desk w x y) ≡ Some color)
+    (d : Declared) (h : List Entry) (w : ℕ) (x y : ℤ) → IsLegalHistory d h
+    → owner_in (state_after d h) x y ≡ Some w
+    → (color : Color) × (color_of (view_colors (state_after d h)) w
+    (view_here (state_after d h).desk w x y) ≡ Some color)
 
--- So has each pixel that a window owns after any change: whatever a change exposes is given a colour and a mark.
+-- So has each pixel that a window owns after any change: whatever a change exposes is given a
+-- colour and a mark.
 abbrev pub ExposedHaveColors : Type 0
 ExposedHaveColors =
-    (d : Declared) (h : List Entry) (w u : ℕ) (change : Change) (desk : Desk) (x y : ℤ) → IsLegalHistory d h
+    (d : Declared) (h : List Entry) (w u : ℕ) (change : Change) (desk : Desk) (x y : ℤ)
+    → IsLegalHistory d h
     → desk_after (state_after d h).desk w change ≡ Ok desk → owner_at desk.windows x y ≡ Some u
-    → (color : Color) × (color_of (view_colors (state_after d h)) u (view_here desk u x y) ≡ Some color)
+    → (color : Color) × (color_of (view_colors (state_after d h)) u (view_here desk u x y)
+    ≡ Some color)
 
 -- ---- what a command reaches
 
--- Window w owns the pixel and its view v is the one at it; each clip of the view has it, and so has an open session.
+-- Window w owns the pixel and its view v is the one at it; each clip of the view has it, and so has
+-- an open session.
 pub record IsReachedAt (s : State) (w v : ℕ) (x y : ℤ) : Type 0 where
   pub pane : Pane
   pub kept : slice_get s.panes w ≡ Some pane
@@ -73,7 +85,8 @@ pub record IsReachedAt (s : State) (w v : ℕ) (x y : ℤ) : Type 0 where
   pub drawn : slice_get pane.stacks v ≡ Some stack
   pub owner : owner_in s x y ≡ Some w
   pub view : view_here s.desk w x y ≡ Some v
-  pub clips : allows stack (less (less (at_pixel x y) corner) place).x (less (less (at_pixel x y) corner) place).y ≡ true
+  pub clips : allows stack (less (less (at_pixel x y) corner) place).x
+      (less (less (at_pixel x y) corner) place).y ≡ true
   pub session : session_has pane.session (less (at_pixel x y) corner) ≡ true
 
 -- whether a deed exposes pixels again, which goes past clips, sessions and the view's own pixels
@@ -86,11 +99,14 @@ is_invalidating saves = false
 is_invalidating restores = false
 is_invalidating (copies source target) = false
 
--- a command at a view changes only pixels that it reaches: neither a child's, nor one past a clip or a session
+-- a command at a view changes only pixels that it reaches: neither a child's, nor one past a clip
+-- or a session
 abbrev pub CommandsReachTheirView : Type 0
 CommandsReachTheirView =
-    (d : Declared) (s : State) (e : Entry) (w v : ℕ) (c : Numbered) (deed : Deed) (x y : ℤ) → Executes d s e w c
-    → effect_of c.command ≡ at_view v deed → is_invalidating deed ≡ false → (pixel_at (step d s e) x y ≡ pixel_at s x y → ⊥)
+    (d : Declared) (s : State) (e : Entry) (w v : ℕ) (c : Numbered) (deed : Deed) (x y : ℤ)
+    → Executes d s e w c
+    → effect_of c.command ≡ at_view v deed → is_invalidating deed ≡ false
+    → (pixel_at (step d s e) x y ≡ pixel_at s x y → ⊥)
     → IsReachedAt s w v x y
 
 -- the window owns the pixel, and the view at it is view v or lies in it
@@ -105,8 +121,10 @@ pub record IsWithinView (s : State) (w v : ℕ) (x y : ℤ) : Type 0 where
 -- invalidating changes pixels of the view and of those in it alone
 abbrev pub InvalidatingStaysInside : Type 0
 InvalidatingStaysInside =
-    (d : Declared) (s : State) (e : Entry) (w v : ℕ) (c : Numbered) (deed : Deed) (x y : ℤ) → Executes d s e w c
-    → effect_of c.command ≡ at_view v deed → is_invalidating deed ≡ true → (pixel_at (step d s e) x y ≡ pixel_at s x y → ⊥)
+    (d : Declared) (s : State) (e : Entry) (w v : ℕ) (c : Numbered) (deed : Deed) (x y : ℤ)
+    → Executes d s e w c
+    → effect_of c.command ≡ at_view v deed → is_invalidating deed ≡ true
+    → (pixel_at (step d s e) x y ≡ pixel_at s x y → ⊥)
     → IsWithinView s w v x y
 
 -- ---- colours and marks
@@ -132,19 +150,27 @@ is_painting act.Stop = false
 
 -- no other entry changes a colour
 abbrev pub ColorsChangeByFew : Type 0
-ColorsChangeByFew = (d : Declared) (s : State) (e : Entry) (x y : ℤ) → IsLegal d s e → is_painting e.act ≡ false → color_at (step d s e) x y ≡ color_at s x y
+ColorsChangeByFew =
+    (d : Declared) (s : State) (e : Entry) (x y : ℤ) → IsLegal d s e → is_painting e.act ≡ false
+    → color_at (step d s e) x y ≡ color_at s x y
 
--- where a command changes a window, each pixel that its owner keeps stays, unless the owner is moved or resized
+-- where a command changes a window, each pixel that its owner keeps stays, unless the owner is
+-- moved or resized
 abbrev pub KeptPixelsStay : Type 0
 KeptPixelsStay =
-    (d : Declared) (s : State) (e : Entry) (w u : ℕ) (c : Numbered) (change : Change) (x y : ℤ) → Executes d s e w c
+    (d : Declared) (s : State) (e : Entry) (w u : ℕ) (c : Numbered) (change : Change) (x y : ℤ)
+    → Executes d s e w c
     → effect_of c.command ≡ changes change → (motion_of change ≡ still) ⊎ (u ≡ w → ⊥)
-    → owner_in s x y ≡ Some u → owner_in (step d s e) x y ≡ Some u → pixel_at (step d s e) x y ≡ pixel_at s x y
+    → owner_in s x y ≡ Some u → owner_in (step d s e) x y ≡ Some u
+    → pixel_at (step d s e) x y ≡ pixel_at s x y
 
--- A pixel that a window comes to own waits to be drawn, unless the window is moved: a move brings its pixels along.
+-- A pixel that a window comes to own waits to be drawn, unless the window is moved: a move brings
+-- its pixels along.
 abbrev pub ExposedAreMarked : Type 0
 ExposedAreMarked =
-    (d : Declared) (h : List Entry) (e : Entry) (u : ℕ) (x y : ℤ) → IsLegalHistory d h → IsLegal d (state_after d h) e
+    (d : Declared) (h : List Entry) (e : Entry) (u : ℕ) (x y : ℤ) → IsLegalHistory d h
+    → IsLegal d (state_after d h) e
     → corner_at (step d (state_after d h) e) u ≡ corner_at (state_after d h) u
-    → (owner_in (state_after d h) x y ≡ Some u → ⊥) → owner_in (step d (state_after d h) e) x y ≡ Some u
+    → (owner_in (state_after d h) x y ≡ Some u → ⊥)
+    → owner_in (step d (state_after d h) e) x y ≡ Some u
     → mark_at (step d (state_after d h) e) x y ≡ Some true

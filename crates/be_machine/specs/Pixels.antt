@@ -1,5 +1,6 @@
 -- What is said of single pixels of a state, and of who may change them.
-use Rattle.std.specs.Prelude.{◌≡◌, ◌⊎◌, ℕ, ℤ, Bool, Option, Some, slice_get, option_map, option_and_then}
+use Rattle.std.specs.Prelude.{◌≡◌, ◌⊎◌, ℕ, ℤ, Bool, Option, Some, slice_get, option_map}
+use Rattle.std.specs.Prelude.{option_and_then}
 use Rattle.be_color.specs.declared.colors.Rgb.{Rgb}
 use Rattle.be_link.specs.Queues.{Numbered}
 use Rattle.be_script.specs.Script.{Declared}
@@ -30,7 +31,8 @@ owner_in s x y = owner_at s.desk.windows x y
 
 -- the entry's activity serves window u: it is its looper or its twin
 abbrev pub Serves : Declared → ℕ → Entry → Type 0
-Serves d u e = (activity_of d e.actor ≡ Some (runner (looper u))) ⊎ (activity_of d e.actor ≡ Some (twin u))
+Serves d u e =
+    (activity_of d e.actor ≡ Some (runner (looper u))) ⊎ (activity_of d e.actor ≡ Some (twin u))
 
 -- a legal entry executes this command, the oldest of window w's link
 pub record Executes (d : Declared) (s : State) (e : Entry) (w : ℕ) (c : Numbered) : Type 0 where

@@ -1,12 +1,16 @@
--- How many entries a state can still come to, at most: the sum of its parts' shares (this project's own).
-use Rattle.std.specs.Prelude.{ℕ, ◌+◌, ◌-◌, ◌==◌, ◌&&◌, not, Bool, List, [], ◌∷◌, drop, sum_by, filter, flat_map, Option, Some, None, slice_get, if◌then◌else◌}
+-- How many entries a state can still come to, at most: the sum of its parts' shares (this project's
+-- own).
+use Rattle.std.specs.Prelude.{ℕ, ◌+◌, ◌-◌, ◌==◌, ◌&&◌, not, Bool, List, [], ◌∷◌, drop, sum_by}
+use Rattle.std.specs.Prelude.{filter, flat_map, Option, Some, None, slice_get, if◌then◌else◌}
 use Rattle.be_actor.specs.declared.Instruction.{Instruction}
 use Rattle.be_actor.specs.declared.Instruction.TheVariants as instruction
 use Rattle.be_actor.specs.declared.Place.{Place}
-use Rattle.be_command.specs.Effects.{Effect, at_view, changes, ends_update, Deed, draws, sets, colors, saves, restores, copies, invalidates, effect_of}
+use Rattle.be_command.specs.Effects.{Effect, at_view, changes, ends_update, Deed, draws, sets}
+use Rattle.be_command.specs.Effects.{colors, saves, restores, copies, invalidates, effect_of}
 use Rattle.be_desk.specs.Changes.{Desk, owns}
 use Rattle.be_geom.specs.declared.change.Change.{Change}
-use Rattle.be_geom.specs.declared.change.Change.TheVariants.{Show, Hide, MoveTo, MoveBy, ResizeTo, Activate, Behind, Focus, Close}
+use Rattle.be_geom.specs.declared.change.Change.TheVariants.{Show, Hide, MoveTo, MoveBy, ResizeTo}
+use Rattle.be_geom.specs.declared.change.Change.TheVariants.{Activate, Behind, Focus, Close}
 use Rattle.be_link.specs.Queues.{Buffer, Numbered}
 use Rattle.be_looper.specs.Duties.{Hand}
 use Rattle.be_message.specs.declared.target.Target.{Target}
@@ -14,11 +18,13 @@ use Rattle.be_message.specs.Messages.{Message}
 use Rattle.be_pane.specs.Panes.{Pane}
 use Rattle.be_port.specs.Ports.{Letter, Port, queue_of}
 use Rattle.be_script.specs.Script.{Declared}
-use Rattle.be_script.specs.Work.{step_cost, no_message, update_cost, updates_cost, body_cost, post_cost, message_cost, input_cost}
+use Rattle.be_script.specs.Work.{step_cost, no_message, update_cost, updates_cost, body_cost}
+use Rattle.be_script.specs.Work.{post_cost, message_cost, input_cost}
 use Rattle.be_span.specs.declared.Cell.{Cell}
 use Rattle.be_update.specs.Sessions.{is_any, dirty_pixels}
 use Rattle.be_machine.specs.Program.{app_program, letter_program, update_program}
-use Rattle.be_machine.specs.State.{State, App, Looper, free, locked, handling, Stage, in_body, beginning, in_update, ending}
+use Rattle.be_machine.specs.State.{State, App, Looper, free, locked, handling, Stage, in_body}
+use Rattle.be_machine.specs.State.{beginning, in_update, ending}
 
 -- ---- sums
 
@@ -33,7 +39,8 @@ weight f xs = weight_from f 0 xs
 
 -- ---- commands
 
--- what a change, a deed and a command can bring beside being made, flushed and executed: an update of each window
+-- what a change, a deed and a command can bring beside being made, flushed and executed: an update
+-- of each window
 abbrev pub change_exposure : ℕ → Change → ℕ
 change_exposure updates (Focus view) = 0
 change_exposure updates Show = updates
@@ -71,7 +78,8 @@ in_buffer updates c = 2 + exposure updates (effect_of c.command)
 
 -- what an instruction still takes from this part of it on
 abbrev pub here : (Instruction → ℕ) → ℕ → Instruction → ℕ
-here cost part (instruction.Send w target draft) = if part == 0 then cost (instruction.Send w target draft) else 1
+here cost part (instruction.Send w target draft) =
+    if part == 0 then cost (instruction.Send w target draft) else 1
 here cost part instruction.Sync = if part == 0 then cost instruction.Sync else 1
 here cost part (instruction.Note text) = cost (instruction.Note text)
 here cost part (instruction.Post w target draft) = cost (instruction.Post w target draft)
@@ -89,7 +97,9 @@ here_of cost part None = 0
 
 -- what is left of a program
 unfoldable pub left : (Instruction → ℕ) → List Instruction → Place → ℕ
-left cost program place = here_of cost place.part (slice_get program place.step) + sum_by cost (drop (place.step + 1) program)
+left cost program place =
+    here_of cost place.part (slice_get program place.step) + sum_by cost
+    (drop (place.step + 1) program)
 
 -- a post of this hop
 abbrev pub post_at : Declared → ℕ → ℕ → Target → ℕ → ℕ
@@ -109,7 +119,8 @@ draw_cost = step_cost 0 no_message no_message 0
 
 -- all Draw bodies of a window
 abbrev pub draws_cost : Declared → ℕ → ℕ
-draws_cost d w = sum_by draw_cost (flat_map (λ line. line.program) (filter (λ line. line.window == w) d.draws))
+draws_cost d w =
+    sum_by draw_cost (flat_map (λ line. line.program) (filter (λ line. line.window == w) d.draws))
 
 -- ---- letters
 
@@ -119,11 +130,15 @@ message_share d hop w target what = body_cost d (updates_cost d) (post_at d (hop
 
 -- a letter that waits, a notice with the update that it brings
 abbrev pub letter_share : Declared → ℕ → Letter Message → ℕ
-letter_share d w letter = if letter.notice then 6 + draws_cost d w else message_share d letter.hop w letter.target letter.body.what
+letter_share d w letter =
+    if letter.notice then 6 + draws_cost d w
+    else message_share d letter.hop w letter.target letter.body.what
 
 -- a letter in hand, by how far its looper is
 abbrev pub stage_share : Declared → ℕ → Hand Message → Stage → ℕ
-stage_share d w hand (in_body place) = 1 + left (body_step_cost d hand.letter.hop hand.letter.body.what) (letter_program d w hand) place
+stage_share d w hand (in_body place) =
+    1 + left (body_step_cost d hand.letter.hop hand.letter.body.what) (letter_program d w hand)
+    place
 stage_share d w hand beginning = 5 + draws_cost d w
 stage_share d w hand (in_update views place) = 4 + left draw_cost (update_program d w views) place
 stage_share d w hand ending = 1
@@ -166,7 +181,8 @@ dirt cost dirty pane = if dirty && not pane.notified then cost else 0
 
 -- all windows with dirty pixels
 unfoldable pub dirt_share : Declared → Desk → List Cell → List Pane → ℕ
-dirt_share d desk screen panes = weight (λ w pane. dirt (update_cost d w) (is_dirty desk screen w) pane) panes
+dirt_share d desk screen panes =
+    weight (λ w pane. dirt (update_cost d w) (is_dirty desk screen w) pane) panes
 
 -- the events to come
 unfoldable pub input_share : Declared → ℕ → ℕ

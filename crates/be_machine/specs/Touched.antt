@@ -4,7 +4,8 @@ use Rattle.be_actor.specs.declared.Wish.{Wish}
 use Rattle.be_actor.specs.declared.Wish.TheVariants as wish
 use Rattle.be_command.specs.Effects.{Effect, at_view, changes, ends_update, effect_of}
 use Rattle.be_geom.specs.declared.change.Change.{Change}
-use Rattle.be_geom.specs.declared.change.Change.TheVariants.{Show, Hide, MoveTo, MoveBy, ResizeTo, Activate, Behind, Focus, Close}
+use Rattle.be_geom.specs.declared.change.Change.TheVariants.{Show, Hide, MoveTo, MoveBy, ResizeTo}
+use Rattle.be_geom.specs.declared.change.Change.TheVariants.{Activate, Behind, Focus, Close}
 use Rattle.be_input.specs.Deliveries.{Post, Delivery}
 use Rattle.be_input.specs.declared.Event.TheVariants as event
 use Rattle.be_link.specs.Queues.{Numbered}
@@ -18,7 +19,8 @@ use Rattle.be_machine.specs.Pixels.{owner_in, pixel_at}
 use Rattle.be_machine.specs.Program.{hand_of, hand_at, window_of}
 use Rattle.be_machine.specs.State.{State}
 use Rattle.be_machine.specs.Windows.{corner_at, tree_at}
-use Rattle.be_machine.specs.Wants.{Want, asks, takes, begins, flushes, draws_end, ends, notifies, executes, uses, stops}
+use Rattle.be_machine.specs.Wants.{Want, asks, takes, begins, flushes, draws_end, ends, notifies}
+use Rattle.be_machine.specs.Wants.{executes, uses, stops}
 
 -- ---- parts
 
@@ -33,27 +35,34 @@ pub data Part : Type 0 where
   looper : ℕ → Part
   port : ℕ → Part
   link : ℕ → Part
-  -- what the server keeps of a window, its left top and its views, which pixels the window owns, and their cells
+  -- what the server keeps of a window, its left top and its views, which pixels the window owns,
+  -- and their cells
   pane : ℕ → Part
 
 -- a pixel that one of the two states gives window u has the same cell, and the same owner, in both
 abbrev pub SamePixels : State → State → ℕ → Type 0
-SamePixels s r u = (x y : ℤ) → (owner_in s x y ≡ Some u) ⊎ (owner_in r x y ≡ Some u) → (owner_in r x y ≡ owner_in s x y) × (pixel_at r x y ≡ pixel_at s x y)
+SamePixels s r u =
+    (x y : ℤ) → (owner_in s x y ≡ Some u) ⊎ (owner_in r x y ≡ Some u)
+    → (owner_in r x y ≡ owner_in s x y) × (pixel_at r x y ≡ pixel_at s x y)
 
 -- the part is the same in both states
 abbrev pub SamePart : State → State → Part → Type 0
 SamePart s r desk = r.desk ≡ s.desk
 SamePart s r input = (r.events ≡ s.events) × (r.stopped ≡ s.stopped)
 SamePart s r (cell m) = slice_get r.apps m ≡ slice_get s.apps m
-SamePart s r (looper w) = (slice_get r.loopers w ≡ slice_get s.loopers w) × (slice_get r.buffers w ≡ slice_get s.buffers w)
+SamePart s r (looper w) =
+    (slice_get r.loopers w ≡ slice_get s.loopers w)
+    × (slice_get r.buffers w ≡ slice_get s.buffers w)
 SamePart s r (port w) = slice_get r.ports w ≡ slice_get s.ports w
 SamePart s r (link w) = slice_get r.links w ≡ slice_get s.links w
 SamePart s r (pane w) =
-    (slice_get r.panes w ≡ slice_get s.panes w) × SamePixels s r w × (corner_at r w ≡ corner_at s w) × (tree_at r w ≡ tree_at s w)
+    (slice_get r.panes w ≡ slice_get s.panes w) × SamePixels s r w × (corner_at r w ≡ corner_at s w)
+    × (tree_at r w ≡ tree_at s w)
 
 -- ---- what instructions touch
 
--- something of the window that a runner owns, or of the application that waits for the message in its hand
+-- something of the window that a runner owns, or of the application that waits for the message in
+-- its hand
 abbrev pub IsOf : (ℕ → Part) → Option ℕ → Part → Type 0
 IsOf part (Some n) p = p ≡ part n
 IsOf part None p = ⊥
@@ -64,7 +73,8 @@ TouchesBy s who (wish.Note word) p = ⊥
 TouchesBy s who (wish.Post w target message) p = p ≡ port w
 TouchesBy s who (wish.Send w target message) p = p ≡ port w
 TouchesBy s who (wish.Forward w target) p = p ≡ port w
-TouchesBy s who (wish.Reply message) p = IsOf cell (option_and_then (λ hand. waiter hand.duty) (hand_of s who)) p
+TouchesBy s who (wish.Reply message) p =
+    IsOf cell (option_and_then (λ hand. waiter hand.duty) (hand_of s who)) p
 TouchesBy s who wish.Claim p = ⊥
 TouchesBy s who (wish.Lock w) p = p ≡ looper w
 TouchesBy s who wish.Unlock p = IsOf looper (window_of s who) p
@@ -79,9 +89,13 @@ own_part (by.looper w) = looper w
 
 -- ---- what changes and events touch
 
--- Window w's pane, and those of the windows whose pixels on the screen are others in the second state.
+-- Window w's pane, and those of the windows whose pixels on the screen are others in the second
+-- state.
 abbrev pub TouchesPanes : State → State → ℕ → Part → Type 0
-TouchesPanes s r w p = (u : ℕ) × (p ≡ pane u) × ((u ≡ w) ⊎ ((x : ℤ) × (y : ℤ) × ((owner_in s x y ≡ Some u) ⊎ (owner_in r x y ≡ Some u)) × (owner_in r x y ≡ owner_in s x y → ⊥)))
+TouchesPanes s r w p =
+    (u : ℕ) × (p ≡ pane u) × ((u ≡ w)
+    ⊎ ((x : ℤ) × (y : ℤ) × ((owner_in s x y ≡ Some u) ⊎ (owner_in r x y ≡ Some u))
+    × (owner_in r x y ≡ owner_in s x y → ⊥)))
 
 -- a closed window's port is closed too
 abbrev pub TouchesPort : ℕ → Change → Part → Type 0
@@ -115,7 +129,9 @@ TouchesActive s r (Some w) p = TouchesPanes s r w p
 TouchesActive s r None p = ⊥
 
 abbrev pub TouchesDelivered : State → State → Delivery → Part → Type 0
-TouchesDelivered s r delivery p = (p ≡ desk) ⊎ IsPostTo delivery.first p ⊎ IsPostTo delivery.second p ⊎ TouchesActive s r delivery.activate p
+TouchesDelivered s r delivery p =
+    (p ≡ desk) ⊎ IsPostTo delivery.first p ⊎ IsPostTo delivery.second p
+    ⊎ TouchesActive s r delivery.activate p
 
 -- what an event touches beside the input
 abbrev pub TouchesEvent : State → State → InputLine → Part → Type 0
@@ -127,15 +143,19 @@ TouchesEvent s r (line.After m) p = p ≡ cell m
 
 -- ---- all wants
 
--- The parts that an entry may change that meets this want in state s, and leaves state r. Stop touches all of them.
+-- The parts that an entry may change that meets this want in state s, and leaves state r. Stop
+-- touches all of them.
 abbrev pub Touches : State → State → Want → Part → Type 0
 Touches s r (asks who wish) p = (p ≡ own_part who) ⊎ TouchesBy s who wish p
 Touches s r (takes w) p = (p ≡ looper w) ⊎ (p ≡ port w)
 Touches s r (begins w) p = (p ≡ looper w) ⊎ (p ≡ link w) ⊎ (p ≡ pane w)
 Touches s r (flushes w) p = (p ≡ looper w) ⊎ (p ≡ link w)
 Touches s r (draws_end w) p = p ≡ looper w
-Touches s r (ends w) p = (p ≡ looper w) ⊎ IsOf cell (option_and_then (λ hand. waiter hand.duty) (hand_at s w)) p
+Touches s r (ends w) p =
+    (p ≡ looper w) ⊎ IsOf cell (option_and_then (λ hand. waiter hand.duty) (hand_at s w)) p
 Touches s r (notifies w) p = (p ≡ port w) ⊎ (p ≡ pane w)
-Touches s r (executes w) p = (p ≡ link w) ⊎ TouchesOldest s r w (option_and_then (λ l. slice_get l 0) (slice_get s.links w)) p
+Touches s r (executes w) p =
+    (p ≡ link w) ⊎ TouchesOldest s r w (option_and_then (λ l. slice_get l 0) (slice_get s.links w))
+    p
 Touches s r (uses event) p = (p ≡ input) ⊎ TouchesEvent s r event p
 Touches s r stops p = Unit {0}

@@ -1,13 +1,16 @@
--- A value written as a list of tokens that gives it back, by which two values are told apart (this project's own).
+-- A value written as a list of tokens that gives it back, by which two values are told apart (this
+-- project's own).
 use Rattle.std.specs.Prelude.{◌≡◌, refl, ◌⊎◌, ◌==◌, if◌then◌else◌, ℕ, ℤ, Bool, List, [], ◌∷◌}
 use Rattle.std.proofs.Common.{inl, inr}
-use Rattle.std.specs.Coded.{Coded, code_by, coded×, coded⊎, coded_list, coded_ℕ, coded_ℤ, coded_bool}
+use Rattle.std.specs.Coded.{Coded, code_by, coded×, coded⊎, coded_list, coded_ℕ, coded_ℤ}
+use Rattle.std.specs.Coded.{coded_bool}
 use Rattle.be_geom.specs.declared.point.Point.{Point}
 use Rattle.be_geom.specs.declared.rect.Rect.{Rect}
 use Rattle.be_message.specs.declared.kind.Kind.{Kind}
 use Rattle.be_message.specs.declared.kind.Kind.TheVariants as kind
 use Rattle.be_message.specs.Kinds.{kind_number}
-use Rattle.be_message.specs.Messages.{Datum, bool, int, text, point, rect, message, Fields, no_fields, field, Values, no_values, value, Field, Message}
+use Rattle.be_message.specs.Messages.{Datum, bool, int, text, point, rect, message, Fields}
+use Rattle.be_message.specs.Messages.{no_fields, field, Values, no_values, value, Field, Message}
 
 -- the parts of a value in the order in which a pile builds it
 pub data Token : Type 0 where
@@ -33,7 +36,8 @@ with_datum d p = record p { data_built = d ∷ p.data_built }
 
 abbrev with_message : ℕ → List Fields → Pile → Pile
 with_message w [] p = p
-with_message w (fs ∷ more) p = record p { data_built = message w fs ∷ p.data_built; fields_built = more }
+with_message w (fs ∷ more) p =
+    record p { data_built = message w fs ∷ p.data_built; fields_built = more }
 
 abbrev with_value : List Datum → List Values → Pile → Pile
 with_value (d ∷ ds) (vs ∷ more) p = record p { data_built = ds; values_built = value d vs ∷ more }
@@ -41,7 +45,8 @@ with_value [] vs p = p
 with_value (d ∷ ds) [] p = p
 
 abbrev with_field : List ℕ → Kind → List Values → List Fields → Pile → Pile
-with_field name kind (vs ∷ values) (fs ∷ more) p = record p { values_built = values; fields_built = field name kind vs fs ∷ more }
+with_field name kind (vs ∷ values) (fs ∷ more) p =
+    record p { values_built = values; fields_built = field name kind vs fs ∷ more }
 with_field name kind [] fs p = p
 with_field name kind (vs ∷ values) [] p = p
 
@@ -73,14 +78,17 @@ abbrev mutual
 
   fields_tokens : Fields → List Token → List Token
   fields_tokens no_fields rest = the_end_of_fields ∷ rest
-  fields_tokens (field name kind vs fs) rest = values_tokens vs (fields_tokens fs (a_field name kind ∷ rest))
+  fields_tokens (field name kind vs fs) rest =
+      values_tokens vs (fields_tokens fs (a_field name kind ∷ rest))
 
   values_tokens : Values → List Token → List Token
   values_tokens no_values rest = the_end_of_values ∷ rest
   values_tokens (value d vs) rest = values_tokens vs (datum_tokens d (a_value ∷ rest))
 
 mutual
-  pub datum_again : (d : Datum) (rest : List Token) (p : Pile) → all_built (datum_tokens d rest) p ≡ all_built rest (record p { data_built = d ∷ p.data_built })
+  pub datum_again : (d : Datum) (rest : List Token) (p : Pile)
+      → all_built (datum_tokens d rest) p
+      ≡ all_built rest (record p { data_built = d ∷ p.data_built })
   datum_again (bool b) rest p = refl
   datum_again (int z) rest p = refl
   datum_again (text t) rest p = refl
@@ -88,15 +96,27 @@ mutual
   datum_again (rect r) rest p = refl
   datum_again (message w fs) rest p = fields_again fs (a_message w ∷ rest) p
 
-  pub fields_again : (fs : Fields) (rest : List Token) (p : Pile) → all_built (fields_tokens fs rest) p ≡ all_built rest (record p { fields_built = fs ∷ p.fields_built })
+  pub fields_again : (fs : Fields) (rest : List Token) (p : Pile)
+      → all_built (fields_tokens fs rest) p
+      ≡ all_built rest (record p { fields_built = fs ∷ p.fields_built })
   fields_again no_fields rest p = refl
   fields_again (field name kind vs fs) rest p =
-      rw (values_again vs (fields_tokens fs (a_field name kind ∷ rest)) p, fields_again fs (a_field name kind ∷ rest) (record p { values_built = vs ∷ p.values_built })) refl
+      rw (
+        values_again vs (fields_tokens fs (a_field name kind ∷ rest)) p,
+        fields_again fs
+            (a_field name kind ∷ rest) (record p { values_built = vs ∷ p.values_built }),
+      ) refl
 
-  pub values_again : (vs : Values) (rest : List Token) (p : Pile) → all_built (values_tokens vs rest) p ≡ all_built rest (record p { values_built = vs ∷ p.values_built })
+  pub values_again : (vs : Values) (rest : List Token) (p : Pile)
+      → all_built (values_tokens vs rest) p
+      ≡ all_built rest (record p { values_built = vs ∷ p.values_built })
   values_again no_values rest p = refl
   values_again (value d vs) rest p =
-      rw (values_again vs (datum_tokens d (a_value ∷ rest)) p, datum_again d (a_value ∷ rest) (record p { values_built = vs ∷ p.values_built })) refl
+      rw (
+        values_again vs (datum_tokens d (a_value ∷ rest)) p,
+        datum_again d (a_value ∷ rest)
+            (record p { values_built = vs ∷ p.values_built }),
+      ) refl
 
 abbrev nothing_built : Pile
 nothing_built = record { data_built = []; values_built = []; fields_built = [] }
@@ -137,11 +157,14 @@ abbrev pub kind_code : Coded Kind
 kind_code = code_by ℕ coded_ℕ kind_number numbered_kind kind_again
 
 abbrev point_code : Coded Point
-point_code = code_by (ℤ × ℤ) (coded× coded_ℤ coded_ℤ) (λ p. (p.x, p.y)) (λ p. record { x = p.0; y = p.1 }) (λ _. refl)
+point_code =
+    code_by (ℤ × ℤ) (coded× coded_ℤ coded_ℤ) (λ p. (p.x, p.y)) (λ p. record { x = p.0; y = p.1 })
+    (λ _. refl)
 
 abbrev rect_code : Coded Rect
 rect_code =
-    code_by ((ℤ × ℤ) × (ℤ × ℤ)) (coded× (coded× coded_ℤ coded_ℤ) (coded× coded_ℤ coded_ℤ)) (λ r. ((r.left, r.top), (r.right, r.bottom)))
+    code_by ((ℤ × ℤ) × (ℤ × ℤ)) (coded× (coded× coded_ℤ coded_ℤ) (coded× coded_ℤ coded_ℤ))
+    (λ r. ((r.left, r.top), (r.right, r.bottom)))
     (λ p. record { left = p.0.0; top = p.0.1; right = p.1.0; bottom = p.1.1 }) (λ _. refl)
 
 abbrev Parts : Type 0
@@ -186,7 +209,10 @@ token_again (a_field name k) = refl
 
 abbrev token_code : Coded Token
 token_code =
-    code_by Parts (coded⊎ coded_bool (coded⊎ coded_ℤ (coded⊎ (coded_list coded_ℕ) (coded⊎ point_code (coded⊎ rect_code (coded⊎ coded_ℕ (coded⊎ coded_ℕ (coded× (coded_list coded_ℕ) kind_code))))))))
+    code_by Parts (coded⊎ coded_bool
+    (coded⊎ coded_ℤ (coded⊎ (coded_list coded_ℕ)
+    (coded⊎ point_code (coded⊎ rect_code
+    (coded⊎ coded_ℕ (coded⊎ coded_ℕ (coded× (coded_list coded_ℕ) kind_code))))))))
     parts_of token_from token_again
 
 abbrev pub datum_code : Coded Datum
@@ -194,10 +220,13 @@ datum_code = code_by (List Token) (coded_list token_code) tokens_of datum_from g
 
 abbrev pub field_code : Coded Field
 field_code =
-    code_by ((List ℕ × Kind) × List Datum) (coded× (coded× (coded_list coded_ℕ) kind_code) (coded_list datum_code)) (λ f. ((f.name, f.kind), f.values))
+    code_by ((List ℕ × Kind) × List Datum)
+    (coded× (coded× (coded_list coded_ℕ) kind_code) (coded_list datum_code))
+    (λ f. ((f.name, f.kind), f.values))
     (λ p. record { name = p.0.0; kind = p.0.1; values = p.1 }) (λ _. refl)
 
 -- a message is stored as the pair of its fields
 abbrev pub message_code : Coded Message
 message_code =
-    code_by (ℕ × List Field) (coded× coded_ℕ (coded_list field_code)) (λ m. (m.what, m.fields)) (λ p. record { what = p.0; fields = p.1 }) (λ _. refl)
+    code_by (ℕ × List Field) (coded× coded_ℕ (coded_list field_code)) (λ m. (m.what, m.fields))
+    (λ p. record { what = p.0; fields = p.1 }) (λ _. refl)

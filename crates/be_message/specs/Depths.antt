@@ -1,7 +1,9 @@
 -- How deep messages lie within one another: a message in which none lies has the depth 1 (this
 -- project's own).
 use Rattle.std.specs.Prelude.{ℕ, suc, max}
-use Rattle.be_message.specs.Messages.{Datum, bool, int, text, point, rect, message, Fields, no_fields, field, Values, no_values, value, Message, all_fields}
+use Rattle.be_message.specs.Messages.{Datum, bool, int, text, point, rect, message, Fields}
+use Rattle.be_message.specs.Messages.{no_fields, field, Values, no_values, value, Message}
+use Rattle.be_message.specs.Messages.{all_fields}
 
 abbrev mutual
   pub datum_depth : Datum → ℕ

@@ -5,7 +5,8 @@ use Rattle.be_message.specs.declared.fault.AddFault.{AddFault}
 use Rattle.be_message.specs.declared.fault.AddFault.TheVariants as add_fault
 use Rattle.be_message.specs.declared.fault.ReplaceFault.{ReplaceFault}
 use Rattle.be_message.specs.declared.fault.ReplaceFault.TheVariants as replace_fault
-use Rattle.be_message.specs.Fields.{Refusal, bad_name, bad_value, bad_type, too_many, not_found, bad_index}
+use Rattle.be_message.specs.Fields.{Refusal, bad_name, bad_value, bad_type, too_many, not_found}
+use Rattle.be_message.specs.Fields.{bad_index}
 
 -- the value comes back with the reason; memory wants only where there is none
 abbrev pub IsAddFault : AddFault → Value → Option Refusal → Type 0

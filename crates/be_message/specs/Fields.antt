@@ -1,6 +1,8 @@
--- What a message has under a name, and what each change makes of its fields (The Be Book: BMessage, Add, Find, Replace,
--- RemoveName; the reasons of a refusal are this project's own).
-use Rattle.std.specs.Prelude.{ℕ, suc, Bool, true, not, nat_le, if◌then◌else◌, List, [], ◌∷◌, ◌++◌, length, map, filter, find, slice_get, slice_set, Option, Some, None, Result, Ok, Err}
+-- What a message has under a name, and what each change makes of its fields (The Be Book: BMessage,
+-- Add, Find, Replace, RemoveName; the reasons of a refusal are this project's own).
+use Rattle.std.specs.Prelude.{ℕ, suc, Bool, true, not, nat_le, if◌then◌else◌, List, [], ◌∷◌, ◌++◌}
+use Rattle.std.specs.Prelude.{length, map, filter, find, slice_get, slice_set, Option, Some, None}
+use Rattle.std.specs.Prelude.{Result, Ok, Err}
 use Rattle.std.specs.List.{list_any}
 use Rattle.std.specs.Str.{bytes_eq}
 use Rattle.be_message.specs.declared.kind.Kind.{Kind}
@@ -32,10 +34,12 @@ value_or_missing (Some d) = Ok d
 value_or_missing None = Err missing.BadIndex
 
 abbrev pub found_in : Option Field → Kind → ℕ → Result Datum FindFault
-found_in (Some f) kind index = if is_kind f.kind kind then value_or_missing (slice_get f.values index) else Err missing.BadType
+found_in (Some f) kind index =
+    if is_kind f.kind kind then value_or_missing (slice_get f.values index) else Err missing.BadType
 found_in None kind index = Err missing.NameNotFound
 
--- the value of this type and number under the name: the name is looked for first, then the type, then the number
+-- the value of this type and number under the name: the name is looked for first, then the type,
+-- then the number
 abbrev pub found : Message → List ℕ → Kind → ℕ → Result Datum FindFault
 found m name kind index = found_in (field_named name m.fields) kind index
 
@@ -58,7 +62,8 @@ pub data Refusal : Type 0 where
 
 abbrev pub refused_by : ℕ → Option Field → Datum → Option Refusal
 refused_by count (Some f) d =
-    if is_kind f.kind (kind_of d) then (if nat_le most_values (length f.values) then Some too_many else None) else Some bad_type
+    if is_kind f.kind (kind_of d)
+    then (if nat_le most_values (length f.values) then Some too_many else None) else Some bad_type
 refused_by count None d = if nat_le most_fields count then Some too_many else None
 
 -- the first reason against adding the value
@@ -98,7 +103,9 @@ new_field name d = record { name = name; kind = kind_of d; values = d ∷ [] }
 
 -- a value more under the name; a new name comes last
 abbrev pub with_value_in : List Field → List ℕ → Datum → List Field
-with_value_in fs name d = if list_any (has_name name) fs then changed_at name (with_one_more d) fs else fs ++ new_field name d ∷ []
+with_value_in fs name d =
+    if list_any (has_name name) fs then changed_at name (with_one_more d) fs
+    else fs ++ new_field name d ∷ []
 
 abbrev pub with_value : Message → List ℕ → Datum → Message
 with_value m name d = record m { fields = with_value_in m.fields name d }

@@ -1,4 +1,5 @@
--- The types of values, each with a number of its own (six of The Be Book's types; the numbers are this project's own).
+-- The types of values, each with a number of its own (six of The Be Book's types; the numbers are
+-- this project's own).
 use Rattle.std.specs.Prelude.{ℕ, Bool, ◌==◌}
 use Rattle.be_message.specs.declared.kind.Kind.{Kind}
 use Rattle.be_message.specs.declared.kind.Kind.TheVariants as kind

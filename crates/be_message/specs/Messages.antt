@@ -40,7 +40,8 @@ values_of (value d ds) = d ∷ values_of ds
 
 abbrev pub fields_of : Fields → List Field
 fields_of no_fields = []
-fields_of (field name kind values rest) = record { name = name; kind = kind; values = values_of values } ∷ fields_of rest
+fields_of (field name kind values rest) =
+    record { name = name; kind = kind; values = values_of values } ∷ fields_of rest
 
 -- lists as the values and the fields of a message within a message
 abbrev pub all_values : List Datum → Values

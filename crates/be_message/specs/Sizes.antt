@@ -18,10 +18,12 @@ value_falls (value.Point p) = omega arith
 value_falls (value.Rect r) = omega arith
 value_falls (value.Message m) = omega arith
 
-values_fall : (vs : List Value) → most deep-Value vs ≤ values_depth (all_values (seen_values vs)) + 1
+values_fall : (vs : List Value)
+    → most deep-Value vs ≤ values_depth (all_values (seen_values vs)) + 1
 values_fall [] = omega arith
 values_fall (v ∷ vs) = omega (arith, value_falls v, values_fall vs)
 
-pub fields_fall : (fs : List Field) → most deep-Field fs ≤ fields_depth (all_fields (seen_fields fs)) + 1
+pub fields_fall : (fs : List Field)
+    → most deep-Field fs ≤ fields_depth (all_fields (seen_fields fs)) + 1
 fields_fall [] = omega arith
 fields_fall (f ∷ fs) = omega (arith, values_fall f.values.items, fields_fall fs)

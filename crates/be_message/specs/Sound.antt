@@ -1,11 +1,13 @@
--- What is true of every message, and of each message within it (this project's own, but that the values of a field have
--- one type).
-use Rattle.std.specs.Prelude.{◌≡◌, ◌≤◌, ◌<◌, ◌^◌, ℕ, suc, ℤ, Bool, true, not, ◌&&◌, List, FitsSigned}
+-- What is true of every message, and of each message within it (this project's own, but that the
+-- values of a field have one type).
+use Rattle.std.specs.Prelude.{◌≡◌, ◌≤◌, ◌<◌, ◌^◌, ℕ, suc, ℤ, Bool, true, not, ◌&&◌, List}
+use Rattle.std.specs.Prelude.{FitsSigned}
 use Rattle.std.specs.Int.{w16, w32}
 use Rattle.std.specs.Str.{bytes_eq}
 use Rattle.be_message.specs.declared.kind.Kind.{Kind}
 use Rattle.be_message.specs.declared.kind.Kind.TheVariants as kind
-use Rattle.be_message.specs.Messages.{Datum, bool, int, text, point, rect, message, Fields, no_fields, field, Values, no_values, value, Message, packed}
+use Rattle.be_message.specs.Messages.{Datum, bool, int, text, point, rect, message, Fields}
+use Rattle.be_message.specs.Messages.{no_fields, field, Values, no_values, value, Message, packed}
 use Rattle.be_message.specs.Depths.{depth_of}
 use Rattle.be_message.specs.Limits.{most_fields, most_values, most_depth}
 use Rattle.be_message.specs.Names.{is_name, is_text}
@@ -36,8 +38,8 @@ abbrev pub AreCoordinates : ℤ → ℤ → Type 0
 AreCoordinates x y = FitsSigned w16 x × FitsSigned w16 y
 
 abbrev mutual
-  -- a number has 32 bits, a coordinate 16; a text is within its limits; a message's what has 32 bits, and it has at
-  -- most 255 fields
+  -- a number has 32 bits, a coordinate 16; a text is within its limits; a message's what has 32
+  -- bits, and it has at most 255 fields
   pub IsSound : Datum → Type 0
   IsSound (bool b) = Unit {0}
   IsSound (int z) = FitsSigned w32 z
@@ -50,7 +52,8 @@ abbrev mutual
   pub AreSoundFields : Fields → Type 0
   AreSoundFields no_fields = Unit {0}
   AreSoundFields (field name kind vs fs) =
-      (is_name name ≡ true) × (is_new name fs ≡ true) × (0 < value_count vs) × (value_count vs ≤ most_values) × AreSoundValues kind vs × AreSoundFields fs
+      (is_name name ≡ true) × (is_new name fs ≡ true) × (0 < value_count vs)
+      × (value_count vs ≤ most_values) × AreSoundValues kind vs × AreSoundFields fs
 
   -- the values of a field have its type
   pub AreSoundValues : Kind → Values → Type 0

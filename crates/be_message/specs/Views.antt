@@ -19,7 +19,8 @@ abbrev pub seen_values : List Value → List messages.Datum
 seen_values = map seen_value
 
 abbrev pub seen_field : Field → messages.Field
-seen_field f = record { name = string_bytes f.name; kind = f.kind; values = seen_values f.values.items }
+seen_field f =
+    record { name = string_bytes f.name; kind = f.kind; values = seen_values f.values.items }
 
 abbrev pub seen_fields : List Field → List messages.Field
 seen_fields = map seen_field
@@ -28,6 +29,7 @@ abbrev pub seen : Inside → messages.Message
 seen a = record { what = a.what; fields = seen_fields a.fields.items }
 
 -- a value that is found, or why it isn't, as the message has it
-abbrev pub Gives : {X : Type 0} → (X → messages.Datum) → Result X FindFault → Result messages.Datum FindFault → Type 0
+abbrev pub Gives : {X : Type 0} → (X → messages.Datum) → Result X FindFault
+    → Result messages.Datum FindFault → Type 0
 Gives view (Ok x) found = found ≡ Ok (view x)
 Gives view (Err fault) found = found ≡ Err fault

@@ -1,6 +1,7 @@
 ghost use Rattle.std.specs.Prelude.{◌≡◌, [], true, None, Some, Ok, IfOk, OnOk, IfErr, OnErr};
 ghost use Rattle.be_message.specs.Faults.{IsAddFault, IsReplaceFault};
-ghost use Rattle.be_message.specs.Fields.{refused_by, with_one_more, found_in, is_allowed, unless_found, with_other};
+ghost use Rattle.be_message.specs.Fields.{refused_by, with_one_more, found_in, is_allowed};
+ghost use Rattle.be_message.specs.Fields.{unless_found, with_other};
 ghost use Rattle.be_message.specs.Sound.{kind_of, IsSound};
 ghost use Rattle.be_message.specs.Views.{seen_value, seen_values, seen_field, Gives};
 
@@ -46,9 +47,13 @@ impl Field {
 
     /// Adds a value, the last.
     pub(crate) fn add(&mut self, value: Value) -> Result<(), AddFault>
-        ensures ok { OnOk result (refused_by 0 (Some (seen_field self.old)) (seen_value value) ≡ None) }
-        ensures added { OnOk result (seen_field self.new ≡ with_one_more (seen_value value) (seen_field self.old)) }
-        ensures err { IfErr result (λ fault. IsAddFault fault value (refused_by 0 (Some (seen_field self.old)) (seen_value value))) }
+        ensures ok { OnOk result
+            (refused_by 0 (Some (seen_field self.old)) (seen_value value) ≡ None) }
+        ensures added { OnOk result
+            (seen_field self.new ≡ with_one_more (seen_value value) (seen_field self.old)) }
+        ensures err { IfErr result
+            (λ fault. IsAddFault fault value
+            (refused_by 0 (Some (seen_field self.old)) (seen_value value))) }
         ensures stays { OnErr result (seen_field self.new ≡ seen_field self.old) }
     {
         if !self.kind.is(value.kind()) {
@@ -65,7 +70,8 @@ impl Field {
 
     /// A field that waits for its first value.
     pub(crate) fn without_values(alloc: Global, name: &str, kind: Kind) -> Result<Field, NoMemory>
-        ensures { IfOk result (λ field. seen_field field ≡ record { name = name.now; kind = kind; values = [] }) }
+        ensures { IfOk result
+            (λ field. seen_field field ≡ record { name = name.now; kind = kind; values = [] }) }
     {
         Ok(Field {
             name: String::from_str(alloc, name)?,
@@ -76,7 +82,8 @@ impl Field {
 
     /// The value of this number.
     pub(crate) fn value(&self, kind: Kind, index: usize) -> Result<&Value, FindFault>
-        ensures { Gives (λ value. seen_value value.now) result (found_in (Some (seen_field self.now)) kind index) }
+        ensures { Gives (λ value. seen_value value.now) result
+            (found_in (Some (seen_field self.now)) kind index) }
     {
         if !self.kind.is(kind) {
             return Err(FindFault::BadType);
@@ -86,11 +93,19 @@ impl Field {
 
     /// Puts a value in the place of the one of this number, and gives that one.
     pub(crate) fn replace(&mut self, index: usize, value: Value) -> Result<Value, ReplaceFault>
-        ensures old { IfOk result (λ old. found_in (Some (seen_field self.old)) (kind_of (seen_value value)) index ≡ Ok (seen_value old)) }
-        ensures ok { OnOk result (unless_found (found_in (Some (seen_field self.old)) (kind_of (seen_value value)) index) (seen_value value) ≡ None) }
+        ensures old { IfOk result
+            (λ old. found_in (Some (seen_field self.old)) (kind_of (seen_value value)) index
+            ≡ Ok (seen_value old)) }
+        ensures ok { OnOk result
+            (unless_found (found_in (Some (seen_field self.old)) (kind_of (seen_value value)) index)
+            (seen_value value) ≡ None) }
         ensures sound { OnOk result (IsSound (seen_value value)) }
-        ensures replaced { OnOk result (seen_field self.new ≡ with_other index (seen_value value) (seen_field self.old)) }
-        ensures err { IfErr result (λ fault. IsReplaceFault fault value (unless_found (found_in (Some (seen_field self.old)) (kind_of (seen_value value)) index) (seen_value value))) }
+        ensures replaced { OnOk result
+            (seen_field self.new ≡ with_other index (seen_value value) (seen_field self.old)) }
+        ensures err { IfErr result
+            (λ fault. IsReplaceFault fault value
+            (unless_found (found_in (Some (seen_field self.old)) (kind_of (seen_value value)) index)
+            (seen_value value))) }
         ensures stays { OnErr result (self.new ≡ self.old) }
     {
         if !self.kind.is(value.kind()) {

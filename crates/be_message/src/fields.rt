@@ -1,6 +1,8 @@
-ghost use Rattle.std.specs.Prelude.{◌≡◌, ◌≤◌, ◌++◌, ◌∷◌, [], None, Ok, IfOk, IfErr, OnOk, OnErr, length};
+ghost use Rattle.std.specs.Prelude.{◌≡◌, ◌≤◌, ◌++◌, ◌∷◌, [], None, Ok, IfOk, IfErr, OnOk, OnErr};
+ghost use Rattle.std.specs.Prelude.{length};
 ghost use Rattle.be_message.specs.Depths.{fields_depth, values_depth};
-ghost use Rattle.be_message.specs.Fields.{field_named, found_in, refused_by, unless_found, new_field, with_value_in, changed_at, with_other};
+ghost use Rattle.be_message.specs.Fields.{field_named, found_in, refused_by, unless_found};
+ghost use Rattle.be_message.specs.Fields.{new_field, with_value_in, changed_at, with_other};
 ghost use Rattle.be_message.specs.Faults.{IsAddFault, IsReplaceFault};
 ghost use Rattle.be_message.specs.Limits.{most_depth};
 ghost use Rattle.be_message.specs.Messages.{all_fields, all_values};
@@ -31,9 +33,16 @@ pub(crate) fn place_of(fields: &[Field], name: &str) -> Option<usize>
 /// Adds a value under a name, which may be new.
 pub(crate) fn add_value(fields: &mut Vec<Field>, name: &str, value: Value) -> Result<(), AddFault>
     requires { AreSoundFields (all_fields (seen_fields fields.old.items)) }
-    ensures ok { OnOk result (refused_by (length fields.old.items) (field_named name.now (seen_fields fields.old.items)) (seen_value value) ≡ None) }
-    ensures added { OnOk result (seen_fields fields.new.items ≡ with_value_in (seen_fields fields.old.items) name.now (seen_value value)) }
-    ensures err { IfErr result (λ fault. IsAddFault fault value (refused_by (length fields.old.items) (field_named name.now (seen_fields fields.old.items)) (seen_value value))) }
+    ensures ok { OnOk result
+        (refused_by (length fields.old.items) (field_named name.now (seen_fields fields.old.items))
+        (seen_value value) ≡ None) }
+    ensures added { OnOk result
+        (seen_fields fields.new.items
+        ≡ with_value_in (seen_fields fields.old.items) name.now (seen_value value)) }
+    ensures err { IfErr result
+        (λ fault. IsAddFault fault value
+        (refused_by (length fields.old.items) (field_named name.now (seen_fields fields.old.items))
+        (seen_value value))) }
     ensures stays { OnErr result (seen_fields fields.new.items ≡ seen_fields fields.old.items) }
 {
     match place_of(fields, name) {
@@ -45,8 +54,12 @@ pub(crate) fn add_value(fields: &mut Vec<Field>, name: &str, value: Value) -> Re
 /// Adds a field with one value, the last.
 fn add_field(fields: &mut Vec<Field>, name: &str, value: Value) -> Result<(), AddFault>
     ensures ok { OnOk result (refused_by (length fields.old.items) None (seen_value value) ≡ None) }
-    ensures added { OnOk result (seen_fields fields.new.items ≡ seen_fields fields.old.items ++ new_field name.now (seen_value value) ∷ []) }
-    ensures err { IfErr result (λ fault. IsAddFault fault value (refused_by (length fields.old.items) None (seen_value value))) }
+    ensures added { OnOk result
+        (seen_fields fields.new.items
+        ≡ seen_fields fields.old.items ++ new_field name.now (seen_value value) ∷ []) }
+    ensures err { IfErr result
+        (λ fault. IsAddFault fault value
+        (refused_by (length fields.old.items) None (seen_value value))) }
     ensures stays { OnErr result (fields.new.items ≡ fields.old.items) }
 {
     if fields.len() >= MOST_FIELDS {
@@ -76,11 +89,21 @@ pub(crate) fn replace_value(
     value: Value,
 ) -> Result<Value, ReplaceFault>
     requires { AreSoundFields (all_fields (seen_fields fields.old.items)) }
-    ensures ok { OnOk result (unless_found (found_in (field_named name.now (seen_fields fields.old.items)) (kind_of (seen_value value)) index) (seen_value value) ≡ None) }
+    ensures ok { OnOk result
+        (unless_found (found_in (field_named name.now (seen_fields fields.old.items))
+        (kind_of (seen_value value)) index) (seen_value value) ≡ None) }
     ensures sound { OnOk result (IsSound (seen_value value)) }
-    ensures old { IfOk result (λ old. found_in (field_named name.now (seen_fields fields.old.items)) (kind_of (seen_value value)) index ≡ Ok (seen_value old)) }
-    ensures replaced { OnOk result (seen_fields fields.new.items ≡ changed_at name.now (with_other index (seen_value value)) (seen_fields fields.old.items)) }
-    ensures err { IfErr result (λ fault. IsReplaceFault fault value (unless_found (found_in (field_named name.now (seen_fields fields.old.items)) (kind_of (seen_value value)) index) (seen_value value))) }
+    ensures old { IfOk result
+        (λ old. found_in (field_named name.now (seen_fields fields.old.items))
+        (kind_of (seen_value value)) index ≡ Ok (seen_value old)) }
+    ensures replaced { OnOk result
+        (seen_fields fields.new.items
+        ≡ changed_at name.now (with_other index (seen_value value))
+        (seen_fields fields.old.items)) }
+    ensures err { IfErr result
+        (λ fault. IsReplaceFault fault value
+        (unless_found (found_in (field_named name.now (seen_fields fields.old.items))
+        (kind_of (seen_value value)) index) (seen_value value))) }
     ensures stays { OnErr result (seen_fields fields.new.items ≡ seen_fields fields.old.items) }
 {
     match place_of(fields, name) {

@@ -1,9 +1,11 @@
-ghost use Rattle.std.specs.Prelude.{◌≡◌, ◌<◌, ◌↔◌, [], ◌++◌, true, false, length, slice_get, None, Ok, IsOk, IfOk, OnOk, IfErr, OnErr, option_to_list};
+ghost use Rattle.std.specs.Prelude.{◌≡◌, ◌<◌, ◌↔◌, [], ◌++◌, true, false, length, slice_get, None};
+ghost use Rattle.std.specs.Prelude.{Ok, IsOk, IfOk, OnOk, IfErr, OnErr, option_to_list};
 ghost use Rattle.std.specs.List.{list_any};
 ghost use Rattle.std.specs.Option.{option_map};
 ghost use Rattle.be_message.specs.Depths.{depth_of};
 ghost use Rattle.be_message.specs.Faults.{IsAddFault, IsReplaceFault};
-ghost use Rattle.be_message.specs.Fields.{count_of, field_named, has_name, found, add_refusal, with_value, replace_refusal, with_replaced, without};
+ghost use Rattle.be_message.specs.Fields.{count_of, field_named, has_name, found, add_refusal};
+ghost use Rattle.be_message.specs.Fields.{with_value, replace_refusal, with_replaced, without};
 ghost use Rattle.be_message.specs.Sound.{kind_of, IsMessage};
 ghost use Rattle.be_message.specs.Views.{seen_value, seen_field, seen_fields, Gives};
 
@@ -89,7 +91,8 @@ impl Message {
 
     /// The field of a name.
     fn field(&self, name: &str) -> Option<&Field>
-        ensures field { option_map (λ f. seen_field f.now) result ≡ field_named name.now self.now.fields }
+        ensures field { option_map (λ f. seen_field f.now) result
+            ≡ field_named name.now self.now.fields }
         ensures limits { IsMessage self.now }
     {
         match place_of(&self.fields, name) {
@@ -107,7 +110,8 @@ impl Message {
 
     /// The name of a field by its place in the order of first adding: `BMessage::GetInfo`.
     pub fn name_at(&self, place: usize) -> Option<&str>
-        ensures { option_map (λ name. name.now) result ≡ option_map (λ f. f.name) (slice_get self.now.fields place) }
+        ensures { option_map (λ name. name.now) result
+            ≡ option_map (λ f. f.name) (slice_get self.now.fields place) }
     {
         match self.fields.get(place) {
             Some(field) => Some(field.name()),
@@ -140,7 +144,8 @@ impl Message {
     pub fn add(&mut self, name: &str, value: Value) -> Result<(), AddFault>
         ensures ok { OnOk result (add_refusal self.old name.now (seen_value value) ≡ None) }
         ensures added { OnOk result (self.new ≡ with_value self.old name.now (seen_value value)) }
-        ensures err { IfErr result (λ fault. IsAddFault fault value (add_refusal self.old name.now (seen_value value))) }
+        ensures err { IfErr result
+            (λ fault. IsAddFault fault value (add_refusal self.old name.now (seen_value value))) }
         ensures stays { OnErr result (self.new ≡ self.old) }
     {
         if !is_name(name.as_bytes()) {
@@ -155,9 +160,11 @@ impl Message {
         Ok(())
     }
 
-    /// The value of this type and number, counted from 0, under a name: `BMessage::FindInt32` and its kin.
+    /// The value of this type and number, counted from 0, under a name: `BMessage::FindInt32` and
+    /// its kin.
     pub fn find(&self, name: &str, kind: Kind, index: usize) -> Result<&Value, FindFault>
-        ensures { Gives (λ value. seen_value value.now) result (found self.now name.now kind index) }
+        ensures { Gives (λ value. seen_value value.now) result
+            (found self.now name.now kind index) }
     {
         match place_of(&self.fields, name) {
             Some(place) => self.fields[place].value(kind, index),
@@ -165,13 +172,20 @@ impl Message {
         }
     }
 
-    /// Puts a value in the place of the one of this number and gives that one: `BMessage::ReplaceInt32` and its kin.
-    /// In a message that holds messages it looks at all values.
+    /// Puts a value in the place of the one of this number and gives that one:
+    /// `BMessage::ReplaceInt32` and its kin. In a message that holds messages it looks at all
+    /// values.
     pub fn replace(&mut self, name: &str, index: usize, value: Value) -> Result<Value, ReplaceFault>
-        ensures ok { OnOk result (replace_refusal self.old name.now index (seen_value value) ≡ None) }
-        ensures old { IfOk result (λ old. found self.old name.now (kind_of (seen_value value)) index ≡ Ok (seen_value old)) }
-        ensures replaced { OnOk result (self.new ≡ with_replaced self.old name.now index (seen_value value)) }
-        ensures err { IfErr result (λ fault. IsReplaceFault fault value (replace_refusal self.old name.now index (seen_value value))) }
+        ensures ok { OnOk result
+            (replace_refusal self.old name.now index (seen_value value) ≡ None) }
+        ensures old { IfOk result
+            (λ old. found self.old name.now (kind_of (seen_value value)) index
+            ≡ Ok (seen_value old)) }
+        ensures replaced { OnOk result
+            (self.new ≡ with_replaced self.old name.now index (seen_value value)) }
+        ensures err { IfErr result
+            (λ fault. IsReplaceFault fault value
+            (replace_refusal self.old name.now index (seen_value value))) }
         ensures stays { OnErr result (self.new ≡ self.old) }
     {
         let deepest = self.depth.max(value.depth() + 1);
@@ -199,12 +213,16 @@ impl Message {
         Ok(())
     }
 
-    /// Adds a copy of another message's field of this name, with all its values, behind the fields that there are.
-    /// Nothing is added where that one has none of the name.
+    /// Adds a copy of another message's field of this name, with all its values, behind the fields
+    /// that there are. Nothing is added where that one has none of the name.
     pub fn copy_field(&mut self, from: &Message, name: &str) -> Result<(), NoMemory>
         requires new { list_any (has_name name.now) self.old.fields ≡ false }
         requires room { length self.old.fields < 255 }
-        ensures copied { OnOk result (self.new ≡ record self.old { fields = self.old.fields ++ option_to_list (field_named name.now from.now.fields) }) }
+        ensures copied { OnOk result
+            (self.new ≡ record self.old {
+              fields = self.old.fields
+                  ++ option_to_list (field_named name.now from.now.fields);
+            }) }
         ensures stays { OnErr result (self.new ≡ self.old) }
     {
         let Some(found) = from.field(name) else {

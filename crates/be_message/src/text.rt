@@ -4,8 +4,9 @@ use be_geom::NoMemory;
 use std::alloc::Global;
 use std::marker::Model;
 
-/// Bytes that stand for a text, as a window's name or a value of a message. It owns them, is seen as the
-/// list of them, and holds any: which bytes a name or a message's text may have is said there.
+/// Bytes that stand for a text, as a window's name or a value of a message. It owns them, is seen
+/// as the list of them, and holds any: which bytes a name or a message's text may have is said
+/// there.
 #[derive(Debug, Drop)]
 pub struct Text {
     bytes: Vec<u8>,

@@ -7,7 +7,8 @@ use Rattle.be_parts.specs.Parts.{IsBlank, meaning_of}
 use Rattle.be_parts.specs.declared.part.Part.{Part}
 use Rattle.be_rules.specs.Slices.{slice_of}
 
--- behind the old ones stand those that mean these parts of the opening state, without entries and notes
+-- behind the old ones stand those that mean these parts of the opening state, without entries and
+-- notes
 pub record HasMore (d : Declared) (more : List machine.Part) (old new : List Part) : Type 0 where
   pub meant :
       map meaning_of new ≡ map meaning_of old ++ map (slice_of (opening_state d)) more

@@ -1,4 +1,5 @@
--- Counts of what has happened outside of the program. They are numbers of 64 bits, and stop at the last.
+-- Counts of what has happened outside of the program. They are numbers of 64 bits, and stop at the
+-- last.
 use Rattle.std.specs.Prelude.{ℕ, ◌+◌, ◌-◌, ◌^◌, ◌<◌, ◌≤◌, ◌⊎◌, min}
 
 -- A count of faults grew in a call, or stands at the last number, where it stops.

@@ -2,8 +2,9 @@
 use Rattle.std.specs.Prelude.{ℕ, ◌/◌, List, [], min, slice_index_or, length, Option, Some, None}
 use Rattle.std.specs.Global.{Vec}
 
--- A source in memory. Its calls are numbered from 0 on, and those whose numbers are in `failing` fail. The call k
--- gives at most `sizes` at k bytes, and those behind the end of that list give as many as fit.
+-- A source in memory. Its calls are numbered from 0 on, and those whose numbers are in `failing`
+-- fail. The call k gives at most `sizes` at k bytes, and those behind the end of that list give as
+-- many as fit.
 pub record Supply : Type 0 where
   -- the bytes that it has left
   pub left : List ℕ
@@ -33,6 +34,7 @@ listed (Some sizes) = sizes.items
 abbrev pub cut_to : List ℕ → ℕ → ℕ → ℕ
 cut_to sizes call many = min many (slice_index_or sizes call many)
 
--- how many bytes of a piece a call that is to fail puts: the first half of them, or what there is room for
+-- how many bytes of a piece a call that is to fail puts: the first half of them, or what there is
+-- room for
 abbrev pub half_within : ℕ → List ℕ → ℕ
 half_within room piece = min (length piece / 2) room

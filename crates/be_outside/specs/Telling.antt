@@ -1,4 +1,5 @@
--- Bytes that a source has left or a sink holds: `Some` of them where the object tells them, and else `None`.
+-- Bytes that a source has left or a sink holds: `Some` of them where the object tells them, and
+-- else `None`.
 use Rattle.std.specs.Prelude.{◌≡◌, ℕ, List, [], ◌++◌, Option, Some, None, IfSome}
 
 -- these bytes, and behind them those that are told

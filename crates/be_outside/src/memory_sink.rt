@@ -1,4 +1,6 @@
-ghost use Rattle.std.specs.Prelude.{◌≡◌, ◌<◌, ◌≤◌, ◌+◌, ◌-◌, ◌↔◌, ◌⊎◌, ◌++◌, [], length, take, vec_len, vec_capacity, Some, IsErr, IfOk, IfErr, OnOk, OnErr, Contains};
+ghost use Rattle.std.specs.Prelude.{◌≡◌, ◌<◌, ◌≤◌, ◌+◌, ◌-◌, ◌↔◌, ◌⊎◌, ◌++◌, [], length, take};
+ghost use Rattle.std.specs.Prelude.{vec_len, vec_capacity, Some, IsErr, IfOk, IfErr, OnOk, OnErr};
+ghost use Rattle.std.specs.Prelude.{Contains};
 ghost use Rattle.be_outside.specs.Faults.{one_more, FaultsRose};
 ghost use Rattle.be_outside.specs.InMemory.{Store, half_within};
 ghost use Rattle.be_outside.specs.Telling.{TakesPrefix};
@@ -16,8 +18,8 @@ pub enum SinkFault {
     NoMemory(Vec<u64>),
 }
 
-/// A sink of bytes in memory, which fails where a test wants it to, and where a piece doesn't fit. Of
-/// a piece that is to fail it takes the first half. It tells its bytes. A call takes no memory.
+/// A sink of bytes in memory, which fails where a test wants it to, and where a piece doesn't fit.
+/// Of a piece that is to fail it takes the first half. It tells its bytes. A call takes no memory.
 #[derive(Drop)]
 pub struct MemorySink {
     bytes: Vec<u8>,
@@ -93,9 +95,14 @@ impl Sink for MemorySink {
           calls = one_more self.old.calls;
           faults = one_more self.old.faults;
         } }
-        ensures full { ¬ Contains self.old.failing self.old.calls → self.old.room < length piece.now → self.new
-            ≡ record self.old { calls = one_more self.old.calls; faults = one_more self.old.faults } }
-        ensures prefix { OnErr result (TakesPrefix (Some self.old.held) (Some self.new.held) piece.now) }
+        ensures full { ¬ Contains self.old.failing self.old.calls → self.old.room < length piece.now
+            → self.new
+            ≡ record self.old {
+              calls = one_more self.old.calls;
+              faults = one_more self.old.faults;
+            } }
+        ensures prefix { OnErr result
+            (TakesPrefix (Some self.old.held) (Some self.new.held) piece.now) }
         ensures failed { OnErr result (FaultsRose self.old.faults self.new.faults) }
         ensures never_falls { self.old.faults ≤ self.new.faults }
     {

@@ -1,4 +1,5 @@
-ghost use Rattle.std.specs.Prelude.{◌≡◌, ◌<◌, ◌≤◌, ◌↔◌, ◌++◌, [], min, length, take, drop, vec_len, Some, All, IsErr, IfOk, OnErr, Contains};
+ghost use Rattle.std.specs.Prelude.{◌≡◌, ◌<◌, ◌≤◌, ◌↔◌, ◌++◌, [], min, length, take, drop, vec_len};
+ghost use Rattle.std.specs.Prelude.{Some, All, IsErr, IfOk, OnErr, Contains};
 ghost use Rattle.be_outside.specs.Faults.{one_more};
 ghost use Rattle.be_outside.specs.InMemory.{Supply, cut_to, listed};
 
@@ -34,7 +35,13 @@ impl MemorySource {
     /// Call k, counted from 0, fails where k is in `failing`.
     pub fn new(bytes: Vec<u8>, failing: Vec<u64>) -> MemorySource
         ensures { result
-            ≡ record { left = bytes.items; failing = failing.items; sizes = []; calls = 0; faults = 0 } }
+            ≡ record {
+              left = bytes.items;
+              failing = failing.items;
+              sizes = [];
+              calls = 0;
+              faults = 0;
+            } }
     {
         MemorySource {
             bytes,
@@ -49,7 +56,13 @@ impl MemorySource {
     pub fn cut(bytes: Vec<u8>, failing: Vec<u64>, sizes: Vec<usize>) -> MemorySource
         requires { All (λ size. 0 < size) sizes.items }
         ensures { result
-            ≡ record { left = bytes.items; failing = failing.items; sizes = sizes.items; calls = 0; faults = 0 } }
+            ≡ record {
+              left = bytes.items;
+              failing = failing.items;
+              sizes = sizes.items;
+              calls = 0;
+              faults = 0;
+            } }
     {
         MemorySource {
             bytes,
@@ -89,7 +102,10 @@ impl Source for MemorySource {
             ≡ record self.old { left = drop n self.old.left; calls = one_more self.old.calls }) }
         ensures end { IfOk result (λ n. n ≡ 0 → 0 < length buf.old → self.new.left ≡ []) }
         ensures err { OnErr result (self.new
-            ≡ record self.old { calls = one_more self.old.calls; faults = one_more self.old.faults }) }
+            ≡ record self.old {
+              calls = one_more self.old.calls;
+              faults = one_more self.old.faults;
+            }) }
         ensures untouched { OnErr result (buf.new ≡ buf.old) }
         ensures never_falls { self.old.faults ≤ self.new.faults }
     {

@@ -7,7 +7,8 @@ use crate::{Failed, Source};
 use std::io::Read;
 use std::marker::Model;
 
-/// A source over a reader. A fault is each error of the reader's. The source doesn't tell its bytes.
+/// A source over a reader. A fault is each error of the reader's. The source doesn't tell its
+/// bytes.
 #[derive(Drop)]
 pub struct ReaderSource<R: Read> {
     reader: R,
@@ -35,7 +36,8 @@ impl<R: Read> Source for ReaderSource<R> {
 
     fn read(&mut self, buf: &mut [u8]) -> Result<usize, Failed>
         ensures within { IfOk result (λ n. n ≤ length buf.old) }
-        ensures passes_on { ReadConsumes (R.remaining self.old.inner) (R.remaining self.new.inner) result buf.new }
+        ensures passes_on { ReadConsumes (R.remaining self.old.inner) (R.remaining self.new.inner)
+            result buf.new }
         ensures counts { self.new.faults
             ≡ (if is_ok result then self.old.faults else one_more self.old.faults) }
         ensures never_falls { self.old.faults ≤ self.new.faults }

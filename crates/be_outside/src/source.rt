@@ -1,4 +1,5 @@
-ghost use Rattle.std.specs.Prelude.{◌≡◌, ℕ, ◌<◌, ◌≤◌, List, Option, length, take, drop, IfOk, IfSome, OnErr};
+ghost use Rattle.std.specs.Prelude.{◌≡◌, ℕ, ◌<◌, ◌≤◌, List, Option, length, take, drop, IfOk};
+ghost use Rattle.std.specs.Prelude.{IfSome, OnErr};
 ghost use Rattle.be_outside.specs.Faults.{FaultsRose};
 ghost use Rattle.be_outside.specs.Telling.{with_front, IsDrained};
 
@@ -21,8 +22,10 @@ pub trait Source {
     /// fewer than fit.
     fn read(&mut self, buf: &mut [u8]) -> Result<usize, Failed>
         ensures within { IfOk result (λ n. n ≤ length buf.old) }
-        ensures gives { IfOk result (λ n. left self.old ≡ with_front (take n buf.new) (left self.new)) }
-        ensures rest { IfOk result (λ n. IfSome (left self.old) (λ _. drop n buf.new ≡ drop n buf.old)) }
+        ensures gives { IfOk result
+            (λ n. left self.old ≡ with_front (take n buf.new) (left self.new)) }
+        ensures rest { IfOk result
+            (λ n. IfSome (left self.old) (λ _. drop n buf.new ≡ drop n buf.old)) }
 
         // No byte into a buffer that has room is the end.
         ensures end { IfOk result (λ n. n ≡ 0 → 0 < length buf.old → IsDrained (left self.new)) }

@@ -26,7 +26,8 @@ impl From<AllocError> for DrainFault {
 // Reads to the end, or until there are `limit` bytes. Of a source it knows what the trait says.
 fn drain<S: Source>(alloc: Global, source: &mut S, limit: usize) -> Result<Vec<u8>, DrainFault>
     ensures front { IfOk result (λ v. S.left source.old ≡ with_front v.items (S.left source.new)) }
-    ensures whole { IfOk result (λ v. IfSome (S.left source.old) (λ all. vec_len v < limit → v.items ≡ all)) }
+    ensures whole { IfOk result
+        (λ v. IfSome (S.left source.old) (λ all. vec_len v < limit → v.items ≡ all)) }
     ensures failed { IfErr result (λ fault. fault ≡ DrainFault.Read
         → FaultsRose (S.faults source.old) (S.faults source.new)) }
 {

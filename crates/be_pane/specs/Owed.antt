@@ -1,5 +1,5 @@
--- When a pane owes its window's looper a notice of an update, and what is kept of one that was posted (this project's
--- own).
+-- When a pane owes its window's looper a notice of an update, and what is kept of one that was
+-- posted (this project's own).
 use Rattle.std.specs.Prelude.{◌≡◌, ℤ, true, false, None}
 use Rattle.be_span.specs.Spans.{Spans, cell_in, is_dirty}
 use Rattle.be_pane.specs.declared.pane.Pane.{Pane}

@@ -1,5 +1,5 @@
--- Drawing states that draw alike: the machine keeps a clip's rectangles as they were said, and the server the set of
--- their pixels (this project's own).
+-- Drawing states that draw alike: the machine keeps a clip's rectangles as they were said, and the
+-- server the set of their pixels (this project's own).
 use Rattle.std.specs.Prelude.{◌≡◌, List, [], ◌∷◌, Option, Some, None}
 use Rattle.be_geom.specs.declared.rect.Rect.{Rect}
 use Rattle.be_region.specs.Regions.{SamePixels}

@@ -1,5 +1,6 @@
 -- A pane's slice after a change of a window.
-use Rattle.std.specs.Prelude.{◌≡◌, ◌<◌, ℕ, ℤ, true, List, length, Ok, Option, Some, IsTrue, slice_get, slice_set, unwrap_or}
+use Rattle.std.specs.Prelude.{◌≡◌, ◌<◌, ℕ, ℤ, true, List, length, Ok, Option, Some, IsTrue}
+use Rattle.std.specs.Prelude.{slice_get, slice_set, unwrap_or}
 use Rattle.be_desk.specs.Changes.{Desk, owns, desk_after}
 use Rattle.be_desk.specs.Desks.{IsPaired}
 use Rattle.be_desk.specs.Plans.{AreChanged, IsScreenOf, Planned, then_spans}

@@ -6,7 +6,8 @@ use Rattle.be_hall.specs.Hands.{Hand, with_part}
 use Rattle.be_machine.specs.declared.Entry.{Entry}
 use Rattle.be_parts.specs.Kept.{Logged}
 use Rattle.be_parts.specs.declared.part.Part.{Part}
-use Rattle.be_parts.specs.declared.part.Part.TheVariants.{Desk, Input, Cell, Looper, Port, Link, Pane}
+use Rattle.be_parts.specs.declared.part.Part.TheVariants.{Desk, Input, Cell, Looper, Port, Link}
+use Rattle.be_parts.specs.declared.part.Part.TheVariants.{Pane}
 use Rattle.be_rules.specs.Slices.{Slice}
 
 abbrev pub meaning_of : Part → Slice

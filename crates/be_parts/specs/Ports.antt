@@ -3,7 +3,8 @@ use Rattle.std.specs.Prelude.{◌≡◌, ℕ, ◌+◌, true, false, length, Some
 use Rattle.std.specs.Option.{option_map_or}
 use Rattle.be_message.specs.Messages.{Message}
 use Rattle.be_port.specs.Answers.{posted_as}
-use Rattle.be_port.specs.Ports.{Letter, Port, closed_port, empty_port, front, has_notice, judged, posted, with_letter, without_front}
+use Rattle.be_port.specs.Ports.{Letter, Port, closed_port, empty_port, front, has_notice, judged}
+use Rattle.be_port.specs.Ports.{posted, with_letter, without_front}
 use Rattle.be_port.specs.StandsFor.{Carries, LetterStandsFor}
 use Rattle.be_port.specs.declared.fault.PostFault.{PostFault}
 use Rattle.be_port.specs.declared.letter.Letter as held

@@ -9,7 +9,8 @@ use Rattle.be_port.specs.StandsFor.{PortStandsFor}
 use Rattle.be_span.specs.Cells.{desktop_cell}
 use Rattle.be_span.specs.declared.Cell.{Cell}
 use Rattle.be_views.specs.Trees.{Tree}
-use Rattle.be_rules.specs.Slices.{Shown, Slice, desk, input, cell, looper, port, link, pane, look_at}
+use Rattle.be_rules.specs.Slices.{Shown, Slice, desk, input, cell, looper, port, link, pane}
+use Rattle.be_rules.specs.Slices.{look_at}
 
 -- ---- ports
 

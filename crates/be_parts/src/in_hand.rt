@@ -1,7 +1,8 @@
 //! A part of one kind, where it is in hand.
 ghost use Rattle.std.specs.Prelude.{◌≡◌, option_map};
 ghost use Rattle.be_hall.specs.Hands.{part_at};
-ghost use Rattle.be_parts.specs.Kinds.{IsOfKind, kind_of, stored_as, of_cell, of_desk, of_input, of_link, of_looper, of_pane, of_port};
+ghost use Rattle.be_parts.specs.Kinds.{IsOfKind, kind_of, stored_as, of_cell, of_desk, of_input};
+ghost use Rattle.be_parts.specs.Kinds.{of_link, of_looper, of_pane, of_port};
 ghost use Rattle.be_parts.specs.Parts.{meaning_of};
 
 use crate::cell::CellPart;

@@ -1,5 +1,6 @@
 ghost use Rattle.std.specs.Prelude.{◌≡◌, ◌<◌, ◌≤◌, ◌-◌, ◌^◌, IfOk};
-ghost use Rattle.be_parts.specs.Ports.{HasClosed, HasNotice, HasPosted, HasTaken, IsAnswered, IsEmptyPort, IsFront, letters_of};
+ghost use Rattle.be_parts.specs.Ports.{HasClosed, HasNotice, HasPosted, HasTaken, IsAnswered};
+ghost use Rattle.be_parts.specs.Ports.{IsEmptyPort, IsFront, letters_of};
 ghost use Rattle.be_parts.specs.Stands.{PortIs};
 
 use crate::meaning::Meaning;

@@ -30,7 +30,8 @@ pub data Noticed : Type 0 where
 
 -- what a notice is answered: not where the port is closed, then not where one waits already
 abbrev pub notice_answer : Queue → Noticed
-notice_answer q = if q.closed then bad_port else if holds_notice q then standing else accepted (q.last + 1)
+notice_answer q =
+    if q.closed then bad_port else if holds_notice q then standing else accepted (q.last + 1)
 
 -- the result of a notice as its answer
 abbrev pub noticed_as : Result ℕ NoticeFault → Noticed

@@ -4,7 +4,8 @@ use Rattle.be_message.specs.Messages.{Message}
 use Rattle.be_port.specs.declared.letter.Letter as held
 use Rattle.be_port.specs.Answers.{accepted, notice_answer}
 use Rattle.be_port.specs.Ports as port
-use Rattle.be_port.specs.Queues.{Queue, empty_queue, answer, after_post, after_notice, after_take, after_close}
+use Rattle.be_port.specs.Queues.{Queue, empty_queue, answer, after_post, after_notice, after_take}
+use Rattle.be_port.specs.Queues.{after_close}
 use Rattle.be_port.specs.StandsFor.{Carries, LetterStandsFor, PortStandsFor}
 
 abbrev pub OpensAsPort : Type 0
@@ -12,7 +13,9 @@ OpensAsPort = (capacity : ℕ) → PortStandsFor (empty_queue capacity) (port.em
 
 -- a post is answered alike
 abbrev pub AnswersAsPort : Type 0
-AnswersAsPort = (q : Queue) (p : port.Port Message) → PortStandsFor q p → (hop : ℕ) → answer q hop ≡ port.judged p hop
+AnswersAsPort =
+    (q : Queue) (p : port.Port Message) → PortStandsFor q p → (hop : ℕ)
+    → answer q hop ≡ port.judged p hop
 
 abbrev pub PostsAsPort : Type 0
 PostsAsPort =
@@ -26,13 +29,16 @@ NoticesAsPort =
     (q : Queue) (p : port.Port Message) → PortStandsFor q p →
     (l : held.Letter) (m : port.Letter Message) → Carries l m → m.notice ≡ true →
     p.closed ≡ false → port.has_notice p ≡ false →
-    (notice_answer q ≡ accepted (length p.arrived + 1)) × PortStandsFor (after_notice l q) (port.with_letter m p)
+    (notice_answer q ≡ accepted (length p.arrived + 1))
+    × PortStandsFor (after_notice l q) (port.with_letter m p)
 
 -- the letter that is taken is the machine's, and its number tells its arrival
 abbrev pub TakesAsPort : Type 0
 TakesAsPort =
-    (q : Queue) (p : port.Port Message) → PortStandsFor q p → (l : held.Letter) → slice_get q.letters 0 ≡ Some l →
-    (m : port.Letter Message) × (port.front p ≡ Some m) × LetterStandsFor l m × (l.number ≡ p.taken + 1)
+    (q : Queue) (p : port.Port Message) → PortStandsFor q p → (l : held.Letter)
+    → slice_get q.letters 0 ≡ Some l →
+    (m : port.Letter Message) × (port.front p ≡ Some m) × LetterStandsFor l m
+    × (l.number ≡ p.taken + 1)
     × PortStandsFor (after_take q) (port.without_front p)
 
 -- where no letter is taken none waits
@@ -43,4 +49,5 @@ EmptyAsPort =
 
 abbrev pub ClosesAsPort : Type 0
 ClosesAsPort =
-    (q : Queue) (p : port.Port Message) → PortStandsFor q p → PortStandsFor (after_close q) (port.closed_port p)
+    (q : Queue) (p : port.Port Message) → PortStandsFor q p
+    → PortStandsFor (after_close q) (port.closed_port p)

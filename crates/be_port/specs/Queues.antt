@@ -1,5 +1,6 @@
 -- What is kept of a port: the letters that wait, and the number of the last one that arrived.
-use Rattle.std.specs.Prelude.{◌≡◌, ℕ, ◌+◌, ◌≤◌, Bool, true, false, not, List, [], ◌∷◌, ◌++◌, drop, length, filter, nat_le, if◌then◌else◌}
+use Rattle.std.specs.Prelude.{◌≡◌, ℕ, ◌+◌, ◌≤◌, Bool, true, false, not, List, [], ◌∷◌, ◌++◌, drop}
+use Rattle.std.specs.Prelude.{length, filter, nat_le, if◌then◌else◌}
 use Rattle.std.specs.List.{list_any}
 use Rattle.be_port.specs.declared.letter.Letter as held
 use Rattle.be_port.specs.declared.Posted.{Posted}
@@ -45,7 +46,10 @@ answer q hop =
 -- a letter more, the last, with its number; a notice or not
 abbrev pub with_letter : Bool → held.Letter → Queue → Queue
 with_letter notice letter q =
-    record q { letters = q.letters ++ record letter { number = q.last + 1; notice = notice } ∷ []; last = q.last + 1 }
+    record q {
+      letters = q.letters ++ record letter { number = q.last + 1; notice = notice } ∷ [];
+      last = q.last + 1;
+    }
 
 -- with the letter where it is accepted, as it was in each other case
 abbrev pub after_post : held.Letter → Queue → Queue
@@ -53,7 +57,8 @@ after_post letter q = if is_accepted (answer q letter.hop) then with_letter fals
 
 -- with the notice, unless the port is closed or a notice waits already
 abbrev pub after_notice : held.Letter → Queue → Queue
-after_notice letter q = if q.closed then q else if holds_notice q then q else with_letter true letter q
+after_notice letter q =
+    if q.closed then q else if holds_notice q then q else with_letter true letter q
 
 -- without the letter in front, if there is one
 abbrev pub after_take : Queue → Queue

@@ -1,6 +1,9 @@
-ghost use Rattle.std.specs.Prelude.{◌≡◌, true, false, ◌+◌, ◌-◌, ◌^◌, ◌<◌, ◌≤◌, slice_get, option_copied, MatchResult, IfOk, IfErr};
-ghost use Rattle.be_port.specs.Queues.{empty_queue, counted, holds_notice, with_letter, answer, after_post, after_notice, after_take, after_close, IsQueue};
-ghost use Rattle.be_port.specs.Answers.{notice_answer, posted_as, letter_in_post, noticed_as, letter_in_notice};
+ghost use Rattle.std.specs.Prelude.{◌≡◌, true, false, ◌+◌, ◌-◌, ◌^◌, ◌<◌, ◌≤◌, slice_get};
+ghost use Rattle.std.specs.Prelude.{option_copied, MatchResult, IfOk, IfErr};
+ghost use Rattle.be_port.specs.Queues.{empty_queue, counted, holds_notice, with_letter, answer};
+ghost use Rattle.be_port.specs.Queues.{after_post, after_notice, after_take, after_close, IsQueue};
+ghost use Rattle.be_port.specs.Answers.{notice_answer, posted_as, letter_in_post, noticed_as};
+ghost use Rattle.be_port.specs.Answers.{letter_in_notice};
 
 use crate::{Letter, NoticeFault, PostFault, Posted};
 use be_geom::NoMemory;
@@ -11,8 +14,8 @@ use std::marker::Model;
 /// A hop that is too deep to be posted.
 const DEEPEST: u8 = 8;
 
-/// A queue of letters for a window's looper: `BLooper`'s port. Its capacity doesn't count update notices, of
-/// which at most one stands in the queue.
+/// A queue of letters for a window's looper: `BLooper`'s port. Its capacity doesn't count update
+/// notices, of which at most one stands in the queue.
 #[derive(Debug, Drop)]
 pub struct Port {
     ring: HeapCircularBuffer<Letter>,
@@ -104,8 +107,8 @@ impl Port {
         Ok(number)
     }
 
-    /// Takes the letter that arrived first of those that stand in the port, closed or not: `read_port`. None
-    /// where it is empty.
+    /// Takes the letter that arrived first of those that stand in the port, closed or not:
+    /// `read_port`. None where it is empty.
     pub fn take(&mut self) -> Option<Letter>
         ensures letter { result ≡ slice_get self.old.letters 0 }
         ensures after { self.new ≡ after_take self.old }

@@ -14,7 +14,8 @@ use Rattle.be_said.specs.declared.fault.LineFault.TheVariants as fault
 
 -- the line's deed was given, or its reason
 abbrev pub IsDeed : SoFar → Statement → At → Result Deed LineFault → Type 0
-IsDeed said statement at given = IsDue (deed_said said statement at) (result_map_both seen_deed (λ fault. fault) given)
+IsDeed said statement at given =
+    IsDue (deed_said said statement at) (result_map_both seen_deed (λ fault. fault) given)
 
 -- a deed, or the reason that holds against its line
 abbrev pub unless_faulty : {A : Type 0} → Option Reason → A → Result A LineFault

@@ -1,5 +1,7 @@
--- The kinds of what a line says behind its first word, and how each is read (the language is this project's own).
-use Rattle.std.specs.Prelude.{ℕ, ℤ, pos, ◌-ℤ◌, if◌then◌else◌, List, [], ◌∷◌, drop, Option, Some, None, Result, Ok, Err, codes, unsigned_abs, slice_get, option_map}
+-- The kinds of what a line says behind its first word, and how each is read (the language is this
+-- project's own).
+use Rattle.std.specs.Prelude.{ℕ, ℤ, pos, ◌-ℤ◌, if◌then◌else◌, List, [], ◌∷◌, drop, Option, Some}
+use Rattle.std.specs.Prelude.{None, Result, Ok, Err, codes, unsigned_abs, slice_get, option_map}
 use Rattle.std.specs.Option.{ok_or}
 use Rattle.std.specs.Result.{result_ok}
 use Rattle.std.specs.Map.{lookup}
@@ -26,17 +28,21 @@ use Rattle.be_line.specs.Fields.{fields_said}
 use Rattle.be_script.specs.Limits.{is_frame}
 use Rattle.be_line.specs.declared.options.Options.{Options}
 use Rattle.be_line.specs.Options.{options_said}
-use Rattle.be_said.specs.SoFar.{SoFar, bitmap_names, window_names, app_names, view_names, plain_names, known_in, window_of, row_width, has_message}
+use Rattle.be_said.specs.SoFar.{SoFar, bitmap_names, window_names, app_names, view_names}
+use Rattle.be_said.specs.SoFar.{plain_names, known_in, window_of, row_width, has_message}
 use Rattle.be_said.specs.Names.{handler_names, new_name}
-use Rattle.be_line.specs.Kinds.{first_of, said_as, across_words, down_words, what_said, filter_what_said, note_said, pixels_in, color_or_white}
+use Rattle.be_line.specs.Kinds.{first_of, said_as, across_words, down_words, what_said}
+use Rattle.be_line.specs.Kinds.{filter_what_said, note_said, pixels_in, color_or_white}
 
 pub data Kind : Type 0 where
-  -- names that are declared; a handler's is one of the window that the line names, and none of its others
+  -- names that are declared; a handler's is one of the window that the line names, and none of its
+  -- others
   a_new_bitmap : Kind
   a_new_window : Kind
   a_new_handler : Kind
   a_new_app : Kind
-  -- names of what is there: views and handlers of the window that the line names; a list may also be the common one
+  -- names of what is there: views and handlers of the window that the line names; a list may also
+  -- be the common one
   a_window : Kind
   a_view : Kind
   a_handler : Kind
@@ -129,23 +135,29 @@ view_or None plain = plain
 abbrev pub handler_with : SoFar → Option ℕ → List ℕ → Option Target
 handler_with said w word =
     if bytes_eq word (codes "window") then Some target.Window
-    else view_or (number_in (view_names said w) word) (plain_handler (number_in (plain_names said w) word))
+    else view_or (number_in (view_names said w) word)
+    (plain_handler (number_in (plain_names said w) word))
 
 abbrev pub handler_named : SoFar → Option ℕ → List ℕ → Result Target Reason
-handler_named said w word = if is_name word then ok_or (handler_with said w word) UnknownName else Err Shape
+handler_named said w word =
+    if is_name word then ok_or (handler_with said w word) UnknownName else Err Shape
 
 -- the list of a handler, or the common one
 abbrev pub list_named : SoFar → Option ℕ → List ℕ → Result (Option Target) Reason
-list_named said w word = if bytes_eq word (codes "common") then Ok None else said_as Some (handler_named said w word)
+list_named said w word =
+    if bytes_eq word (codes "common") then Ok None else said_as Some (handler_named said w word)
 
 -- ---- several words
 
-abbrev numbers_two : (List ℕ → Result ℤ Reason) → (List ℕ → Result ℤ Reason) → At → Result (ℤ × ℤ) Reason
+abbrev numbers_two : (List ℕ → Result ℤ Reason) → (List ℕ → Result ℤ Reason) → At
+    → Result (ℤ × ℤ) Reason
 numbers_two read_one read_other at = both (word_said read_one 0 at) (word_said read_other 1 at)
 
 abbrev pub frame_said : At → Result Rect Reason
 frame_said at =
-    said_as (λ r. record { left = r.0.0; top = r.0.1; right = r.1.0; bottom = r.1.1 }) (both (numbers_two coordinate coordinate at) (numbers_two coordinate coordinate (behind 2 at)))
+    said_as (λ r. record { left = r.0.0; top = r.0.1; right = r.1.0; bottom = r.1.1 })
+    (both (numbers_two coordinate coordinate at)
+    (numbers_two coordinate coordinate (behind 2 at)))
 
 abbrev with_pixels : Rect → Result Rect Reason
 with_pixels r = if is_frame r then Ok r else Err Range
@@ -157,7 +169,9 @@ window_frame (Err reason) = Err reason
 -- a column and a row of a screen of this size; before the screen's line there is none
 abbrev place_on : ℕ × ℕ → At → Result Point Reason
 place_on size at =
-    said_as (λ p. record { x = p.0; y = p.1 }) (numbers_two (numbered (pos 0) (pos size.0 -ℤ pos 1)) (numbered (pos 0) (pos size.1 -ℤ pos 1)) at)
+    said_as (λ p. record { x = p.0; y = p.1 })
+    (numbers_two (numbered (pos 0) (pos size.0 -ℤ pos 1))
+    (numbered (pos 0) (pos size.1 -ℤ pos 1)) at)
 
 abbrev pub place_said : Option (ℕ × ℕ) → At → Result Point Reason
 place_said (Some size) at = place_on size at
@@ -168,7 +182,8 @@ abbrev pub rule_by : SoFar → At → List ℕ → Result Rule Reason
 rule_by said at word =
     if bytes_eq word (codes "skip") then Ok Skip
     else if bytes_eq word (codes "pass") then Ok Pass
-    else if bytes_eq word (codes "redirect") then said_as Redirect (word_said (handler_named said at.window) 1 at)
+    else if bytes_eq word (codes "redirect")
+    then said_as Redirect (word_said (handler_named said at.window) 1 at)
     else Err Shape
 
 abbrev rule_length : Option (List ℕ) → ℕ
@@ -188,7 +203,8 @@ said before a_view at = word_said (named (view_names before at.window)) 0 at
 said before a_handler at = word_said (handler_named before at.window) 0 at
 said before a_list at = word_said (list_named before at.window) 0 at
 said before an_app at = word_said (named (app_names before)) 0 at
-said before (a_number low high) at = said_as unsigned_abs (word_said (numbered (pos low) (pos high)) 0 at)
+said before (a_number low high) at =
+    said_as unsigned_abs (word_said (numbered (pos low) (pos high)) 0 at)
 said before a_frame at = frame_said at
 said before a_window_frame at = window_frame (frame_said at)
 said before a_place at = place_said before.screen at
@@ -201,7 +217,8 @@ said before a_filter_what at = word_said filter_what_said 0 at
 said before a_rule at = word_said (rule_by before at) 0 at
 said before a_note at = word_said note_said 0 at
 said before some_fields at = fields_said (has_message before.begun) at.words
-said before some_pixels at = word_said (λ word. formed (pixels_in (row_width before.begun) word)) 0 at
+said before some_pixels at =
+    word_said (λ word. formed (pixels_in (row_width before.begun) word)) 0 at
 said before a_command at = command_or_reason (known_in before (window_of before.begun)) at.text
 
 -- the window that a word names, where it names one
@@ -249,4 +266,5 @@ ended (word ∷ words) = Err Shape
 -- all that a line says, to its end
 abbrev pub said_all : SoFar → (kinds : List Kind) → At → Result (SaidAll kinds) Reason
 said_all before [] at = ended at.words
-said_all before (kind ∷ kinds) at = both (said before kind at) (said_all before kinds (after before kind at))
+said_all before (kind ∷ kinds) at =
+    both (said before kind at) (said_all before kinds (after before kind at))

@@ -17,8 +17,10 @@ line_at words text = record { words = words; window = None; text = text }
 
 -- what a line with this first word makes, or the reason against it
 unfoldable pub deed_said : SoFar → Statement → At → Result Deed Reason
-deed_said said statement at = said_as (form_of statement).makes (said_all said (form_of statement).kinds at)
+deed_said said statement at =
+    said_as (form_of statement).makes (said_all said (form_of statement).kinds at)
 
 -- what the line of a command makes, by the names that it may use
 abbrev pub command_said : Known → List ℕ → Result Deed Reason
-command_said known text = said_as (λ command. adds_step (instruction.Draw command)) (command_or_reason known text)
+command_said known text =
+    said_as (λ command. adds_step (instruction.Draw command)) (command_or_reason known text)

@@ -16,9 +16,10 @@ first_reason None later = later
 first_reason (Some earlier) None = Some earlier
 first_reason (Some earlier) (Some later) = Some (first_of earlier later)
 
--- a part that says this, and leaves so much, was read: its reason counts beside the earlier ones, and where it has none
--- its value was given
-pub record Takes {A : Type 0} (said : Result A Reason) (left : At) (old new : Progress) (value : A) : Type 0 where
+-- a part that says this, and leaves so much, was read: its reason counts beside the earlier ones,
+-- and where it has none its value was given
+pub record Takes {A : Type 0} (said : Result A Reason) (left : At) (old new : Progress)
+    (value : A) : Type 0 where
   pub at : new.at ≡ left
   pub reason : new.reason ≡ first_reason old.reason (result_err said)
   pub value_is : (x : A) → said ≡ Ok x → value ≡ x

@@ -67,7 +67,8 @@ pub(crate) fn read_deed(
 /// The deed of a line whose kinds were read, unless a reason holds against the line.
 fn unless_faulty(line: Reading<'_>, deed: Deed) -> Result<Deed, LineFault>
     ensures { result_map_both seen_deed (λ fault. fault) result
-        ≡ unless_faulty (first_reason line.entry.reason (result_err (ended line.entry.at.words))) (seen_deed deed) }
+        ≡ unless_faulty (first_reason line.entry.reason (result_err (ended line.entry.at.words)))
+        (seen_deed deed) }
 {
     match line.finish() {
         None => Ok(deed),

@@ -6,7 +6,8 @@ ghost use Rattle.be_script.specs.Limits.{IsWithinLimits};
 
 /// What a script says that is read keeps every limit, so that the laws of the machine hold of it.
 pub fn an_accepted_script_keeps_its_limits(bytes: &[u8])
-    ensures { (said : SoFar) (size : ℕ × ℕ) → script_of bytes.now ≡ Ok said → said.screen ≡ Some size → IsWithinLimits (declared_in said size) }
+    ensures { (said : SoFar) (size : ℕ × ℕ) → script_of bytes.now ≡ Ok said
+        → said.screen ≡ Some size → IsWithinLimits (declared_in said size) }
 {}
 
 /// Where a script's fault is of a line behind some of its first ones, these lines alone have no

@@ -7,8 +7,8 @@ ghost use Rattle.be_said.specs.Names.{handler_names, new_name};
 ghost use Rattle.be_reader.specs.Kinds.{handler_named, list_named};
 ghost use Rattle.be_said.specs.SoFar.{app_names, bitmap_names, view_names, window_names};
 
-// What a word says that is a name, beside the names that were said so far, or what is wrong with it.
-// None stands for a missing word.
+// What a word says that is a name, beside the names that were said so far, or what is wrong with
+// it. None stands for a missing word.
 
 use be_command::Reason;
 use be_lex::is_name;

@@ -1,4 +1,5 @@
-ghost use Rattle.std.specs.Prelude.{◌≡◌, ◌+◌, ◌-ℤ◌, ◌≤◌, [], IfOk, None, Some, pos, slice_get, unsigned_abs};
+ghost use Rattle.std.specs.Prelude.{◌≡◌, ◌+◌, ◌-ℤ◌, ◌≤◌, [], IfOk, None, Some, pos, slice_get};
+ghost use Rattle.std.specs.Prelude.{unsigned_abs};
 ghost use Rattle.std.specs.Map.{lookup};
 ghost use Rattle.std.specs.Option.{option_map};
 ghost use Rattle.std.specs.Result.{result_err, result_map_both};
@@ -7,12 +8,16 @@ ghost use Rattle.be_actor.specs.DraftViews.{seen_words};
 ghost use Rattle.be_command.specs.Kinds.{coordinate, formed, named, numbered};
 ghost use Rattle.be_lex.specs.Words.{words_of};
 ghost use Rattle.be_line.specs.Fields.{fields_said};
-ghost use Rattle.be_line.specs.Kinds.{across_words, color_or_white, down_words, filter_what_said, note_said, pixels_in, said_as, what_said};
+ghost use Rattle.be_line.specs.Kinds.{across_words, color_or_white, down_words, filter_what_said};
+ghost use Rattle.be_line.specs.Kinds.{note_said, pixels_in, said_as, what_said};
 ghost use Rattle.be_line.specs.Options.{options_said};
 ghost use Rattle.be_said.specs.Names.{handler_names, new_name};
-ghost use Rattle.be_reader.specs.Kinds.{a_rule, a_window, after, behind, ended, frame_said, handler_named, list_named, place_said, rule_by, window_frame, word_said};
+ghost use Rattle.be_reader.specs.Kinds.{a_rule, a_window, after, behind, ended, frame_said};
+ghost use Rattle.be_reader.specs.Kinds.{handler_named, list_named, place_said, rule_by};
+ghost use Rattle.be_reader.specs.Kinds.{window_frame, word_said};
 ghost use Rattle.be_reader.specs.Progress.{Takes, first_reason};
-ghost use Rattle.be_said.specs.SoFar.{app_names, bitmap_names, has_message, row_width, view_names, window_names};
+ghost use Rattle.be_said.specs.SoFar.{app_names, bitmap_names, has_message, row_width, view_names};
+ghost use Rattle.be_said.specs.SoFar.{window_names};
 
 use crate::{naming, pixels, screen};
 use be_actor::FieldWord;
@@ -128,7 +133,8 @@ impl<'a> Reading<'a> {
 impl<'a> Reading<'a> {
     /// `low` is 0 or more.
     pub(crate) fn number(&mut self, low: u16, high: u16) -> u16
-        ensures { Takes (said_as unsigned_abs (word_said (numbered (pos low) (pos high)) 0 self.old.at))
+        ensures { Takes (said_as unsigned_abs
+            (word_said (numbered (pos low) (pos high)) 0 self.old.at))
             (behind 1 self.old.at) self.old self.new result }
     {
         let read = judging::natural(self.word(), low, high);
@@ -211,7 +217,8 @@ impl<'a> Reading<'a> {
     }
 
     pub(crate) fn across(&mut self) -> Across
-        ensures { Takes (word_said (λ word. formed (lookup (bytes_eq word) across_words)) 0 self.old.at)
+        ensures { Takes (word_said (λ word. formed (lookup (bytes_eq word) across_words)) 0
+            self.old.at)
             (behind 1 self.old.at) self.old self.new result }
     {
         let read = judging::across(self.word());
@@ -219,7 +226,8 @@ impl<'a> Reading<'a> {
     }
 
     pub(crate) fn down(&mut self) -> Down
-        ensures { Takes (word_said (λ word. formed (lookup (bytes_eq word) down_words)) 0 self.old.at)
+        ensures { Takes (word_said (λ word. formed (lookup (bytes_eq word) down_words)) 0
+            self.old.at)
             (behind 1 self.old.at) self.old self.new result }
     {
         let read = judging::down(self.word());
@@ -279,7 +287,8 @@ impl<'a> Reading<'a> {
     }
 
     pub(crate) fn new_handler(&mut self, said: &SoFar) -> &'a [u8]
-        ensures { Takes (word_said (new_name (handler_names said.now self.old.at.window)) 0 self.old.at)
+        ensures { Takes (word_said (new_name (handler_names said.now self.old.at.window)) 0
+            self.old.at)
             (behind 1 self.old.at) self.old self.new result.now }
     {
         let read = naming::new_handler(said, self.window, self.word());
@@ -369,7 +378,8 @@ impl<'a> Reading<'a> {
 
     /// All words that are left, as FIELDS. They take memory.
     pub(crate) fn fields(&mut self, alloc: Global, said: &SoFar) -> Result<Vec<FieldWord>, NoMemory>
-        ensures { IfOk result (λ fields. Takes (fields_said (has_message said.now.begun) self.old.at.words)
+        ensures { IfOk result
+            (λ fields. Takes (fields_said (has_message said.now.begun) self.old.at.words)
             (record self.old.at { words = [] }) self.old self.new (seen_words fields.items)) }
     {
         let read = read_fields(alloc, &mut self.words, said.has_message())?;

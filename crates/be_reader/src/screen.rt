@@ -14,7 +14,8 @@ use be_line::judging;
 /// A number from 0 on, below `count`. None stands for a missing word.
 pub(crate) fn below(word: Option<&[u8]>, count: u16) -> Result<i16, Reason>
     requires { count ≤ 1024 }
-    ensures { result ≡ judged (numbered (pos 0) (pos count -ℤ pos 1)) (option_map (λ w. w.now) word.entry) }
+    ensures { result ≡ judged (numbered (pos 0) (pos count -ℤ pos 1))
+        (option_map (λ w. w.now) word.entry) }
 {
     Ok(judging::number(word, 0, i32::from(count) - 1)? as i16)
 }

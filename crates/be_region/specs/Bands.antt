@@ -4,7 +4,8 @@ use Rattle.std.specs.List.{AllPairs}
 use Rattle.be_geom.specs.declared.rect.Rect.{Rect}
 use Rattle.be_region.specs.Regions.{region_has, IsNotEmpty, SamePixels}
 
--- the first rectangle is in the same rows as the second and further left, with a column between them, or above it
+-- the first rectangle is in the same rows as the second and further left, with a column between
+-- them, or above it
 abbrev pub IsBefore : Rect → Rect → Type 0
 IsBefore r s =
     ((r.top ≡ s.top) × (r.bottom ≡ s.bottom) × ((r.right +ℤ pos 1) <ℤ s.left)) ⊎ (r.bottom <ℤ s.top)
@@ -13,8 +14,9 @@ IsBefore r s =
 abbrev pub RowsDiffer : List Rect → ℤ → ℤ → Type 0
 RowsDiffer rs y z = (x : ℤ) × (region_has rs x y ≡ not (region_has rs x z))
 
--- rectangles in the same rows are the spans of a band; bands go down, and the spans of each go right without touching;
--- the row above a band is another one than its rows, so that bands that touch have different spans
+-- rectangles in the same rows are the spans of a band; bands go down, and the spans of each go
+-- right without touching; the row above a band is another one than its rows, so that bands that
+-- touch have different spans
 pub record AreBands (rs : List Rect) : Type 0 where
   pub none_empty : All IsNotEmpty rs
   pub in_order : AllPairs IsBefore rs

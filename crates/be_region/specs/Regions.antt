@@ -1,5 +1,6 @@
--- Sets of pixels as lists of rectangles, and what the calls make of them (The Be Book: BRegion, Include, Exclude,
--- IntersectWith, OffsetBy, Contains; that a set that leaves the range isn't moved is this project's own).
+-- Sets of pixels as lists of rectangles, and what the calls make of them (The Be Book: BRegion,
+-- Include, Exclude, IntersectWith, OffsetBy, Contains; that a set that leaves the range isn't moved
+-- is this project's own).
 use Rattle.std.specs.Prelude.{◌≡◌, ℤ, ◌+ℤ◌, ◌-ℤ◌, ◌≤ℤ◌, Bool, true, false, not, ◌&&◌, ◌||◌, List}
 use Rattle.std.specs.List.{list_any}
 use Rattle.be_geom.specs.declared.rect.Rect.{Rect}
@@ -41,7 +42,8 @@ IsMoved rs a dx dy = (x y : ℤ) → region_has rs x y ≡ region_has a (x -ℤ 
 -- moved by (dx, dy), some pixel of the region has a coordinate out of range
 abbrev pub SomePixelLeaves : List Rect → ℤ → ℤ → Type 0
 SomePixelLeaves rs dx dy =
-    (x : ℤ) × ((y : ℤ) × ((region_has rs x y ≡ true) × ((in_range (x +ℤ dx) && in_range (y +ℤ dy)) ≡ false)))
+    (x : ℤ) × ((y : ℤ) × ((region_has rs x y ≡ true)
+    × ((in_range (x +ℤ dx) && in_range (y +ℤ dy)) ≡ false)))
 
 -- the edges are in order, so that there is a pixel
 pub record IsNotEmpty (r : Rect) : Type 0 where

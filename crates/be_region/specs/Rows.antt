@@ -1,5 +1,6 @@
 -- The bands of a region, one by one (this project's own).
-use Rattle.std.specs.Prelude.{◌≡◌, ◌<◌, ℤ, pos, negsuc, ◌+ℤ◌, ◌≤ℤ◌, ◌<ℤ◌, ◌⊎◌, Bool, true, false, List, [], ◌∷◌, length, All}
+use Rattle.std.specs.Prelude.{◌≡◌, ◌<◌, ℤ, pos, negsuc, ◌+ℤ◌, ◌≤ℤ◌, ◌<ℤ◌, ◌⊎◌, Bool, true, false}
+use Rattle.std.specs.Prelude.{List, [], ◌∷◌, length, All}
 use Rattle.std.specs.List.{list_any, AllPairs}
 use Rattle.be_geom.specs.declared.rect.Rect.{Rect}
 use Rattle.be_geom.specs.Points.{between}
@@ -20,7 +21,8 @@ abbrev pub IsLine : List Rect → Type 0
 IsLine [] = Unit {0}
 IsLine (r ∷ rs) = (r.left ≤ℤ r.right) × IsLineAfter (r.right +ℤ pos 1) rs
 
--- the first band, in the rows from top to bottom, and those below; where there is none, the row below all others
+-- the first band, in the rows from top to bottom, and those below; where there is none, the row
+-- below all others
 pub record IsRows (band rest : List Rect) (top bottom : ℤ) : Type 0 where
   pub line : IsLine band
   pub rows : All (λ r. (r.top ≡ top) × (r.bottom ≡ bottom)) band
@@ -29,7 +31,8 @@ pub record IsRows (band rest : List Rect) (top bottom : ℤ) : Type 0 where
   pub none_empty : All IsNotEmpty rest
   pub in_order : AllPairs IsBefore rest
   pub low : negsuc 32767 ≤ℤ top
-  pub there : ((0 < length band) × (bottom ≤ℤ pos 32767)) ⊎ ((band ≡ []) × (rest ≡ []) × (top ≡ pos 32768) × (bottom ≡ pos 32768))
+  pub there : ((0 < length band) × (bottom ≤ℤ pos 32767))
+      ⊎ ((band ≡ []) × (rest ≡ []) × (top ≡ pos 32768) × (bottom ≡ pos 32768))
 
 -- no rectangle ends above the row
 abbrev pub AreFrom : ℤ → List Rect → Type 0

@@ -1,5 +1,6 @@
 -- The spans of a band that is being made (this project's own).
-use Rattle.std.specs.Prelude.{◌≡◌, ℤ, pos, ◌+ℤ◌, ◌-ℤ◌, ◌≤◌, ◌≤ℤ◌, ◌<ℤ◌, Bool, not, List, [], ◌∷◌, ◌++◌, length, take, drop, map, All}
+use Rattle.std.specs.Prelude.{◌≡◌, ℤ, pos, ◌+ℤ◌, ◌-ℤ◌, ◌≤◌, ◌≤ℤ◌, ◌<ℤ◌, Bool, not, List, [], ◌∷◌}
+use Rattle.std.specs.Prelude.{◌++◌, length, take, drop, map, All}
 use Rattle.std.specs.List.{list_any}
 use Rattle.be_geom.specs.declared.rect.Rect.{Rect}
 use Rattle.be_geom.specs.Points.{between}
@@ -20,7 +21,8 @@ span_of r = record { left = r.left; right = r.right }
 -- the spans lie between two columns, in order, none is empty, and no two touch
 abbrev pub AreWithin : ℤ → List Span → ℤ → Type 0
 AreWithin low [] high = low <ℤ high
-AreWithin low (s ∷ spans) high = (low <ℤ s.left) × (s.left ≤ℤ s.right) × AreWithin (s.right +ℤ pos 1) spans high
+AreWithin low (s ∷ spans) high =
+    (low <ℤ s.left) × (s.left ≤ℤ s.right) × AreWithin (s.right +ℤ pos 1) spans high
 
 -- spans in order, none empty, of which no two touch
 abbrev pub AreSpans : List Span → Type 0
@@ -56,4 +58,6 @@ pub record AreOpenBands (b : Bands) : Type 0 where
   pub down : b.top ≤ℤ b.bottom
   pub apart : AreSpans b.spans.items
   pub first : b.spans.items ≡ [] → done_of b ≡ []
-  pub differs : All (λ s. (x : ℤ) × (region_has (done_of b) x (b.top -ℤ pos 1) ≡ not (spans_have b.spans.items x))) b.spans.items
+  pub differs : All (λ s. (x : ℤ)
+      × (region_has (done_of b) x (b.top -ℤ pos 1) ≡ not (spans_have b.spans.items x)))
+      b.spans.items

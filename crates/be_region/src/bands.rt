@@ -1,8 +1,10 @@
-ghost use Rattle.std.specs.Prelude.{◌≡◌, ℤ, pos, ◌≤ℤ◌, ◌<ℤ◌, ◌+ℤ◌, ◌||◌, ◌&&◌, ◌++◌, [], IfOk, OnOk, IsTrue, ◌↔◌};
+ghost use Rattle.std.specs.Prelude.{◌≡◌, ℤ, pos, ◌≤ℤ◌, ◌<ℤ◌, ◌+ℤ◌, ◌||◌, ◌&&◌, ◌++◌, [], IfOk};
+ghost use Rattle.std.specs.Prelude.{OnOk, IsTrue, ◌↔◌};
 ghost use Rattle.be_geom.specs.Points.{between};
 ghost use Rattle.be_region.specs.Regions.{region_has};
 ghost use Rattle.be_region.specs.Rows.{AreAbove};
-ghost use Rattle.be_region.specs.Spans.{spans_have, AreSpans, AreOpenBands, kept_of, bands_of, rects_of, rect_of};
+ghost use Rattle.be_region.specs.Spans.{spans_have, AreSpans, AreOpenBands, kept_of, bands_of};
+ghost use Rattle.be_region.specs.Spans.{rects_of, rect_of};
 
 use crate::span::{Span, Spans};
 use be_geom::{NoMemory, Rect};

@@ -1,4 +1,5 @@
-ghost use Rattle.std.specs.Prelude.{◌≡◌, ℤ, pos, ◌≤ℤ◌, ◌<ℤ◌, ◌≤◌, ◌++◌, true, false, [], All, length, int_lt, int_le, IfOk, IfNone, IfSome};
+ghost use Rattle.std.specs.Prelude.{◌≡◌, ℤ, pos, ◌≤ℤ◌, ◌<ℤ◌, ◌≤◌, ◌++◌, true, false, [], All};
+ghost use Rattle.std.specs.Prelude.{length, int_lt, int_le, IfOk, IfNone, IfSome};
 ghost use Rattle.std.specs.List.{AllPairs, AllWithin};
 ghost use Rattle.be_region.specs.Regions.{region_has, IsNotEmpty};
 ghost use Rattle.be_region.specs.Bands.{IsBefore, AreBands};

@@ -1,5 +1,7 @@
-ghost use Rattle.std.specs.Prelude.{◌≡◌, ◌≤◌, ◌↔◌, false, length, slice_get, IsErr, IsNone, IfOk, IfNone, IfSome, OnOk, OnErr};
-ghost use Rattle.be_region.specs.Regions.{region_has, HasNone, HasPixelsOf, SamePixels, IsUnion, IsDifference, IsIntersection, IsMoved, SomePixelLeaves};
+ghost use Rattle.std.specs.Prelude.{◌≡◌, ◌≤◌, ◌↔◌, false, length, slice_get, IsErr, IsNone, IfOk};
+ghost use Rattle.std.specs.Prelude.{IfNone, IfSome, OnOk, OnErr};
+ghost use Rattle.be_region.specs.Regions.{region_has, HasNone, HasPixelsOf, SamePixels, IsUnion};
+ghost use Rattle.be_region.specs.Regions.{IsDifference, IsIntersection, IsMoved, SomePixelLeaves};
 ghost use Rattle.be_region.specs.Bands.{AreBands};
 ghost use Rattle.be_region.specs.Runs.{IsRun};
 ghost use Rattle.be_region.specs.Frames.{IsFrame};

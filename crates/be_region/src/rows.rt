@@ -1,4 +1,5 @@
-ghost use Rattle.std.specs.Prelude.{◌≡◌, ℤ, ◌+ℤ◌, ◌≤ℤ◌, ◌<ℤ◌, ◌≤◌, ◌<◌, ◌⊎◌, pos, negsuc, false, [], All, IsTrue, ◌↔◌, length, take, slice_index_or};
+ghost use Rattle.std.specs.Prelude.{◌≡◌, ℤ, ◌+ℤ◌, ◌≤ℤ◌, ◌<ℤ◌, ◌≤◌, ◌<◌, ◌⊎◌, pos, negsuc, false};
+ghost use Rattle.std.specs.Prelude.{[], All, IsTrue, ◌↔◌, length, take, slice_index_or};
 ghost use Rattle.std.specs.List.{AllPairs};
 ghost use Rattle.be_region.specs.Regions.{region_has, IsNotEmpty};
 ghost use Rattle.be_region.specs.Bands.{IsBefore};

@@ -21,4 +21,6 @@ cell_again waiting = refl
 cell_again (replied m) = refl
 
 abbrev pub cell_code : Coded Cell
-cell_code = code_by (Option (Option Message)) (coded_option (coded_option message_code)) parts_of cell_from cell_again
+cell_code =
+    code_by (Option (Option Message)) (coded_option (coded_option message_code)) parts_of cell_from
+    cell_again

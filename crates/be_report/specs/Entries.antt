@@ -19,9 +19,11 @@ use Rattle.be_machine.specs.declared.Replied.{Replied}
 use Rattle.be_machine.specs.declared.Replied.TheVariants as reply
 use Rattle.be_report.specs.declared.kind.Kind.{Kind}
 use Rattle.be_report.specs.declared.kind.Kind.TheVariants as kind
-use Rattle.be_written.specs.EntryText.{replied_word, answered_word, outcome_word, begin_word, end_word}
+use Rattle.be_written.specs.EntryText.{replied_word, answered_word, outcome_word, begin_word}
+use Rattle.be_written.specs.EntryText.{end_word}
 use Rattle.be_written.specs.Names.{actor_names, window_names}
-use Rattle.be_report.specs.Readers.{Reader, ◌>>=◌, gives, next_word, all_of, exactly, optional, one_of, place_in, number, note_of}
+use Rattle.be_report.specs.Readers.{Reader, ◌>>=◌, gives, next_word, all_of, exactly, optional}
+use Rattle.be_report.specs.Readers.{one_of, place_in, number, note_of}
 
 -- ---- parts of entries
 

@@ -1,5 +1,7 @@
 -- How the words of a line are read, one after the other (this project's own).
-use Rattle.std.specs.Prelude.{◌≡◌, ℕ, pos, ◌-◌, ◌^◌, ◌==◌, not, ◌&&◌, unsigned_abs, List, [], ◌∷◌, slice_index, Option, Some, None, option_map, option_and_then, if◌then◌else◌}
+use Rattle.std.specs.Prelude.{◌≡◌, ℕ, pos, ◌-◌, ◌^◌, ◌==◌, not, ◌&&◌, unsigned_abs, List, [], ◌∷◌}
+use Rattle.std.specs.Prelude.{slice_index, Option, Some, None, option_map, option_and_then}
+use Rattle.std.specs.Prelude.{if◌then◌else◌}
 use Rattle.std.specs.Map.{lookup}
 use Rattle.std.specs.Str.{bytes_eq}
 use Rattle.be_command.specs.Names.{number_in}

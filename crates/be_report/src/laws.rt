@@ -1,4 +1,6 @@
-ghost use Rattle.be_report.specs.Laws.{WordsSayTheirEntry, NoOtherWords, TextTellsHistory, OnlyItsText, LegalIsPossible, ReportTellsHistory, BreaksAtALine};
+ghost use Rattle.be_report.specs.Laws.{WordsSayTheirEntry, NoOtherWords, TextTellsHistory};
+ghost use Rattle.be_report.specs.Laws.{OnlyItsText, LegalIsPossible, ReportTellsHistory};
+ghost use Rattle.be_report.specs.Laws.{BreaksAtALine};
 
 // What holds of reports. Each law is the contract of a function with an empty body.
 

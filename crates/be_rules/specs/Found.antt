@@ -30,11 +30,13 @@ NeedsPart d held a p =
     × ((e : Entry) → e.actor ≡ a → (all : List Slice) → IsSound d all → Fits all held
     → TouchesAt d (state_of d all) e p)
 
--- the parts in hand are what the activity's want reads: its own, and where its program has a lock the looper
+-- the parts in hand are what the activity's want reads: its own, and where its program has a lock
+-- the looper
 abbrev pub OwnHeld : Declared → List (ℕ × Slice) → List Slice → Activity → Type 0
 OwnHeld d held all (runner (app m)) =
     IsHeld held (place_of d (part.cell m))
-    × ((a : App) (w : ℕ) → slice_get (state_of d all).apps m ≡ Some a → reads_buffer (step_of d m a) ≡ true
+    × ((a : App) (w : ℕ) → slice_get (state_of d all).apps m ≡ Some a
+    → reads_buffer (step_of d m a) ≡ true
     → lock_of d m a ≡ Some w → IsHeld held (place_of d (part.looper w)))
 OwnHeld d held all (runner (looper w)) = IsHeld held (place_of d (part.looper w))
 OwnHeld d held all (twin w) = IsHeld held (place_of d (part.pane w))

@@ -1,5 +1,6 @@
 -- How many entries each part can still bring.
-use Rattle.std.specs.Prelude.{ℕ, ◌+◌, Bool, true, false, List, [], ◌∷◌, sum_by, Option, Some, None, if◌then◌else◌}
+use Rattle.std.specs.Prelude.{ℕ, ◌+◌, Bool, true, false, List, [], ◌∷◌, sum_by, Option, Some, None}
+use Rattle.std.specs.Prelude.{if◌then◌else◌}
 use Rattle.be_link.specs.Queues.{Buffer, Numbered}
 use Rattle.be_message.specs.Messages.{Message}
 use Rattle.be_pane.specs.Panes.{Pane}
@@ -9,7 +10,8 @@ use Rattle.be_script.specs.Work.{update_cost, updates_cost}
 use Rattle.be_span.specs.declared.Cell.{Cell}
 use Rattle.be_machine.specs.Program.{app_program}
 use Rattle.be_machine.specs.State.{App, Looper}
-use Rattle.be_machine.specs.Shares.{left, app_cost, looper_share, letter_share, in_buffer, in_link, dirt, going, input_share}
+use Rattle.be_machine.specs.Shares.{left, app_cost, looper_share, letter_share, in_buffer, in_link}
+use Rattle.be_machine.specs.Shares.{dirt, going, input_share}
 use Rattle.be_rules.specs.Slices.{Slice, desk, input, cell, looper, port, link, pane}
 
 abbrev pub app_part : Declared → ℕ → Option App → ℕ

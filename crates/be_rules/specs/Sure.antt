@@ -1,11 +1,13 @@
 -- Which parts a want touches, computed from what is seen of a state.
-use Rattle.std.specs.Prelude.{◌≡◌, ◌⊎◌, ℕ, ◌==◌, List, [], ◌∷◌, ◌++◌, Option, Some, None, slice_get, option_map, option_and_then, if◌then◌else◌}
+use Rattle.std.specs.Prelude.{◌≡◌, ◌⊎◌, ℕ, ◌==◌, List, [], ◌∷◌, ◌++◌, Option, Some, None, slice_get}
+use Rattle.std.specs.Prelude.{option_map, option_and_then, if◌then◌else◌}
 use Rattle.be_actor.specs.declared.Wish.{Wish}
 use Rattle.be_actor.specs.declared.Wish.TheVariants as wish
 use Rattle.be_command.specs.Effects.{Effect, at_view, changes, ends_update, effect_of}
 use Rattle.be_desk.specs.Changes.{Desk}
 use Rattle.be_geom.specs.declared.change.Change.{Change}
-use Rattle.be_geom.specs.declared.change.Change.TheVariants.{Show, Hide, MoveTo, MoveBy, ResizeTo, Activate, Behind, Focus, Close}
+use Rattle.be_geom.specs.declared.change.Change.TheVariants.{Show, Hide, MoveTo, MoveBy, ResizeTo}
+use Rattle.be_geom.specs.declared.change.Change.TheVariants.{Activate, Behind, Focus, Close}
 use Rattle.be_input.specs.declared.Event.{Event}
 use Rattle.be_input.specs.declared.Event.TheVariants as event
 use Rattle.be_input.specs.Deliveries.{Post, Delivery, delivered}
@@ -20,7 +22,8 @@ use Rattle.be_machine.specs.Input.{delivery_of}
 use Rattle.be_machine.specs.Program.{hand_in, locked_by, lock_of}
 use Rattle.be_machine.specs.State.{State, App, Looper}
 use Rattle.be_machine.specs.Touched.{Part, desk, input, cell, looper, port, link, pane, own_part}
-use Rattle.be_machine.specs.Wants.{Want, asks, takes, begins, flushes, draws_end, ends, notifies, executes, uses, stops}
+use Rattle.be_machine.specs.Wants.{Want, asks, takes, begins, flushes, draws_end, ends, notifies}
+use Rattle.be_machine.specs.Wants.{executes, uses, stops}
 use Rattle.be_rules.specs.Slices as slice
 use Rattle.be_rules.specs.Slices.{Slice}
 
@@ -93,7 +96,8 @@ in_hand d held = record {
   lock = λ m. option_and_then (lock_of d m) (find_in (app_of m) held);
   waits = λ w. option_and_then waiter_in (find_in (looper_of w) held);
   oldest = λ w. option_and_then effect_in (find_in (link_of w) held);
-  delivery = λ e. option_map (λ (x : Desk). delivered x.windows x.pointing e) (find_in slice.desk_in held);
+  delivery =
+      λ e. option_map (λ (x : Desk). delivered x.windows x.pointing e) (find_in slice.desk_in held);
 }
 
 -- ---- the parts
@@ -149,7 +153,8 @@ post_parts None = []
 
 -- where the desk isn't seen, it is needed first
 abbrev pub delivery_parts : Option Delivery → List Part
-delivery_parts (Some x) = desk ∷ (post_parts x.first ++ (post_parts x.second ++ maybe pane x.activate))
+delivery_parts (Some x) =
+    desk ∷ (post_parts x.first ++ (post_parts x.second ++ maybe pane x.activate))
 delivery_parts None = desk ∷ []
 
 abbrev pub event_parts : Seen → InputLine → List Part

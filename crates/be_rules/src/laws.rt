@@ -1,5 +1,10 @@
 ghost use Rattle.be_hall.specs.Machine.{Lawful};
-ghost use Rattle.be_rules.specs.Laws.{SlicesAreTheState, OpeningIsSound, OpeningIsWithinWork, OneListTellsAll, NextIsKnown, NextFits, WantsAreKnown, PartsAreTheScripts, PartsAreNeeded, WaitingIsKnown, EndingIsKnown, AllPartsTell, AlteredAreNeeded, ActivatedAreNeeded, NobodyIsStuck, StopStops, NothingFollows, LastOneStops};
+ghost use Rattle.be_rules.specs.Laws.{SlicesAreTheState, OpeningIsSound, OpeningIsWithinWork};
+ghost use Rattle.be_rules.specs.Laws.{OneListTellsAll, NextIsKnown, NextFits, WantsAreKnown};
+ghost use Rattle.be_rules.specs.Laws.{PartsAreTheScripts, PartsAreNeeded, WaitingIsKnown};
+ghost use Rattle.be_rules.specs.Laws.{EndingIsKnown, AllPartsTell, AlteredAreNeeded};
+ghost use Rattle.be_rules.specs.Laws.{ActivatedAreNeeded, NobodyIsStuck, StopStops, NothingFollows};
+ghost use Rattle.be_rules.specs.Laws.{LastOneStops};
 ghost use Rattle.be_rules.specs.Rules.{world_machine};
 ghost use Rattle.be_script.specs.Script.{Declared};
 
@@ -26,8 +31,8 @@ pub fn one_list_tells_all()
     ensures fits { NextFits }
 {}
 
-/// Whoever has an activity's own parts knows what it wants; which parts beside them it touches is seen
-/// in the parts in hand.
+/// Whoever has an activity's own parts knows what it wants; which parts beside them it touches is
+/// seen in the parts in hand.
 pub fn own_parts_tell_what_is_wanted()
     ensures wants { WantsAreKnown }
     ensures parts { PartsAreTheScripts }

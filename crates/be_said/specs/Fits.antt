@@ -1,5 +1,5 @@
--- Which deeds a line makes that is read beside what was said: what they name is there, and they stand where they may
--- (this project's own).
+-- Which deeds a line makes that is read beside what was said: what they name is there, and they
+-- stand where they may (this project's own).
 use Rattle.std.specs.Prelude.{◌≡◌, ℕ, ◌<◌, ◌≤◌, List, length, Option, Some, None, Ok}
 use Rattle.be_actor.specs.declared.Instruction.{Instruction}
 use Rattle.be_actor.specs.declared.Instruction.TheVariants as instruction
@@ -7,9 +7,12 @@ use Rattle.be_handler.specs.declared.Rule.{Rule}
 use Rattle.be_handler.specs.declared.Rule.TheVariants.{Skip, Pass, Redirect}
 use Rattle.be_message.specs.declared.target.Target.{Target}
 use Rattle.be_message.specs.declared.target.Target.TheVariants as target
-use Rattle.be_said.specs.Deeds.{Deed, sizes_screen, begins_bitmap, adds_row, adds_window, adds_view, adds_handler, adds_filter, begins_body, begins_draw, begins_program, adds_input, adds_step, closes}
+use Rattle.be_said.specs.Deeds.{Deed, sizes_screen, begins_bitmap, adds_row, adds_window, adds_view}
+use Rattle.be_said.specs.Deeds.{adds_handler, adds_filter, begins_body, begins_draw, begins_program}
+use Rattle.be_said.specs.Deeds.{adds_input, adds_step, closes}
 use Rattle.be_said.specs.Names.{handler_names, new_name}
-use Rattle.be_said.specs.SoFar.{SoFar, Begun, nothing, bitmap, handler_body, draw_body, program, app_names, bitmap_names, plain_names, view_names, window_names}
+use Rattle.be_said.specs.SoFar.{SoFar, Begun, nothing, bitmap, handler_body, draw_body, program}
+use Rattle.be_said.specs.SoFar.{app_names, bitmap_names, plain_names, view_names, window_names}
 
 -- a name that none of these has, and that may be declared
 abbrev pub IsNew : List (List ℕ) → List ℕ → Type 0
@@ -62,19 +65,25 @@ HasSteps (program name lock steps) = Unit {0}
 abbrev pub Fits : SoFar → Deed → Type 0
 Fits said (sizes_screen width height) = (width ≤ 1024) × (height ≤ 768)
 Fits said (begins_bitmap name width height) =
-    (said.begun ≡ nothing) × IsNew (bitmap_names said) name × (1 ≤ width) × (width ≤ 256) × (1 ≤ height) × (height ≤ 256)
+    (said.begun ≡ nothing) × IsNew (bitmap_names said) name × (1 ≤ width) × (width ≤ 256)
+    × (1 ≤ height) × (height ≤ 256)
 Fits said (adds_row colors) = IsRow said.begun (length colors)
 Fits said (adds_window line) = (said.begun ≡ nothing) × IsNew (window_names said) line.name
 Fits said (adds_view line) =
-    (said.begun ≡ nothing) × (line.window < length said.windows) × IsNew (handler_names said (Some line.window)) line.name
+    (said.begun ≡ nothing) × (line.window < length said.windows)
+    × IsNew (handler_names said (Some line.window)) line.name
     × (line.parent < length (view_names said (Some line.window)))
 Fits said (adds_handler line) =
-    (said.begun ≡ nothing) × (line.window < length said.windows) × IsNew (handler_names said (Some line.window)) line.name
+    (said.begun ≡ nothing) × (line.window < length said.windows)
+    × IsNew (handler_names said (Some line.window)) line.name
     × IsTarget said line.window line.next
 Fits said (adds_filter line) =
-    (said.begun ≡ nothing) × (line.window < length said.windows) × IsList said line.window line.list × IsRule said line.window line.rule
-Fits said (begins_body w handler what) = (said.begun ≡ nothing) × (w < length said.windows) × IsTarget said w handler
-Fits said (begins_draw w v) = (said.begun ≡ nothing) × (w < length said.windows) × (v < length (view_names said (Some w)))
+    (said.begun ≡ nothing) × (line.window < length said.windows) × IsList said line.window line.list
+    × IsRule said line.window line.rule
+Fits said (begins_body w handler what) =
+    (said.begun ≡ nothing) × (w < length said.windows) × IsTarget said w handler
+Fits said (begins_draw w v) =
+    (said.begun ≡ nothing) × (w < length said.windows) × (v < length (view_names said (Some w)))
 Fits said (begins_program name) = (said.begun ≡ nothing) × IsNew (app_names said) name
 Fits said (adds_input event) = said.begun ≡ nothing
 Fits said (adds_step step) = HasSteps said.begun × IsStep said step

@@ -1,5 +1,7 @@
 -- What a line's deed may not do any more, and what it leaves (the language is this project's own).
-use Rattle.std.specs.Prelude.{ℕ, ◌+◌, ◌*◌, ◌==◌, ◌&&◌, ◌||◌, Bool, false, nat_le, nat_lt, if◌then◌else◌, List, [], ◌∷◌, ◌++◌, fold, filter, length, Some, None, Result, Ok, Err, slice_index_or}
+use Rattle.std.specs.Prelude.{ℕ, ◌+◌, ◌*◌, ◌==◌, ◌&&◌, ◌||◌, Bool, false, nat_le, nat_lt}
+use Rattle.std.specs.Prelude.{if◌then◌else◌, List, [], ◌∷◌, ◌++◌, fold, filter, length, Some, None}
+use Rattle.std.specs.Prelude.{Result, Ok, Err, slice_index_or}
 use Rattle.std.specs.List.{list_any}
 use Rattle.be_actor.specs.Drafts.{DraftWords}
 use Rattle.be_actor.specs.declared.Instruction.{Instruction}
@@ -10,17 +12,21 @@ use Rattle.be_command.specs.declared.fault.Reason.TheVariants.{NameTaken, TooMan
 use Rattle.be_handler.specs.Routes.{same_target}
 use Rattle.be_script.specs.declared.FilterLine.{FilterLine}
 use Rattle.be_script.specs.declared.ViewLine.{ViewLine}
-use Rattle.be_said.specs.Deeds.{Deed, sizes_screen, begins_bitmap, adds_row, adds_window, adds_view, adds_handler, adds_filter, begins_body, begins_draw, begins_program, adds_input, adds_step, closes}
+use Rattle.be_said.specs.Deeds.{Deed, sizes_screen, begins_bitmap, adds_row, adds_window, adds_view}
+use Rattle.be_said.specs.Deeds.{adds_handler, adds_filter, begins_body, begins_draw, begins_program}
+use Rattle.be_said.specs.Deeds.{adds_input, adds_step, closes}
 use Rattle.be_script.specs.Limits.{same_list}
 use Rattle.be_script.specs.Programs.{lock_behind}
-use Rattle.be_said.specs.SoFar.{SoFar, Begun, nothing, bitmap, handler_body, draw_body, program, views_in, plain_in, steps_begun}
+use Rattle.be_said.specs.SoFar.{SoFar, Begun, nothing, bitmap, handler_body, draw_body, program}
+use Rattle.be_said.specs.SoFar.{views_in, plain_in, steps_begun}
 
 -- ---- what is there already
 
 -- two bodies of a handler for one word, or two Draw bodies of a view
 abbrev pub is_taken : SoFar → Deed → Bool
 is_taken said (begins_body w target what) =
-    list_any (λ line. line.window == w && same_target line.target target && line.what == what) said.bodies
+    list_any (λ line. line.window == w && same_target line.target target && line.what == what)
+    said.bodies
 is_taken said (begins_draw w v) = list_any (λ line. line.window == w && line.view == v) said.draws
 is_taken said (sizes_screen width height) = false
 is_taken said (begins_bitmap name width height) = false
@@ -49,7 +55,8 @@ depths_of lines = fold with_depth (1 ∷ []) lines
 
 -- the filters of one list of a window
 abbrev pub filters_beside : SoFar → FilterLine → List FilterLine
-filters_beside said line = filter (λ other. other.window == line.window && same_list other.list line.list) said.filters
+filters_beside said line =
+    filter (λ other. other.window == line.window && same_list other.list line.list) said.filters
 
 -- a message is made by at most 255 words
 abbrev pub is_long_draft : DraftWords → Bool
@@ -67,16 +74,19 @@ is_long_step instruction.Flush = false
 is_long_step instruction.Sync = false
 is_long_step (instruction.Draw command) = false
 
--- 64 bitmaps, 32 windows, 32 views of a window with its root and none deeper than 8, 16 plain handlers, 32 filters in a
--- list, 512 bodies of a window, 16 applications, 4,096 events of input, and 1,024 instructions
+-- 64 bitmaps, 32 windows, 32 views of a window with its root and none deeper than 8, 16 plain
+-- handlers, 32 filters in a list, 512 bodies of a window, 16 applications, 4,096 events of input,
+-- and 1,024 instructions
 abbrev pub is_too_many : SoFar → Deed → Bool
 is_too_many said (begins_bitmap name width height) = are_all 64 said.bitmaps
 is_too_many said (adds_window line) = are_all 32 said.windows
 is_too_many said (adds_view line) =
-    are_all 31 (views_in said line.window) || nat_le 8 (slice_index_or (depths_of (views_in said line.window)) line.parent 0)
+    are_all 31 (views_in said line.window)
+    || nat_le 8 (slice_index_or (depths_of (views_in said line.window)) line.parent 0)
 is_too_many said (adds_handler line) = are_all 16 (plain_in said line.window)
 is_too_many said (adds_filter line) = are_all 32 (filters_beside said line)
-is_too_many said (begins_body w target what) = are_all 512 (filter (λ line. line.window == w) said.bodies)
+is_too_many said (begins_body w target what) =
+    are_all 512 (filter (λ line. line.window == w) said.bodies)
 is_too_many said (begins_program name) = are_all 16 said.apps
 is_too_many said (adds_input event) = are_all 4096 said.input
 is_too_many said (adds_step step) = are_all 1024 (steps_begun said.begun) || is_long_step step
@@ -90,14 +100,20 @@ is_too_many said closes = false
 -- a row behind the others; the last one ends the bitmap
 abbrev pub with_colors : SoFar → List ℕ → ℕ → ℕ → List Color → SoFar
 with_colors said name width height colors =
-    if nat_lt (length colors) (width * height) then record said { begun = bitmap name width height colors }
+    if nat_lt (length colors) (width * height)
+    then record said { begun = bitmap name width height colors }
     else record said {
-      bitmaps = said.bitmaps ++ record { name = name; bitmap = record { width = width; height = height; colors = colors } } ∷ [];
+      bitmaps =
+          said.bitmaps ++ record {
+            name = name;
+            bitmap = record { width = width; height = height; colors = colors };
+          } ∷ [];
       begun = nothing;
     }
 
 abbrev pub with_row : SoFar → List Color → Begun → SoFar
-with_row said row (bitmap name width height colors) = with_colors said name width height (colors ++ row)
+with_row said row (bitmap name width height colors) =
+    with_colors said name width height (colors ++ row)
 with_row said row nothing = said
 with_row said row (handler_body w target what steps) = said
 with_row said row (draw_body w v steps) = said
@@ -114,17 +130,28 @@ with_step step (bitmap name width height colors) = bitmap name width height colo
 -- what was begun stands behind the others of its sort
 abbrev pub closed : SoFar → Begun → SoFar
 closed said (handler_body w target what steps) =
-    record said { bodies = said.bodies ++ record { window = w; target = target; what = what; program = steps } ∷ []; begun = nothing }
+    record said {
+      bodies = said.bodies
+          ++ record { window = w; target = target; what = what; program = steps } ∷ [];
+      begun = nothing;
+    }
 closed said (draw_body w v steps) =
-    record said { draws = said.draws ++ record { window = w; view = v; program = steps } ∷ []; begun = nothing }
+    record said {
+      draws = said.draws ++ record { window = w; view = v; program = steps } ∷ [];
+      begun = nothing;
+    }
 closed said (program name lock steps) =
-    record said { apps = said.apps ++ record { name = name; program = steps } ∷ []; begun = nothing }
+    record said {
+      apps = said.apps ++ record { name = name; program = steps } ∷ [];
+      begun = nothing;
+    }
 closed said nothing = said
 closed said (bitmap name width height colors) = said
 
 abbrev pub said_then : SoFar → Deed → SoFar
 said_then said (sizes_screen width height) = record said { screen = Some (width, height) }
-said_then said (begins_bitmap name width height) = record said { begun = bitmap name width height [] }
+said_then said (begins_bitmap name width height) =
+    record said { begun = bitmap name width height [] }
 said_then said (adds_row row) = with_row said row said.begun
 said_then said (adds_window line) = record said { windows = said.windows ++ line ∷ [] }
 said_then said (adds_view line) = record said { views = said.views ++ line ∷ [] }
@@ -139,4 +166,6 @@ said_then said closes = closed said said.begun
 
 -- a deed that may be done, or the reason why not
 unfoldable pub done : SoFar → Deed → Result SoFar Reason
-done said deed = if is_taken said deed then Err NameTaken else if is_too_many said deed then Err TooMany else Ok (said_then said deed)
+done said deed =
+    if is_taken said deed then Err NameTaken else if is_too_many said deed then Err TooMany
+    else Ok (said_then said deed)

@@ -1,18 +1,25 @@
--- What holds of all that was said so far, line by line, and of what was begun; only the work is of the whole script
--- (limits are this project's own).
-use Rattle.std.specs.Prelude.{◌≡◌, ℕ, ◌+◌, ◌*◌, ◌<◌, ◌≤◌, ◌==◌, ◌&&◌, Bool, true, false, List, [], ◌∷◌, ◌++◌, map, length, Option, Some, None}
+-- What holds of all that was said so far, line by line, and of what was begun; only the work is of
+-- the whole script (limits are this project's own).
+use Rattle.std.specs.Prelude.{◌≡◌, ℕ, ◌+◌, ◌*◌, ◌<◌, ◌≤◌, ◌==◌, ◌&&◌, Bool, true, false, List, []}
+use Rattle.std.specs.Prelude.{◌∷◌, ◌++◌, map, length, Option, Some, None}
 use Rattle.std.specs.List.{list_all, list_any}
 use Rattle.be_actor.specs.declared.Instruction.{Instruction}
 use Rattle.be_actor.specs.Limits.{is_reserved, is_what}
 use Rattle.be_color.specs.declared.colors.Color.{Color}
 use Rattle.be_handler.specs.Routes.{same_target}
 use Rattle.be_message.specs.declared.target.Target.{Target}
-use Rattle.be_said.specs.Deeds.{Deed, sizes_screen, begins_bitmap, adds_row, adds_window, adds_view, adds_handler, adds_filter, begins_body, begins_draw, begins_program, adds_input, adds_step, closes}
+use Rattle.be_said.specs.Deeds.{Deed, sizes_screen, begins_bitmap, adds_row, adds_window, adds_view}
+use Rattle.be_said.specs.Deeds.{adds_handler, adds_filter, begins_body, begins_draw, begins_program}
+use Rattle.be_said.specs.Deeds.{adds_input, adds_step, closes}
 use Rattle.be_said.specs.Judging.{is_too_many}
-use Rattle.be_said.specs.SoFar.{SoFar, Begun, nothing, bitmap, handler_body, draw_body, program, declared_in}
-use Rattle.be_script.specs.Limits.{is_body_line, is_draw_line, is_event, is_filter_line, is_filter_word, is_picture, is_side, is_window, is_window_declared, is_window_line}
+use Rattle.be_said.specs.SoFar.{SoFar, Begun, nothing, bitmap, handler_body, draw_body, program}
+use Rattle.be_said.specs.SoFar.{declared_in}
+use Rattle.be_script.specs.Limits.{is_body_line, is_draw_line, is_event, is_filter_line}
+use Rattle.be_script.specs.Limits.{is_filter_word, is_picture, is_side, is_window}
+use Rattle.be_script.specs.Limits.{is_window_declared, is_window_line}
 use Rattle.be_script.specs.Names.{are_names}
-use Rattle.be_script.specs.Programs.{is_app_program, is_app_step, is_body_step, is_draw_step, is_handler_of, lock_behind, view_count}
+use Rattle.be_script.specs.Programs.{is_app_program, is_app_step, is_body_step, is_draw_step}
+use Rattle.be_script.specs.Programs.{is_handler_of, lock_behind, view_count}
 use Rattle.be_script.specs.Script.{Declared}
 use Rattle.be_script.specs.Windows.{body_lines}
 
@@ -61,13 +68,15 @@ pub record IsBitmapBegun (d : Declared) (width height : ℕ) (colors : List Colo
   pub rest : length colors + rows * width ≡ width * height
 
 -- a body for the two isn't there, and its instructions may be
-pub record IsBodyBegun (d : Declared) (w : ℕ) (target : Target) (what : ℕ) (steps : List Instruction) : Type 0 where
+pub record IsBodyBegun (d : Declared) (w : ℕ) (target : Target) (what : ℕ)
+    (steps : List Instruction) : Type 0 where
   pub window : is_window d w ≡ true
   pub handler : is_handler_of d w target ≡ true
   pub word : is_what what ≡ true
   pub free : is_reserved what ≡ false
   pub few : length (body_lines d w) < 512
-  pub new : list_any (λ line. line.window == w && same_target line.target target && line.what == what) d.bodies ≡ false
+  pub new : list_any (λ line. line.window == w && same_target line.target target
+      && line.what == what) d.bodies ≡ false
   pub short : length steps ≤ 1024
   pub each : list_all (is_body_step d w) steps ≡ true
 
@@ -81,14 +90,16 @@ pub record IsDrawBegun (d : Declared) (w v : ℕ) (steps : List Instruction) : T
 -- the first instructions of a program
 abbrev pub are_app_steps : Declared → Option ℕ → List Instruction → Bool
 are_app_steps d lock [] = true
-are_app_steps d lock (step ∷ rest) = is_app_step d lock step && are_app_steps d (lock_behind lock step) rest
+are_app_steps d lock (step ∷ rest) =
+    is_app_step d lock step && are_app_steps d (lock_behind lock step) rest
 
 -- the window that is locked behind them
 abbrev pub lock_after : Option ℕ → List Instruction → Option ℕ
 lock_after lock [] = lock
 lock_after lock (step ∷ rest) = lock_after (lock_behind lock step) rest
 
-pub record IsProgramBegun (d : Declared) (name : List ℕ) (lock : Option ℕ) (steps : List Instruction) : Type 0 where
+pub record IsProgramBegun (d : Declared) (name : List ℕ) (lock : Option ℕ)
+    (steps : List Instruction) : Type 0 where
   pub few : length d.apps < 16
   pub names : are_names (map (λ line. line.name) d.apps ++ name ∷ []) ≡ true
   pub short : length steps ≤ 1024
@@ -127,7 +138,8 @@ IsUnlocked (handler_body w target what steps) = Unit {0}
 IsUnlocked (draw_body w v steps) = Unit {0}
 IsUnlocked (program name lock steps) = lock ≡ None
 
--- numbers, words and instructions keep their limits; an instruction that is too long is refused by `done`
+-- numbers, words and instructions keep their limits; an instruction that is too long is refused by
+-- `done`
 abbrev pub IsFormed : SoFar → Deed → Type 0
 IsFormed said (sizes_screen width height) = (said.screen ≡ None) × (1 ≤ width) × (1 ≤ height)
 IsFormed said (begins_bitmap name width height) = Unit {0}
@@ -140,5 +152,7 @@ IsFormed said (begins_body w target what) = (is_what what ≡ true) × (is_reser
 IsFormed said (begins_draw w v) = Unit {0}
 IsFormed said (begins_program name) = Unit {0}
 IsFormed said (adds_input event) = is_event (declared_so_far said) event ≡ true
-IsFormed said (adds_step step) = is_too_many said (adds_step step) ≡ false → is_step_in (declared_so_far said) said.begun step ≡ true
+IsFormed said (adds_step step) =
+    is_too_many said (adds_step step) ≡ false
+    → is_step_in (declared_so_far said) said.begun step ≡ true
 IsFormed said closes = IsUnlocked said.begun

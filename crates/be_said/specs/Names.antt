@@ -1,4 +1,5 @@
--- The names that a line may declare beside those that were declared (the language is this project's own).
+-- The names that a line may declare beside those that were declared (the language is this project's
+-- own).
 use Rattle.std.specs.Prelude.{ℕ, List, ◌++◌, Option, Result}
 use Rattle.std.specs.List.{list_any}
 use Rattle.std.specs.Str.{bytes_eq}

@@ -1,5 +1,6 @@
 -- What the lines of a script said so far (the language is this project's own).
-use Rattle.std.specs.Prelude.{ℕ, ◌==◌, Bool, true, false, List, [], ◌∷◌, map, filter, Option, Some, None, codes}
+use Rattle.std.specs.Prelude.{ℕ, ◌==◌, Bool, true, false, List, [], ◌∷◌, map, filter, Option, Some}
+use Rattle.std.specs.Prelude.{None, codes}
 use Rattle.be_actor.specs.declared.Instruction.{Instruction}
 use Rattle.be_color.specs.declared.colors.Color.{Color}
 use Rattle.be_command.specs.Names.{Known}
@@ -156,7 +157,8 @@ plain_names said None = []
 
 -- the names that a command may use, in a window
 abbrev pub known_in : SoFar → Option ℕ → Known
-known_in said w = record { windows = window_names said; views = view_names said w; bitmaps = bitmap_names said }
+known_in said w =
+    record { windows = window_names said; views = view_names said w; bitmaps = bitmap_names said }
 
 -- all that was begun is closed
 abbrev pub is_closed : Begun → Bool

@@ -3,7 +3,9 @@ ghost use Rattle.std.specs.List.{list_any};
 ghost use Rattle.std.specs.Str.{bytes_eq};
 ghost use Rattle.be_command.specs.Names.{number_in};
 ghost use Rattle.be_said.specs.Names.{handler_names};
-ghost use Rattle.be_said.specs.SoFar.{app_names, bitmap_names, has_message, known_in, nothing_said, plain_names, row_width, site_of, view_names, window_names, window_of};
+ghost use Rattle.be_said.specs.SoFar.{app_names, bitmap_names, has_message, known_in, nothing_said};
+ghost use Rattle.be_said.specs.SoFar.{plain_names, row_width, site_of, view_names, window_names};
+ghost use Rattle.be_said.specs.SoFar.{window_of};
 
 mod bitmaps;
 mod chains;
@@ -127,7 +129,8 @@ impl SoFar {
     /// The names that a command here may use; none where no window is for it.
     pub fn names(&self) -> Option<&Names>
         ensures there { is_some result ≡ is_some (window_of self.now.begun) }
-        ensures names { IfSome result (λ names. names.now ≡ known_in self.now (window_of self.now.begun)) }
+        ensures names { IfSome result
+            (λ names. names.now ≡ known_in self.now (window_of self.now.begun)) }
     {
         let window = self.begun.window()?;
         Some(&self.inside[usize::from(window)].names)
@@ -136,8 +139,8 @@ impl SoFar {
 
 /// Names that were said.
 impl SoFar {
-    /// The number of the window with this name. None where none was declared. Like the calls below, it looks at each
-    /// name of its kind at most once.
+    /// The number of the window with this name. None where none was declared. Like the calls below,
+    /// it looks at each name of its kind at most once.
     pub fn window_named(&self, word: &[u8]) -> Option<u16>
         ensures { result ≡ number_in (window_names self.now) word.now }
     {

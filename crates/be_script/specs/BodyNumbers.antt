@@ -25,4 +25,5 @@ number_of numbers w (Plain h) what = get triple_cmp numbers.of_plains (w, h, wha
 abbrev pub HasNew : BodyNumbers → BodyNumbers → ℕ → Target → ℕ → ℕ → Type 0
 HasNew old new window target what number =
     (w : ℕ) (t : Target) (word : ℕ) →
-    number_of new w t word ≡ (if window == w && same_target target t && what == word then Some number else number_of old w t word)
+    number_of new w t word ≡ (if window == w && same_target target t && what == word
+    then Some number else number_of old w t word)

@@ -1,8 +1,10 @@
--- The sums of Work.antt from a table: what the instructions of each body cost at one hop, one hop after another. A sum
--- stops at the last number of 64 bits.
-use Rattle.std.specs.Prelude.{ℕ, zero, suc, ◌+◌, ◌*◌, max, min, List, [], ◌∷◌, map, length, Option, Some, None, sum_by, flat_map, slice_index, slice_get}
+-- The sums of Work.antt from a table: what the instructions of each body cost at one hop, one hop
+-- after another. A sum stops at the last number of 64 bits.
+use Rattle.std.specs.Prelude.{ℕ, zero, suc, ◌+◌, ◌*◌, max, min, List, [], ◌∷◌, map, length, Option}
+use Rattle.std.specs.Prelude.{Some, None, sum_by, flat_map, slice_index, slice_get}
 use Rattle.be_actor.specs.declared.Instruction.{Instruction}
-use Rattle.be_actor.specs.declared.Instruction.TheVariants.{Note, Post, Send, Reply, Forward, Lock, Unlock, Flush, Sync, Draw}
+use Rattle.be_actor.specs.declared.Instruction.TheVariants.{Note, Post, Send, Reply, Forward, Lock}
+use Rattle.be_actor.specs.declared.Instruction.TheVariants.{Unlock, Flush, Sync, Draw}
 use Rattle.be_message.specs.declared.target.Target.{Target}
 use Rattle.be_message.specs.declared.target.Target.TheVariants as target
 use Rattle.be_script.specs.declared.BodyLine.{BodyLine}
@@ -27,7 +29,8 @@ own_cost updates step = step_cost updates no_message no_message 0 step
 
 -- updates of all windows
 abbrev pub all_updates : List WindowLine → List DrawLine → ℕ
-all_updates windows draws = 8 * length windows + sum_by (λ line. sum_by (own_cost 0) line.program) draws
+all_updates windows draws =
+    8 * length windows + sum_by (λ line. sum_by (own_cost 0) line.program) draws
 
 -- ---- bodies, each by its own cost and the bodies that its messages go to
 
@@ -47,7 +50,8 @@ abbrev pub posts_of : (ℕ → Target → ℕ → Option ℕ) → ℕ → List I
 posts_of number word program = flat_map (posts_of_step number word) program
 
 abbrev pub part_of : (ℕ → Target → ℕ → Option ℕ) → ℕ → BodyLine → ℕ × List (Option ℕ)
-part_of number updates line = (limited (sum_by (own_cost updates) line.program), posts_of number line.what line.program)
+part_of number updates line =
+    (limited (sum_by (own_cost updates) line.program), posts_of number line.what line.program)
 
 -- ---- the table
 
@@ -78,14 +82,16 @@ table (suc hops) parts = map (cost_before (table hops parts)) parts
 -- an instruction of an application, whose messages have hop 0
 abbrev pub app_step_cost : (ℕ → Target → ℕ → Option ℕ) → List ℕ → ℕ → Instruction → ℕ
 app_step_cost number costs updates step =
-    step_cost updates (λ w target what. posted_cost costs (number w target what)) (λ w target what. table_cost costs (number w target what)) 0 step
+    step_cost updates (λ w target what. posted_cost costs (number w target what))
+    (λ w target what. table_cost costs (number w target what)) 0 step
 
 -- ---- input
 
 -- the most at a window or one of so many views
 abbrev pub most_at : (ℕ → Target → ℕ → Option ℕ) → List ℕ → ℕ → ℕ → ℕ → ℕ
 most_at number costs what w zero = table_cost costs (number w target.Window what)
-most_at number costs what w (suc views) = max (most_at number costs what w views) (table_cost costs (number w (target.View views) what))
+most_at number costs what w (suc views) =
+    max (most_at number costs what w views) (table_cost costs (number w (target.View views) what))
 
 abbrev pub views_in : Option Handlers → ℕ
 views_in (Some handlers) = handlers.views
@@ -95,7 +101,8 @@ views_in None = 0
 abbrev pub most_below : Routes → List ℕ → ℕ → ℕ → ℕ
 most_below routes costs what zero = 0
 most_below routes costs what (suc w) =
-    max (most_below routes costs what w) (most_at (routed_number routes) costs what w (views_in (slice_get routes.windows.items w)))
+    max (most_below routes costs what w)
+    (most_at (routed_number routes) costs what w (views_in (slice_get routes.windows.items w)))
 
 -- at all windows
 abbrev pub most_of : Routes → List ℕ → ℕ → ℕ

@@ -1,6 +1,9 @@
--- What every script keeps that is read (limits are this project's own). The ranges of coordinates, numbers and colours
--- are those of a script's types, and what only its text has isn't asked here: the lengths of lines.
-use Rattle.std.specs.Prelude.{◌≡◌, ℕ, ◌+◌, ◌*◌, ◌≤◌, ◌==◌, pos, ℤ, Bool, true, false, not, ◌&&◌, ◌-ℤ◌, nat_le, nat_lt, List, [], ◌∷◌, ◌++◌, map, filter, length, Option, Some, None, slice_get}
+-- What every script keeps that is read (limits are this project's own). The ranges of coordinates,
+-- numbers and colours are those of a script's types, and what only its text has isn't asked here:
+-- the lengths of lines.
+use Rattle.std.specs.Prelude.{◌≡◌, ℕ, ◌+◌, ◌*◌, ◌≤◌, ◌==◌, pos, ℤ, Bool, true, false, not, ◌&&◌}
+use Rattle.std.specs.Prelude.{◌-ℤ◌, nat_le, nat_lt, List, [], ◌∷◌, ◌++◌, map, filter, length}
+use Rattle.std.specs.Prelude.{Option, Some, None, slice_get}
 use Rattle.std.specs.List.{list_all, range_with_len}
 use Rattle.be_actor.specs.Limits.{is_reserved, is_what}
 use Rattle.be_bitmap.specs.Pictures.{Picture}
@@ -21,7 +24,8 @@ use Rattle.be_script.specs.declared.InputLine.TheVariants as input
 use Rattle.be_script.specs.declared.ViewLine.{ViewLine}
 use Rattle.be_script.specs.declared.WindowLine.{WindowLine}
 use Rattle.be_script.specs.Names.{are_names}
-use Rattle.be_script.specs.Programs.{view_count, plain_count, is_handler_of, is_app_program, is_body_program, is_draw_program}
+use Rattle.be_script.specs.Programs.{view_count, plain_count, is_handler_of, is_app_program}
+use Rattle.be_script.specs.Programs.{is_body_program, is_draw_program}
 use Rattle.be_script.specs.Script.{Declared}
 use Rattle.be_script.specs.Windows.{view_lines, body_lines}
 use Rattle.be_script.specs.Work.{work_of}
@@ -45,7 +49,9 @@ is_picture p = is_side p.width && is_side p.height && length p.colors == p.width
 
 -- a frame has a pixel, and its edges are at most 32767 apart
 abbrev pub is_frame : Rect → Bool
-is_frame r = between (pos 0) (r.right -ℤ r.left) (pos 32767) && between (pos 0) (r.bottom -ℤ r.top) (pos 32767)
+is_frame r =
+    between (pos 0) (r.right -ℤ r.left) (pos 32767)
+    && between (pos 0) (r.bottom -ℤ r.top) (pos 32767)
 
 -- a port holds 1 to 100 letters
 abbrev pub is_window_line : WindowLine → Bool
@@ -53,7 +59,8 @@ is_window_line line = is_frame line.frame && nat_le 1 line.port && nat_le line.p
 
 -- ---- views and handlers
 
--- where a view's parent lies: each lies one deeper than its parent, 8 deep at most, and the parent is there before it
+-- where a view's parent lies: each lies one deeper than its parent, 8 deep at most, and the parent
+-- is there before it
 abbrev pub lies_below : List ℕ → Option ℕ → (List ℕ → Bool) → Bool
 lies_below depths (Some depth) rest = nat_lt depth 8 && rest (depths ++ (depth + 1) ∷ [])
 lies_below depths None rest = false
@@ -61,13 +68,15 @@ lies_below depths None rest = false
 -- the views behind those that lie so deep
 abbrev pub are_views_below : List ViewLine → List ℕ → Bool
 are_views_below [] depths = true
-are_views_below (line ∷ lines) depths = lies_below depths (slice_get depths line.parent) (are_views_below lines)
+are_views_below (line ∷ lines) depths =
+    lies_below depths (slice_get depths line.parent) (are_views_below lines)
 
 -- the views of a window: 32 at most with the root, which lies 1 deep
 abbrev pub are_views : List ViewLine → Bool
 are_views lines = is_at_most 31 lines && are_views_below lines (1 ∷ [])
 
--- the next handler of plain handler k of a window: it is there, and before it where it is a plain one
+-- the next handler of plain handler k of a window: it is there, and before it where it is a plain
+-- one
 abbrev pub is_next : Declared → ℕ → ℕ → Target → Bool
 is_next d w k target.Window = true
 is_next d w k (target.View v) = nat_lt v (view_count d w)
@@ -87,7 +96,8 @@ are_handlers d w =
     are_views (view_lines d w)
     && is_at_most 16 (plain_lines d w)
     && are_plain_from d w 0 (plain_lines d w)
-    && are_names (map (λ line. line.name) (view_lines d w) ++ map (λ line. line.name) (plain_lines d w))
+    && are_names (map (λ line. line.name) (view_lines d w)
+    ++ map (λ line. line.name) (plain_lines d w))
 
 -- ---- filters
 
@@ -120,7 +130,8 @@ is_filter_line d line =
     && is_list d line.window line.list
     && is_filter_word line.what
     && is_rule d line.window line.rule
-    && is_at_most 32 (filter (λ other. other.window == line.window && same_list other.list line.list) d.filters)
+    && is_at_most 32 (filter
+    (λ other. other.window == line.window && same_list other.list line.list) d.filters)
 
 -- ---- bodies
 
@@ -132,7 +143,9 @@ is_body_line d line =
     && is_what line.what
     && not (is_reserved line.what)
     && is_body_program d line.window line.program
-    && is_at_most 1 (filter (λ other. same_target other.target line.target && other.what == line.what) (body_lines d line.window))
+    && is_at_most 1 (filter
+    (λ other. same_target other.target line.target && other.what == line.what)
+    (body_lines d line.window))
 
 -- the only Draw body of a view of the window
 abbrev pub is_draw_line : Declared → DrawLine → Bool
@@ -140,7 +153,8 @@ is_draw_line d line =
     is_window d line.window
     && nat_lt line.view (view_count d line.window)
     && is_draw_program d line.window line.program
-    && is_at_most 1 (filter (λ other. other.window == line.window && other.view == line.view) d.draws)
+    && is_at_most 1 (filter (λ other. other.window == line.window && other.view == line.view)
+    d.draws)
 
 -- all that is declared in window w
 abbrev pub is_window_declared : Declared → ℕ → Bool
@@ -150,7 +164,8 @@ is_window_declared d w = are_handlers d w && is_at_most 512 (body_lines d w)
 
 -- a pixel of the screen
 abbrev pub is_place : Declared → Point → Bool
-is_place d p = between (pos 0) p.x (pos d.width -ℤ pos 1) && between (pos 0) p.y (pos d.height -ℤ pos 1)
+is_place d p =
+    between (pos 0) p.x (pos d.width -ℤ pos 1) && between (pos 0) p.y (pos d.height -ℤ pos 1)
 
 -- a place is on the screen, a key is 0 to 255, an application is there
 abbrev pub is_event : Declared → InputLine → Bool

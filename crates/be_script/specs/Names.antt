@@ -1,5 +1,6 @@
 -- The names that a script declares (this project's own).
-use Rattle.std.specs.Prelude.{ℕ, ◌==◌, Bool, true, false, not, ◌&&◌, ◌||◌, nat_le, List, [], ◌∷◌, length, codes}
+use Rattle.std.specs.Prelude.{ℕ, ◌==◌, Bool, true, false, not, ◌&&◌, ◌||◌, nat_le, List, [], ◌∷◌}
+use Rattle.std.specs.Prelude.{length, codes}
 use Rattle.std.specs.Char.{is_ascii_digit, is_ascii_lowercase}
 use Rattle.std.specs.List.{list_all}
 use Rattle.std.specs.Str.{bytes_eq}
@@ -11,7 +12,8 @@ is_name_byte b = is_ascii_lowercase b || is_ascii_digit b || b == 95
 -- the four names that mean something everywhere
 abbrev pub is_reserved_name : List ℕ → Bool
 is_reserved_name name =
-    bytes_eq name (codes "window") || bytes_eq name (codes "root") || bytes_eq name (codes "common") || bytes_eq name (codes "none")
+    bytes_eq name (codes "window") || bytes_eq name (codes "root") || bytes_eq name (codes "common")
+    || bytes_eq name (codes "none")
 
 -- 1 to 16 of those bytes, a letter first, and none of the four
 unfoldable pub is_declared_name : List ℕ → Bool
@@ -25,7 +27,8 @@ is_declared_name (b ∷ bytes) =
 -- no two of them are the same
 abbrev pub are_different : List (List ℕ) → Bool
 are_different [] = true
-are_different (name ∷ names) = list_all (λ other. not (bytes_eq name other)) names && are_different names
+are_different (name ∷ names) =
+    list_all (λ other. not (bytes_eq name other)) names && are_different names
 
 -- all that are declared side by side
 unfoldable pub are_names : List (List ℕ) → Bool

@@ -1,8 +1,10 @@
 -- Which instructions can be written where, and what they may name (this project's own).
-use Rattle.std.specs.Prelude.{ℕ, ◌+◌, ◌==◌, Bool, true, false, ◌&&◌, nat_le, nat_lt, List, [], ◌∷◌, filter, length, Option, Some, None}
+use Rattle.std.specs.Prelude.{ℕ, ◌+◌, ◌==◌, Bool, true, false, ◌&&◌, nat_le, nat_lt, List, [], ◌∷◌}
+use Rattle.std.specs.Prelude.{filter, length, Option, Some, None}
 use Rattle.std.specs.List.{list_all}
 use Rattle.be_actor.specs.declared.Instruction.{Instruction}
-use Rattle.be_actor.specs.declared.Instruction.TheVariants.{Note, Post, Send, Reply, Forward, Lock, Unlock, Flush, Sync, Draw}
+use Rattle.be_actor.specs.declared.Instruction.TheVariants.{Note, Post, Send, Reply, Forward, Lock}
+use Rattle.be_actor.specs.declared.Instruction.TheVariants.{Unlock, Flush, Sync, Draw}
 use Rattle.be_actor.specs.Limits.{is_draft}
 use Rattle.be_command.specs.declared.Command.{Command}
 use Rattle.be_command.specs.Limits.{is_command, is_drawing, names_what_is}
@@ -33,11 +35,14 @@ is_address d w target = nat_lt w (length d.windows) && is_handler_of d w target
 
 -- a command for window w
 abbrev pub is_command_for : Declared → ℕ → Command → Bool
-is_command_for d w c = is_command c && names_what_is (length d.windows) (view_count d w) (length d.pictures) c
+is_command_for d w c =
+    is_command c && names_what_is (length d.windows) (view_count d w) (length d.pictures) c
 
 -- a note is 1 to 32 bytes, each 33 to 126
 abbrev pub is_note : List ℕ → Bool
-is_note word = nat_le 1 (length word) && nat_le (length word) 32 && list_all (λ b. nat_le 33 b && nat_le b 126) word
+is_note word =
+    nat_le 1 (length word) && nat_le (length word) 32
+    && list_all (λ b. nat_le 33 b && nat_le b 126) word
 
 -- a body or a program has at most 1024 instructions
 abbrev pub is_short : List Instruction → Bool
@@ -117,11 +122,13 @@ lock_behind lock Flush = lock
 lock_behind lock Sync = lock
 lock_behind lock (Draw c) = lock
 
--- what is left of an application's program, where this window is locked, if one is; it ends without a lock
+-- what is left of an application's program, where this window is locked, if one is; it ends without
+-- a lock
 abbrev pub is_rest_of_app : Declared → Option ℕ → List Instruction → Bool
 is_rest_of_app d None [] = true
 is_rest_of_app d (Some w) [] = false
-is_rest_of_app d lock (step ∷ rest) = is_app_step d lock step && is_rest_of_app d (lock_behind lock step) rest
+is_rest_of_app d lock (step ∷ rest) =
+    is_app_step d lock step && is_rest_of_app d (lock_behind lock step) rest
 
 -- all of its program
 unfoldable pub is_app_program : Declared → List Instruction → Bool

@@ -1,5 +1,6 @@
 -- The columns of one row as spans of them, and what a pen covers along a way (this project's own).
-use Rattle.std.specs.Prelude.{◌≡◌, ℕ, ℤ, pos, negsuc, Bool, true, false, ◌||◌, ◌-◌, ◌/◌, ◌+ℤ◌, ◌-ℤ◌, ◌≤ℤ◌, ◌<ℤ◌}
+use Rattle.std.specs.Prelude.{◌≡◌, ℕ, ℤ, pos, negsuc, Bool, true, false, ◌||◌, ◌-◌, ◌/◌, ◌+ℤ◌, ◌-ℤ◌}
+use Rattle.std.specs.Prelude.{◌≤ℤ◌, ◌<ℤ◌}
 use Rattle.std.specs.Int.{int_min, int_max}
 use Rattle.be_geom.specs.declared.rect.Rect.{Rect}
 use Rattle.be_geom.specs.Points.{between}
@@ -65,7 +66,8 @@ pub record IsNextSpan (has : ℤ → Bool) (from : ℤ) (s : Span) : Type 0 wher
 
 -- a pen of this size covers the pixel at one of two coordinates or at one between them
 abbrev pub swept_has : ℕ → ℤ → ℤ → ℤ → Bool
-swept_has size a b z = between (int_min a b -ℤ pos ((size - 1) / 2)) z (int_max a b +ℤ pos (size - 1 - (size - 1) / 2))
+swept_has size a b z =
+    between (int_min a b -ℤ pos ((size - 1) / 2)) z (int_max a b +ℤ pos (size - 1 - (size - 1) / 2))
 
 -- the rows of a rectangle's sides, drawn with a pen
 pub record ArePenRows (size : ℕ) (r : Rect) (rows : Span) : Type 0 where

@@ -21,8 +21,8 @@ pub record AreRows (r : Raster) (first last : ℤ) : Type 0 where
 abbrev pub HasNoneFrom : Raster → ℤ → ℤ → Type 0
 HasNoneFrom r y from = (x : ℤ) → from ≤ℤ x → raster_has r x y ≡ false
 
--- the run begins at the first column from this one on that is in the shape, and ends before the first one behind it
--- that isn't
+-- the run begins at the first column from this one on that is in the shape, and ends before the
+-- first one behind it that isn't
 pub record IsNextRun (r : Raster) (y from first last : ℤ) : Type 0 where
   pub ahead : from ≤ℤ first
   pub passed : (x : ℤ) → from ≤ℤ x → x <ℤ first → raster_has r x y ≡ false

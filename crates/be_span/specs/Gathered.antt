@@ -1,5 +1,6 @@
 -- Cells pushed one behind another, from the pixels of two buffers (this project's own).
-use Rattle.std.specs.Prelude.{◌≡◌, ◌+◌, ◌*◌, ◌<◌, ℕ, ℤ, pos, ◌+ℤ◌, ◌<ℤ◌, true, List, length, Option, Some, None, slice_get}
+use Rattle.std.specs.Prelude.{◌≡◌, ◌+◌, ◌*◌, ◌<◌, ℕ, ℤ, pos, ◌+ℤ◌, ◌<ℤ◌, true, List, length, Option}
+use Rattle.std.specs.Prelude.{Some, None, slice_get}
 use Rattle.be_geom.specs.declared.rect.Rect.{Rect}
 use Rattle.be_geom.specs.Rects.{rect_has}
 use Rattle.be_span.specs.declared.Cell.{Cell}
@@ -21,7 +22,9 @@ pub record IsLonger (cells : ℕ → Option Cell) (old new : List Cell) (n : ℕ
   pub added : (k : ℕ) → k < n → slice_get new (length old + k) ≡ cells k
 
 -- the cells of some rows of a rectangle more, from its top on, and those before them stay
-pub record HasRows (cells : ℤ → ℤ → Option Cell) (old new : List Cell) (r : Rect) (rows : ℕ) : Type 0 where
+pub record HasRows (cells : ℤ → ℤ → Option Cell) (old new : List Cell) (r : Rect) (rows : ℕ) : Type
+    0 where
   pub long : length new ≡ length old + rows * width_of r
   pub kept : (k : ℕ) → k < length old → slice_get new k ≡ slice_get old k
-  pub added : (x y : ℤ) → rect_has r x y ≡ true → y <ℤ (r.top +ℤ pos rows) → slice_get new (length old + place_in r x y) ≡ cells x y
+  pub added : (x y : ℤ) → rect_has r x y ≡ true → y <ℤ (r.top +ℤ pos rows)
+      → slice_get new (length old + place_in r x y) ≡ cells x y

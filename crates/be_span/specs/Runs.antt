@@ -1,5 +1,6 @@
 -- Pixels side by side in a row (this project's own).
-use Rattle.std.specs.Prelude.{◌≡◌, ◌+◌, ◌<◌, ◌≤◌, ◌⊎◌, ℕ, ℤ, pos, ◌+ℤ◌, ◌≤ℤ◌, ◌<ℤ◌, true, false, List, length, count_by, take, slice_index, slice_get, Some}
+use Rattle.std.specs.Prelude.{◌≡◌, ◌+◌, ◌<◌, ◌≤◌, ◌⊎◌, ℕ, ℤ, pos, ◌+ℤ◌, ◌≤ℤ◌, ◌<ℤ◌, true, false}
+use Rattle.std.specs.Prelude.{List, length, count_by, take, slice_index, slice_get, Some}
 use Rattle.be_geom.specs.declared.rect.Rect.{Rect}
 use Rattle.be_region.specs.Bands.{AreBands}
 use Rattle.be_region.specs.Regions.{region_has}
@@ -14,7 +15,8 @@ HasRun rs x y n = (k : ℕ) → k < n → region_has rs (x +ℤ pos k) y ≡ tru
 abbrev pub IsBeside : ℤ → ℤ → ℕ → ℤ → ℤ → Type 0
 IsBeside x y n z w = (w ≡ y → ⊥) ⊎ (z <ℤ x) ⊎ ((x +ℤ pos n) ≤ℤ z)
 
--- from the pixel on to the end of its span: the cells stand side by side, and the pixel behind is in no span
+-- from the pixel on to the end of its span: the cells stand side by side, and the pixel behind is
+-- in no span
 pub record IsRunFrom (rs : List Rect) (start len : ℕ) (x y : ℤ) : Type 0 where
   pub some : 0 < len
   pub places : (k : ℕ) → k < len → place_of rs (x +ℤ pos k) y ≡ Some (start + k)
@@ -36,8 +38,8 @@ pub record IsInside (inner outer : Rect) : Type 0 where
   pub down : inner.top ≤ℤ inner.bottom
   pub bottom : inner.bottom ≤ℤ outer.bottom
 
--- what is kept of a region's cells: how many come before those of each rectangle, and how many are dirty; the region's
--- rectangles are bands, so that each pixel is in one at most
+-- what is kept of a region's cells: how many come before those of each rectangle, and how many are
+-- dirty; the region's rectangles are bands, so that each pixel is in one at most
 pub record AreRows (rs : List Rect) (starts : List ℕ) (cells : List Cell) (dirty : ℕ) : Type 0 where
   pub bands : AreBands rs
   pub each : length starts ≡ length rs

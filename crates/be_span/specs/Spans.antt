@@ -1,13 +1,15 @@
--- A region's pixels, each with its cell: one row of cells for each row of each rectangle (this project's own).
-use Rattle.std.specs.Prelude.{ℕ, ℤ, pos, ◌+◌, ◌*◌, ◌+ℤ◌, ◌-ℤ◌, unsigned_abs, Bool, false, List, [], ◌∷◌, Option, Some, None, slice_get, if◌then◌else◌, option_and_then}
+-- A region's pixels, each with its cell: one row of cells for each row of each rectangle (this
+-- project's own).
+use Rattle.std.specs.Prelude.{ℕ, ℤ, pos, ◌+◌, ◌*◌, ◌+ℤ◌, ◌-ℤ◌, unsigned_abs, Bool, false, List, []}
+use Rattle.std.specs.Prelude.{◌∷◌, Option, Some, None, slice_get, if◌then◌else◌, option_and_then}
 use Rattle.std.specs.Option.{option_map}
 use Rattle.be_geom.specs.declared.rect.Rect.{Rect}
 use Rattle.be_geom.specs.Rects.{rect_has}
 use Rattle.be_color.specs.declared.colors.Rgb.{Rgb}
 use Rattle.be_span.specs.declared.Cell.{Cell}
 
--- The rectangles of a region, and the cells of its pixels: those of the first rectangle, then of the second and so on,
--- of each row by row from the top and each row from the left.
+-- The rectangles of a region, and the cells of its pixels: those of the first rectangle, then of
+-- the second and so on, of each row by row from the top and each row from the left.
 pub record Spans : Type 0 where
   pub rects : List Rect
   pub cells : List Cell
@@ -40,7 +42,9 @@ place_in r x y = unsigned_abs (y -ℤ r.top) * width_of r + unsigned_abs (x -ℤ
 -- how many cells of all come before it; none where no rectangle has the pixel
 abbrev pub place_of : List Rect → ℤ → ℤ → Option ℕ
 place_of [] x y = None
-place_of (r ∷ rs) x y = if rect_has r x y then Some (place_in r x y) else option_map (λ n. area_of r + n) (place_of rs x y)
+place_of (r ∷ rs) x y =
+    if rect_has r x y then Some (place_in r x y)
+    else option_map (λ n. area_of r + n) (place_of rs x y)
 
 -- the cell of a pixel; none outside the region
 unfoldable pub cell_in : Spans → ℤ → ℤ → Option Cell

@@ -44,8 +44,8 @@ pub(crate) fn paint_alike(spans: &mut SpanBuf, span: Span, rect: Rect, brush: Br
     }
 }
 
-/// Gives the pixels of a rectangle, all of them in this span, a colour, whatever they had. Their marks
-/// stay.
+/// Gives the pixels of a rectangle, all of them in this span, a colour, whatever they had. Their
+/// marks stay.
 #[inline(always)]
 pub(crate) fn recolor(spans: &mut SpanBuf, span: Span, rect: Rect, rgb: Rgb)
     requires span { IsSpanOf spans.old.rects span }

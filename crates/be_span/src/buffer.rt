@@ -1,4 +1,6 @@
-ghost use Rattle.std.specs.Prelude.{◌≡◌, ◌<◌, ◌↔◌, ℕ, ℤ, pos, ◌+ℤ◌, ◌-ℤ◌, ◌≤ℤ◌, true, false, None, Some, IfOk, IfNone, IfSome, IsSome, IsTrue, All, length, slice_get, count_by, if◌then◌else◌};
+ghost use Rattle.std.specs.Prelude.{◌≡◌, ◌<◌, ◌↔◌, ℕ, ℤ, pos, ◌+ℤ◌, ◌-ℤ◌, ◌≤ℤ◌, true, false, None};
+ghost use Rattle.std.specs.Prelude.{Some, IfOk, IfNone, IfSome, IsSome, IsTrue, All, length};
+ghost use Rattle.std.specs.Prelude.{slice_get, count_by, if◌then◌else◌};
 ghost use Rattle.std.specs.Option.{option_map};
 ghost use Rattle.be_geom.specs.Rects.{rect_has};
 ghost use Rattle.be_region.specs.Regions.{region_has};
@@ -6,7 +8,8 @@ ghost use Rattle.be_region.specs.Bands.{AreBands};
 ghost use Rattle.be_span.specs.Cells.{unmarked, exposed_cell, colored_as};
 ghost use Rattle.be_span.specs.Spans.{cell_in, is_dirty, black_cell, clean_cell, pixels_of};
 ghost use Rattle.be_span.specs.Runs.{AreRows, HasRun, IsBeside, IsInside, IsSpanOf};
-ghost use Rattle.be_span.specs.Slices.{source_at, mask_bit, masked_color, painted, pattern_color, plain, recolored};
+ghost use Rattle.be_span.specs.Slices.{source_at, mask_bit, masked_color, painted, pattern_color};
+ghost use Rattle.be_span.specs.Slices.{plain, recolored};
 ghost use Rattle.be_color.specs.declared.colors.Color.TheVariants.{Solid, Clear};
 
 use crate::brush::{Brush, Source};
@@ -240,8 +243,8 @@ impl SpanBuf {
         paint_part(&mut self.cells, run.start, count, brush, source);
     }
 
-    /// The rectangle of the region that has a pixel. None outside the region. It holds as long as the
-    /// region stays.
+    /// The rectangle of the region that has a pixel. None outside the region. It holds as long as
+    /// the region stays.
     pub fn span_at(&self, x: i32, y: i32) -> Option<Span>
         ensures none { IfNone result (region_has self.now.rects x y ≡ false) }
         ensures some { IfSome result (λ span. IsSpanOf self.now.rects span
@@ -281,10 +284,10 @@ impl SpanBuf {
         paint_part(cells, start, count, brush, source);
     }
 
-    /// Paints the pixels of a rectangle, all of them in this span, each with the colour that its bit
-    /// of the pattern picks. The pattern is laid over the screen from `origin` on. Their marks stay.
-    /// It takes no search, and where the pattern is of one colour, one choice of the mode. Where that
-    /// colour takes the place of each pixel's and no pixel is dirty, no cell is read.
+    /// Paints the pixels of a rectangle, all of them in this span, each with the colour that its
+    /// bit of the pattern picks. The pattern is laid over the screen from `origin` on. Their marks
+    /// stay. It takes no search, and where the pattern is of one colour, one choice of the mode.
+    /// Where that colour takes the place of each pixel's and no pixel is dirty, no cell is read.
     pub fn paint_block(
         &mut self,
         span: Span,
@@ -314,8 +317,8 @@ impl SpanBuf {
         }
     }
 
-    /// Gives the pixels of a rectangle, all of them in this span, a colour, whatever they had. Their
-    /// marks stay. It takes no search, and where no pixel is dirty no cell is read.
+    /// Gives the pixels of a rectangle, all of them in this span, a colour, whatever they had.
+    /// Their marks stay. It takes no search, and where no pixel is dirty no cell is read.
     pub fn recolor_block(&mut self, span: Span, rect: Rect, rgb: Rgb)
         requires span { IsSpanOf self.old.rects span }
         requires inside { IsInside rect span.rect }
@@ -330,10 +333,11 @@ impl SpanBuf {
         block::recolor(self, span, rect, rgb);
     }
 
-    /// Paints those pixels of a rectangle, all of them in this span, whose bit of their row's mask is
-    /// set, with the same colour. The highest bit is the leftmost column's, and columns behind the 64th
-    /// have none. Their marks stay. It takes no search, one choice of the mode, and a few steps for
-    /// each row and each set bit. In Copy and in Over no cell is read where no pixel is dirty.
+    /// Paints those pixels of a rectangle, all of them in this span, whose bit of their row's mask
+    /// is set, with the same colour. The highest bit is the leftmost column's, and columns behind
+    /// the 64th have none. Their marks stay. It takes no search, one choice of the mode, and a few
+    /// steps for each row and each set bit. In Copy and in Over no cell is read where no pixel is
+    /// dirty.
     pub fn paint_masks(&mut self, span: Span, rect: Rect, brush: Brush, color: Color, masks: &[u64])
         requires span { IsSpanOf self.old.rects span }
         requires inside { IsInside rect span.rect }
@@ -341,7 +345,8 @@ impl SpanBuf {
         ensures region { self.new.rects ≡ self.old.rects }
         ensures painted { (x y : ℤ) → rect_has rect x y ≡ true → cell_in self.new x y
             ≡ option_map (painted brush
-            (masked_color masks.now color (x -ℤ rect.left) (y -ℤ rect.top))) (cell_in self.old x y) }
+            (masked_color masks.now color (x -ℤ rect.left) (y -ℤ rect.top)))
+            (cell_in self.old x y) }
         ensures others { (x y : ℤ) → rect_has rect x y ≡ false
             → cell_in self.new x y ≡ cell_in self.old x y }
         ensures marks { count_by (λ c. c.dirty) self.new.cells
@@ -350,8 +355,8 @@ impl SpanBuf {
         masks::paint_marked_rows(self, span, rect, brush, color, masks);
     }
 
-    /// Paints the `count` pixels from (x, y) on to the right, all of them in this span, with the same
-    /// colour. Each caller has a loop of its own, for its mode.
+    /// Paints the `count` pixels from (x, y) on to the right, all of them in this span, with the
+    /// same colour. Each caller has a loop of its own, for its mode.
     #[inline(always)]
     pub(crate) fn paint_same(
         &mut self,
@@ -403,8 +408,8 @@ impl SpanBuf {
         fill_part(cells, first, count, rgb);
     }
 
-    /// Paints those of the `count` pixels from (x, y) on to the right, all of them in this span, whose
-    /// bit of the mask is set. Each caller has a loop of its own, for its mode.
+    /// Paints those of the `count` pixels from (x, y) on to the right, all of them in this span,
+    /// whose bit of the mask is set. Each caller has a loop of its own, for its mode.
     #[inline(always)]
     pub(crate) fn paint_marked(
         &mut self,
@@ -435,8 +440,8 @@ impl SpanBuf {
         paint_marked_part(cells, first, count, brush, source, mask);
     }
 
-    /// Gives those of the `count` pixels from (x, y) on to the right, all of them in this span, whose bit
-    /// of the mask is set a colour, where no pixel is dirty. No cell is read.
+    /// Gives those of the `count` pixels from (x, y) on to the right, all of them in this span,
+    /// whose bit of the mask is set a colour, where no pixel is dirty. No cell is read.
     #[inline(always)]
     pub(crate) fn fill_marked(
         &mut self,
@@ -467,8 +472,8 @@ impl SpanBuf {
         fill_marked_part(cells, first, count, rgb, mask);
     }
 
-    /// Exposes the `count` pixels from (x, y) on to the right: each gets the colour, or keeps its own
-    /// where that is transparent, and waits to be drawn.
+    /// Exposes the `count` pixels from (x, y) on to the right: each gets the colour, or keeps its
+    /// own where that is transparent, and waits to be drawn.
     pub fn expose_row(&mut self, x: i32, y: i32, count: usize, color: Color)
         requires { HasRun self.old.rects x y count }
         ensures region { self.new.rects ≡ self.old.rects }

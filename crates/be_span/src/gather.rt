@@ -1,4 +1,5 @@
-ghost use Rattle.std.specs.Prelude.{◌≡◌, ◌<◌, ◌≤◌, ℕ, ℤ, pos, negsuc, ◌+ℤ◌, ◌≤ℤ◌, ◌||◌, true, None, IfOk, OnOk, length, slice_get, count_by, if◌then◌else◌};
+ghost use Rattle.std.specs.Prelude.{◌≡◌, ◌<◌, ◌≤◌, ℕ, ℤ, pos, negsuc, ◌+ℤ◌, ◌≤ℤ◌, ◌||◌, true, None};
+ghost use Rattle.std.specs.Prelude.{IfOk, OnOk, length, slice_get, count_by, if◌then◌else◌};
 ghost use Rattle.be_geom.specs.Rects.{rect_has};
 ghost use Rattle.be_region.specs.Regions.{region_has, IsNotEmpty};
 ghost use Rattle.be_span.specs.Gathered.{upper_in, IsLonger, HasRows};

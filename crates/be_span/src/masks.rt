@@ -53,8 +53,8 @@ pub(crate) fn paint_marked_rows(
     }
 }
 
-/// Gives those pixels of a rectangle, all of them in this span, whose bit of their row's mask is set, a
-/// colour, whatever they had.
+/// Gives those pixels of a rectangle, all of them in this span, whose bit of their row's mask is
+/// set, a colour, whatever they had.
 fn recolor_marked_rows(spans: &mut SpanBuf, span: Span, rect: Rect, rgb: Rgb, masks: &[u64])
     requires span { IsSpanOf spans.old.rects span }
     requires inside { IsInside rect span.rect }

@@ -1,4 +1,5 @@
-ghost use Rattle.std.specs.Prelude.{◌≡◌, ◌<◌, ◌≤ℤ◌, ◌+ℤ◌, ◌-ℤ◌, ◌+◌, pos, unsigned_abs, ℕ, ◌^◌, true, false, length, take, slice_index, IfNone, IfSome, IfOk};
+ghost use Rattle.std.specs.Prelude.{◌≡◌, ◌<◌, ◌≤ℤ◌, ◌+ℤ◌, ◌-ℤ◌, ◌+◌, pos, unsigned_abs, ℕ, ◌^◌};
+ghost use Rattle.std.specs.Prelude.{true, false, length, take, slice_index, IfNone, IfSome, IfOk};
 ghost use Rattle.be_geom.specs.Rects.{rect_has};
 ghost use Rattle.be_region.specs.Bands.{AreBands};
 ghost use Rattle.be_region.specs.Regions.{region_has};
@@ -68,7 +69,8 @@ fn run_in(rect: Rect, start: usize, x: i32, y: i32) -> Run
     }
 }
 
-/// Where the cell of a pixel stands in the rectangle's rows, or the place behind the last of its row.
+/// Where the cell of a pixel stands in the rectangle's rows, or the place behind the last of its
+/// row.
 #[tactic(auto, unfolding(crate::specs::Spans::place_in))]
 pub(crate) fn cell_at(rect: Rect, start: usize, x: i32, y: i32) -> usize
     requires across { rect.left ≤ℤ rect.right }

@@ -1,4 +1,5 @@
-ghost use Rattle.std.specs.Prelude.{◌≡◌, ◌<◌, ◌≤◌, ◌+◌, ◌⊎◌, ℕ, false, Some, length, map, slice_get, count_by, if◌then◌else◌};
+ghost use Rattle.std.specs.Prelude.{◌≡◌, ◌<◌, ◌≤◌, ◌+◌, ◌⊎◌, ℕ, false, Some, length, map};
+ghost use Rattle.std.specs.Prelude.{slice_get, count_by, if◌then◌else◌};
 ghost use Rattle.std.specs.Option.{option_map};
 ghost use Rattle.be_span.specs.Cells.{unmarked};
 ghost use Rattle.be_color.specs.declared.colors.Color.TheVariants.{Solid, Clear};
@@ -46,7 +47,8 @@ pub(crate) fn paint_part(
     requires { start + count ≤ length cells.old }
     ensures len { length cells.new ≡ length cells.old }
     ensures inside { (k : ℕ) → k < count → slice_get cells.new (start + k)
-        ≡ option_map (painted brush (source_at brush source.entry k)) (slice_get cells.old (start + k)) }
+        ≡ option_map (painted brush (source_at brush source.entry k))
+        (slice_get cells.old (start + k)) }
     ensures others { (q : ℕ) → (q < start) ⊎ (start + count ≤ q)
         → slice_get cells.new q ≡ slice_get cells.old q }
     ensures marks { count_by (λ c. c.dirty) cells.new ≡ count_by (λ c. c.dirty) cells.old }
@@ -54,8 +56,8 @@ pub(crate) fn paint_part(
     paint_cells(&mut cells[start..start + count], brush, source);
 }
 
-/// Paints `count` cells from `start` on with the same colour. Each caller has a loop of its own, for
-/// its mode.
+/// Paints `count` cells from `start` on with the same colour. Each caller has a loop of its own,
+/// for its mode.
 #[inline(always)]
 pub(crate) fn paint_same_part(
     cells: &mut [Cell],
@@ -104,8 +106,8 @@ fn fill_each(cells: &mut [Cell], cell: Cell)
     }
 }
 
-/// Paints those of `count` cells from `start` on whose bit of the mask is set. Each caller has a loop
-/// of its own, for its mode.
+/// Paints those of `count` cells from `start` on whose bit of the mask is set. Each caller has a
+/// loop of its own, for its mode.
 #[inline(always)]
 pub(crate) fn paint_marked_part(
     cells: &mut [Cell],
@@ -129,8 +131,8 @@ pub(crate) fn paint_marked_part(
     paint_each_marked(some, mode, mask, source, high, low);
 }
 
-/// Gives those of `count` cells from `start` on whose bit of the mask is set a colour, where no cell is
-/// dirty. No cell is read.
+/// Gives those of `count` cells from `start` on whose bit of the mask is set a colour, where no
+/// cell is dirty. No cell is read.
 #[inline(always)]
 pub(crate) fn fill_marked_part(cells: &mut [Cell], start: usize, count: usize, rgb: Rgb, mask: u64)
     requires fits { start + count ≤ length cells.old }
@@ -147,8 +149,8 @@ pub(crate) fn fill_marked_part(cells: &mut [Cell], start: usize, count: usize, r
     fill_each_marked(some, mask, Cell { rgb, dirty: false });
 }
 
-/// Puts a clean cell in the place of each whose bit is set, from the last to the first, where no cell
-/// is dirty. No cell is read, and the new one is stored as a whole.
+/// Puts a clean cell in the place of each whose bit is set, from the last to the first, where no
+/// cell is dirty. No cell is read, and the new one is stored as a whole.
 #[inline(always)]
 fn fill_each_marked(cells: &mut [Cell], bits: u64, cell: Cell)
     requires new { cell.dirty ≡ false }

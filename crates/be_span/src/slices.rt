@@ -1,10 +1,12 @@
-ghost use Rattle.std.specs.Prelude.{◌≡◌, ℕ, ℤ, pos, ◌+◌, ◌-◌, ◌%◌, ◌<◌, ◌≤◌, ◌==◌, true, map, slice_get, length, count_by, if◌then◌else◌};
+ghost use Rattle.std.specs.Prelude.{◌≡◌, ℕ, ℤ, pos, ◌+◌, ◌-◌, ◌%◌, ◌<◌, ◌≤◌, ◌==◌, true, map};
+ghost use Rattle.std.specs.Prelude.{slice_get, length, count_by, if◌then◌else◌};
 ghost use Rattle.std.specs.Option.{option_map};
 ghost use Rattle.std.specs.Int.{bit_at};
 ghost use Rattle.be_color.specs.declared.colors.Color.TheVariants.{Solid, Clear};
 ghost use Rattle.be_color.specs.Pattern.{place_in_pattern};
 ghost use Rattle.be_span.specs.declared.brush.Source.TheVariants.{Bits};
-ghost use Rattle.be_span.specs.Slices.{source_at, mask_bit, color_or_clear, painted, painted_by_bit};
+ghost use Rattle.be_span.specs.Slices.{source_at, mask_bit, color_or_clear, painted};
+ghost use Rattle.be_span.specs.Slices.{painted_by_bit};
 
 use crate::Cell;
 use crate::brush::{Brush, Source};
@@ -185,8 +187,8 @@ fn color_at(colors: &[Color], place: usize) -> Color
     colors[place]
 }
 
-/// Paints each cell whose bit is set, from the last to the first. Each caller has a loop of its own, for
-/// its mode.
+/// Paints each cell whose bit is set, from the last to the first. Each caller has a loop of its
+/// own, for its mode.
 #[inline(always)]
 pub(crate) fn paint_each_marked(
     cells: &mut [Cell],

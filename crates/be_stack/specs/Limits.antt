@@ -1,7 +1,8 @@
 -- What may be asked of the windows (the numbers are this project's own).
 use Rattle.std.specs.Prelude.{pos, negsuc, Bool, true, ◌&&◌, nat_lt, length}
 use Rattle.be_geom.specs.declared.change.Change.{Change}
-use Rattle.be_geom.specs.declared.change.Change.TheVariants.{Show, Hide, MoveTo, MoveBy, ResizeTo, Activate, Behind, Focus, Close}
+use Rattle.be_geom.specs.declared.change.Change.TheVariants.{Show, Hide, MoveTo, MoveBy, ResizeTo}
+use Rattle.be_geom.specs.declared.change.Change.TheVariants.{Activate, Behind, Focus, Close}
 use Rattle.be_geom.specs.Points.{between}
 use Rattle.be_stack.specs.Windows.{Windows, is_size}
 
@@ -10,7 +11,8 @@ abbrev pub is_within_limits : Change → Bool
 is_within_limits Show = true
 is_within_limits Hide = true
 is_within_limits (MoveTo corner) = true
-is_within_limits (MoveBy dx dy) = between (negsuc 65534) dx (pos 65535) && between (negsuc 65534) dy (pos 65535)
+is_within_limits (MoveBy dx dy) =
+    between (negsuc 65534) dx (pos 65535) && between (negsuc 65534) dy (pos 65535)
 is_within_limits (ResizeTo width height) = is_size width && is_size height
 is_within_limits Activate = true
 is_within_limits (Behind front) = true

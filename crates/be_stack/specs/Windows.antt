@@ -1,5 +1,6 @@
 -- The windows of a screen, and what is kept of each (The Be Book: BWindow).
-use Rattle.std.specs.Prelude.{ℕ, ℤ, pos, Bool, false, ◌==◌, ◌&&◌, ◌-ℤ◌, not, List, [], ◌∷◌, ◌++◌, Option, Some, None, slice_get, slice_set}
+use Rattle.std.specs.Prelude.{ℕ, ℤ, pos, Bool, false, ◌==◌, ◌&&◌, ◌-ℤ◌, not, List, [], ◌∷◌, ◌++◌}
+use Rattle.std.specs.Prelude.{Option, Some, None, slice_get, slice_set}
 use Rattle.be_geom.specs.declared.rect.Rect.{Rect}
 use Rattle.be_geom.specs.Points.{between}
 use Rattle.be_stack.specs.declared.flags.WindowFlags.{WindowFlags}
@@ -18,7 +19,8 @@ pub record Windows : Type 0 where
 
 -- a screen without windows
 abbrev pub empty_windows : ℕ → ℕ → Windows
-empty_windows width height = record { width = width; height = height; order = []; windows = []; active = None }
+empty_windows width height =
+    record { width = width; height = height; order = []; windows = []; active = None }
 
 -- there is a window, and it passes the test
 abbrev pub passes : (Window → Bool) → Option Window → Bool
@@ -50,7 +52,8 @@ abbrev pub with_new_window : Windows → ℕ → Rect → WindowFlags → Window
 with_new_window s w frame flags =
     record s {
       order = w ∷ s.order;
-      windows = s.windows ++ record { frame = frame; hides = 1; flags = flags; closed = false } ∷ [];
+      windows =
+          s.windows ++ record { frame = frame; hides = 1; flags = flags; closed = false } ∷ [];
     }
 
 -- something else is kept of a window

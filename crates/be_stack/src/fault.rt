@@ -7,8 +7,8 @@ use thiserror::Error;
 /// Why a window wasn't added.
 #[derive(Clone, Copy, Debug, PartialEq, Eq, Error)]
 pub enum StackFault {
-    /// The frame is empty, or its right edge less the left one or its bottom edge less the top one is
-    /// above 32767.
+    /// The frame is empty, or its right edge less the left one or its bottom edge less the top one
+    /// is above 32767.
     #[error("the frame is empty or too large")]
     BadFrame,
     /// There are 32 windows.

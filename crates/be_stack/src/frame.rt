@@ -38,7 +38,8 @@ fn is_between(low: i16, z: i32, high: i16) -> bool
 
 /// The frame, of the same size, with its left top corner at the point.
 pub(crate) fn moved_to(frame: Rect, corner: Point) -> Result<Rect, ChangeFault>
-    ensures { result ≡ within_range (moved_rect frame (corner.x -ℤ frame.left) (corner.y -ℤ frame.top)) }
+    ensures { result ≡ within_range
+        (moved_rect frame (corner.x -ℤ frame.left) (corner.y -ℤ frame.top)) }
 {
     let right = distance(frame.left, corner.x);
     let down = distance(frame.top, corner.y);

@@ -1,6 +1,7 @@
 ghost use Rattle.be_stack.specs.Laws.{OrderStaysWhole, ActiveStaysShown};
 
-/// Where the order had each open window once and no other, it has so after any change that isn't refused.
+/// Where the order had each open window once and no other, it has so after any change that isn't
+/// refused.
 pub fn order_stays_whole()
     ensures { OrderStaysWhole }
 {}

@@ -1,9 +1,13 @@
-ghost use Rattle.std.specs.Prelude.{◌≡◌, ◌<◌, ◌≤◌, ◌↔◌, true, false, length, find, slice_get, option_map, vec_len, vec_capacity, IsTrue, IsNone, IfOk, OnOk, OnErr, MatchResult};
-ghost use Rattle.be_stack.specs.Windows.{is_open, is_shown, is_shown_window, empty_windows, is_window_frame, with_new_window, with_window};
+ghost use Rattle.std.specs.Prelude.{◌≡◌, ◌<◌, ◌≤◌, ◌↔◌, true, false, length, find, slice_get};
+ghost use Rattle.std.specs.Prelude.{option_map, vec_len, vec_capacity, IsTrue, IsNone, IfOk, OnOk};
+ghost use Rattle.std.specs.Prelude.{OnErr, MatchResult};
+ghost use Rattle.be_stack.specs.Windows.{is_open, is_shown, is_shown_window, empty_windows};
+ghost use Rattle.be_stack.specs.Windows.{is_window_frame, with_new_window, with_window};
 ghost use Rattle.be_stack.specs.Owner.{is_on_screen, covers, owner_at};
 ghost use Rattle.be_stack.specs.Visible.{IsVisible};
 ghost use Rattle.be_stack.specs.Limits.{is_within_limits, is_named_there};
-ghost use Rattle.be_stack.specs.Changes.{is_gone, windows_after, changed, active_without, hidden, activated, sent_behind, closed};
+ghost use Rattle.be_stack.specs.Changes.{is_gone, windows_after, changed, active_without, hidden};
+ghost use Rattle.be_stack.specs.Changes.{activated, sent_behind, closed};
 ghost use Rattle.be_stack.specs.Whole.{IsWhole};
 
 use crate::fault::{ChangeFault, StackFault};
@@ -108,11 +112,12 @@ impl Stack {
         self.windows.len()
     }
 
-    /// A window's frame, in screen coordinates, closed or not: `BWindow::Frame`. None where there is no
-    /// such window.
+    /// A window's frame, in screen coordinates, closed or not: `BWindow::Frame`. None where there
+    /// is no such window.
     pub fn frame(&self, w: u16) -> Option<Rect>
         ensures none { IsNone result ↔ (length self.now.windows ≤ w) }
-        ensures frame { result ≡ option_map (λ window. window.frame) (slice_get self.now.windows w) }
+        ensures frame { result ≡ option_map (λ window. window.frame)
+            (slice_get self.now.windows w) }
     {
         self.windows.get(usize::from(w)).map(|window| window.frame)
     }
@@ -120,7 +125,8 @@ impl Stack {
     /// A window's flags, closed or not: `BWindow::Flags`. None where there is no such window.
     pub fn flags(&self, w: u16) -> Option<WindowFlags>
         ensures none { IsNone result ↔ (length self.now.windows ≤ w) }
-        ensures flags { result ≡ option_map (λ window. window.flags) (slice_get self.now.windows w) }
+        ensures flags { result ≡ option_map (λ window. window.flags)
+            (slice_get self.now.windows w) }
     {
         self.windows.get(usize::from(w)).map(|window| window.flags)
     }
@@ -140,7 +146,8 @@ impl Stack {
     pub fn active(&self) -> Option<u16>
         ensures active { result ≡ self.now.active }
 
-        // What holds of every stack, for callers that rest on it: an active window is shown, for one.
+        // What holds of every stack, for callers that rest on it: an active window is shown, for
+        // one.
         ensures whole { IsWhole self.now }
     {
         self.active
@@ -192,7 +199,8 @@ impl Stack {
         requires there { w < length self.old.windows }
         requires named_there { IsTrue (is_named_there self.old change.now) }
         requires within_limits { IsTrue (is_within_limits change.now) }
-        ensures changed { MatchResult result (λ _. windows_after self.old w change.now ≡ Ok self.new)
+        ensures changed { MatchResult result
+            (λ _. windows_after self.old w change.now ≡ Ok self.new)
             (λ fault. windows_after self.old w change.now ≡ Err fault) }
         ensures refused { OnErr result (self.new ≡ self.old) }
     {

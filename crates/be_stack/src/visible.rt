@@ -1,4 +1,5 @@
-ghost use Rattle.std.specs.Prelude.{◌≡◌, ℤ, pos, ◌&&◌, not, false, int_le, int_lt, OnOk, MatchOption};
+ghost use Rattle.std.specs.Prelude.{◌≡◌, ℤ, pos, ◌&&◌, not, false, int_le, int_lt, OnOk};
+ghost use Rattle.std.specs.Prelude.{MatchOption};
 ghost use Rattle.std.specs.List.{list_any};
 ghost use Rattle.be_geom.specs.Rects.{rect_has};
 ghost use Rattle.be_region.specs.Regions.{region_has};

@@ -3,7 +3,9 @@ use Rattle.std.specs.Prelude.{◌≡◌, ℕ, false, List, Some}
 use Rattle.be_asking.specs.Wants.{runner_in}
 use Rattle.be_asking.specs.declared.activity.Runner.{Runner}
 use Rattle.be_asking.specs.declared.want.Request.{Request}
-use Rattle.be_asking.specs.declared.want.Request.TheVariants.{Note, Post, Send, Forward, Reply, Claim, Lock, Unlock, Flush, SyncDone, Draw}
+use Rattle.be_asking.specs.declared.want.Request.TheVariants.{Note, Post, Send, Forward, Reply}
+use Rattle.be_asking.specs.declared.want.Request.TheVariants.{Claim, Lock, Unlock, Flush, SyncDone}
+use Rattle.be_asking.specs.declared.want.Request.TheVariants.{Draw}
 use Rattle.be_hall.specs.Hands.{part_at}
 use Rattle.be_machine.specs.Touched.{own_part}
 use Rattle.be_parts.specs.Cells.{is_waiting}

@@ -33,8 +33,8 @@ impl<T> Choice<T> for Brand {
     ghost is = { λ _. ⊤ };
 }
 
-/// Some value of which the choice holds, where there is one. A proof of the caller picks the choice,
-/// and may name in it what `about` has and nothing else of the caller. Costs nothing.
+/// Some value of which the choice holds, where there is one. A proof of the caller picks the
+/// choice, and may name in it what `about` has and nothing else of the caller. Costs nothing.
 pub fn choose<T, A, C: Choice<T>>(about: &A) -> Told<T>
     requires { (v : T) × C.is v }
     ensures { C.is result.value }

@@ -1,6 +1,7 @@
 ghost use Rattle.std.specs.Prelude.{◌≡◌, ◌<◌, ◌++◌, ◌∷◌, Some, IfOk, OnOk, length, slice_get};
 ghost use Rattle.std.specs.Fmt.{decimal, signed_decimal};
-ghost use Rattle.be_trees.specs.TreeText.{across_word, down_word, size_words, tree_text, view_words};
+ghost use Rattle.be_trees.specs.TreeText.{across_word, down_word, size_words, tree_text};
+ghost use Rattle.be_trees.specs.TreeText.{view_words};
 ghost use Rattle.be_views.specs.Trees.{View};
 ghost use Rattle.be_written.specs.Lines.{behind, line_of};
 ghost use Rattle.be_written.specs.TraceText.{edge_words};

@@ -43,19 +43,26 @@ pub trait Turns: Parts {
     /// What the activity does next, as far as the parts in hand tell.
     fn next(&self, activity: u32, held: &Held<Self::Part>) -> Result<Turn<Self::Entry>, NoMemory>
         requires there { activity < activities self.now }
-        requires own { (p : ℕ) → p < (Self.machine self.now).places → owns self.now activity p ≡ true → IsHeld (meant Self.meaning held.now.parts) p }
+        requires own { (p : ℕ) → p < (Self.machine self.now).places
+            → owns self.now activity p ≡ true → IsHeld (meant Self.meaning held.now.parts) p }
         requires fitting { SomeFits (Self.machine self.now) (meant Self.meaning held.now.parts) }
-        requires fits { HeldFit (Self.machine self.now).fits (2 ^ 62) (meant Self.meaning held.now.parts) }
-        ensures { IfOk result (Tells (Self.machine self.now) (legal self.now) activity (meant Self.meaning held.now.parts)) };
+        requires fits { HeldFit (Self.machine self.now).fits (2 ^ 62)
+            (meant Self.meaning held.now.parts) }
+        ensures { IfOk result
+            (Tells (Self.machine self.now) (legal self.now) activity
+            (meant Self.meaning held.now.parts)) };
 
-    /// Whether the activity has a legal entry, where all parts are in hand. It takes no memory, and is
-    /// what a run on one thread asks before an entry.
+    /// Whether the activity has a legal entry, where all parts are in hand. It takes no memory, and
+    /// is what a run on one thread asks before an entry.
     fn has_entry(&self, activity: u32, held: &Held<Self::Part>) -> bool
         requires there { activity < activities self.now }
         requires all { places_of held.now.parts ≡ up_from 0 (Self.machine self.now).places }
         requires fitting { SomeFits (Self.machine self.now) (meant Self.meaning held.now.parts) }
-        requires fits { HeldFit (Self.machine self.now).fits (2 ^ 62) (meant Self.meaning held.now.parts) }
-        ensures { (all : List Self.Meaning) → (Self.machine self.now).sound all → Fits all (meant Self.meaning held.now.parts) → result ≡ is_some (legal self.now all activity) };
+        requires fits { HeldFit (Self.machine self.now).fits (2 ^ 62)
+            (meant Self.meaning held.now.parts) }
+        ensures { (all : List Self.Meaning) → (Self.machine self.now).sound all
+            → Fits all (meant Self.meaning held.now.parts)
+            → result ≡ is_some (legal self.now all activity) };
 
     ghost turning: { (it : Self) → Turning (Self.machine it) (legal it) stops (activities it) };
 }

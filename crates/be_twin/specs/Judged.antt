@@ -1,8 +1,12 @@
--- What comes of each command but a change, at a window and by what its pane keeps (outcomes are this project's own).
+-- What comes of each command but a change, at a window and by what its pane keeps (outcomes are
+-- this project's own).
 use Rattle.std.specs.Prelude.{◌≡◌, ℕ, List, Option, Some, None, slice_get}
 use Rattle.be_geom.specs.declared.point.Point.{Point}
 use Rattle.be_bitmap.specs.Pictures.{Picture}
-use Rattle.be_command.specs.Effects.{Setting, high_color, low_color, drawing_mode, pen_size, pen_place, origin, clipping, Deed, draws, sets, colors, saves, restores, copies, invalidates, Effect, at_view, changes, ends_update}
+use Rattle.be_command.specs.Effects.{Setting, high_color, low_color, drawing_mode, pen_size}
+use Rattle.be_command.specs.Effects.{pen_place, origin, clipping, Deed, draws, sets, colors, saves}
+use Rattle.be_command.specs.Effects.{restores, copies, invalidates, Effect, at_view, changes}
+use Rattle.be_command.specs.Effects.{ends_update}
 use Rattle.be_pane.specs.Panes.{Pane}
 use Rattle.be_pane.specs.declared.pane.Pane as code
 use Rattle.be_state.specs.Limits.{IsPenSize}
@@ -52,7 +56,8 @@ HasPen ends_update = Unit {0}
 
 -- the outcome of an effect at a view is the machine's, and the end of an update is done
 abbrev pub ComesOf : List Picture → Point → Tree → Pane → Effect → Outcome → Type 0
-ComesOf pictures corner tree kept (at_view v deed) outcome = outcome ≡ outcome_at pictures deed (sight_of corner tree kept v)
+ComesOf pictures corner tree kept (at_view v deed) outcome =
+    outcome ≡ outcome_at pictures deed (sight_of corner tree kept v)
 ComesOf pictures corner tree kept (changes change) outcome = Unit {0}
 ComesOf pictures corner tree kept ends_update outcome = outcome ≡ Done
 
@@ -64,12 +69,14 @@ by_states (Some stack) outcome = outcome stack
 by_states None outcome = NoView
 
 -- the same by what the pane keeps of a view, where the pane's views are a tree
-pub record IsJudgedBy (pane : code.Pane) (v : ℕ) (by : Stack → Outcome) (outcome : Outcome) : Type 0 where
-  pub tree : IsTree pane.tree
-  pub comes : outcome ≡ by_states (slice_get pane.states.items v) by
+pub record IsJudgedBy (pane : code.Pane) (v : ℕ) (by : Stack → Outcome) (outcome : Outcome) : Type 0
+  where
+    pub tree : IsTree pane.tree
+    pub comes : outcome ≡ by_states (slice_get pane.states.items v) by
 
 -- the outcome of an effect
 abbrev pub IsJudged : List Picture → code.Pane → Effect → Outcome → Type 0
-IsJudged pictures pane (at_view v deed) outcome = IsJudgedBy pane v (λ stack. deed_outcome pictures stack deed) outcome
+IsJudged pictures pane (at_view v deed) outcome =
+    IsJudgedBy pane v (λ stack. deed_outcome pictures stack deed) outcome
 IsJudged pictures pane (changes change) outcome = Unit {0}
 IsJudged pictures pane ends_update outcome = outcome ≡ Done

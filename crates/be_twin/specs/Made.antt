@@ -1,10 +1,12 @@
 -- What a deed makes of the server's pane (this project's own).
-use Rattle.std.specs.Prelude.{◌≡◌, ℕ, ℤ, Bool, List, Option, Some, None, slice_get, slice_set, option_map}
+use Rattle.std.specs.Prelude.{◌≡◌, ℕ, ℤ, Bool, List, Option, Some, None, slice_get, slice_set}
+use Rattle.std.specs.Prelude.{option_map}
 use Rattle.be_geom.specs.declared.point.Point.{Point}
 use Rattle.be_geom.specs.declared.rect.Rect.{Rect}
 use Rattle.be_color.specs.declared.colors.Color.{Color}
 use Rattle.be_bitmap.specs.Pictures.{Picture}
-use Rattle.be_command.specs.Effects.{Deed, draws, sets, colors, saves, restores, copies, invalidates, Effect, at_view, changes, ends_update}
+use Rattle.be_command.specs.Effects.{Deed, draws, sets, colors, saves, restores, copies}
+use Rattle.be_command.specs.Effects.{invalidates, Effect, at_view, changes, ends_update}
 use Rattle.be_paint.specs.Copies.{copied_cell, invalidated_cell}
 use Rattle.be_paint.specs.Inks.{Ink, painted_cell}
 use Rattle.be_paint.specs.Reach.{Reach}
@@ -30,10 +32,12 @@ pub record IsSameWindow (old new : Pane) : Type 0 where
 
 -- ---- drawing states and colours
 
--- the drawing states of a view are what the change makes of them, up to the rectangles of clips, and all others stay
+-- the drawing states of a view are what the change makes of them, up to the rectangles of clips,
+-- and all others stay
 abbrev pub AreRestacked : ℕ → (Stack → Stack) → Pane → Pane → Type 0
 AreRestacked v change old new =
-    (s : Stack) → slice_get old.states.items v ≡ Some s → SameStacks new.states.items (slice_set old.states.items v (change s))
+    (s : Stack) → slice_get old.states.items v ≡ Some s
+    → SameStacks new.states.items (slice_set old.states.items v (change s))
 
 -- nothing else changes
 pub record IsRestacked (v : ℕ) (change : Stack → Stack) (old new : Pane) : Type 0 where
@@ -68,7 +72,8 @@ Rule = (ℤ → ℤ → Bool) → Reach → Lookup → ℤ → ℤ → Cell → 
 abbrev pub AreRepainted : ℕ → Rule → Pane → Pane → Type 0
 AreRepainted v rule old new =
     (seen : Reach) → IsReachOf old v seen → (x y : ℤ) →
-    cell_in new.spans x y ≡ option_map (rule (region_has old.spans.rects) seen (cell_in old.spans) x y) (cell_in old.spans x y)
+    cell_in new.spans x y ≡ option_map
+    (rule (region_has old.spans.rects) seen (cell_in old.spans) x y) (cell_in old.spans x y)
 
 -- nothing else changes
 pub record IsRepainted (v : ℕ) (rule : Rule) (old new : Pane) : Type 0 where
@@ -83,7 +88,8 @@ painting ink owned seen old x y c = painted_cell owned seen ink old x y c
 
 -- of copying, at a view of this colour
 abbrev pub copying : Rect → Point → Color → Rule
-copying source target color owned seen old x y c = copied_cell owned seen source target color old x y c
+copying source target color owned seen old x y c =
+    copied_cell owned seen source target color old x y c
 
 -- of invalidating, where the window's views have these colours
 abbrev pub invalidating : Rect → List Color → Rule
@@ -106,13 +112,15 @@ IsInkedWith v None old new = Unit {0}
 -- a deed that isn't refused, by what it does
 abbrev pub IsDone : List Picture → ℕ → Deed → Pane → Pane → Type 0
 IsDone pictures v (draws figure) old new =
-    (s : Stack) → slice_get old.states.items v ≡ Some s → IsInkedWith v (ink_of pictures s.top.state figure) old new
+    (s : Stack) → slice_get old.states.items v ≡ Some s
+    → IsInkedWith v (ink_of pictures s.top.state figure) old new
 IsDone pictures v (sets setting) old new = IsRestacked v (set_by setting) old new
 IsDone pictures v (colors color) old new = IsRecolored v color old new
 IsDone pictures v saves old new = IsRestacked v pushed old new
 IsDone pictures v restores old new = IsRestacked v (λ s. popped_or_same s (popped s)) old new
 IsDone pictures v (copies source target) old new =
-    (color : Color) → slice_get old.colors.items v ≡ Some color → IsRepainted v (copying source target color) old new
+    (color : Color) → slice_get old.colors.items v ≡ Some color
+    → IsRepainted v (copying source target color) old new
 IsDone pictures v (invalidates r) old new = IsRepainted v (invalidating r old.colors.items) old new
 
 -- the update is over, and all else stays

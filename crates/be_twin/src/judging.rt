@@ -1,4 +1,5 @@
-ghost use Rattle.std.specs.Prelude.{◌≡◌, ◌<◌, ℕ, ℤ, Bool, length, slice_get, nat_lt, option_map, if◌then◌else◌};
+ghost use Rattle.std.specs.Prelude.{◌≡◌, ◌<◌, ℕ, ℤ, Bool, length, slice_get, nat_lt, option_map};
+ghost use Rattle.std.specs.Prelude.{if◌then◌else◌};
 ghost use Rattle.be_geom.specs.declared.point.Point as places;
 ghost use Rattle.be_span.specs.declared.Cell.{Cell};
 ghost use Rattle.be_command.specs.Effects.{effect_of};

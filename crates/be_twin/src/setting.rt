@@ -1,5 +1,6 @@
 ghost use Rattle.std.specs.Prelude.{◌≡◌, ◌<◌, true, length, option_map, slice_get, Some, is_some};
-ghost use Rattle.be_command.specs.Effects.{high_color, low_color, drawing_mode, pen_size, pen_place, origin, clipping};
+ghost use Rattle.be_command.specs.Effects.{high_color, low_color, drawing_mode, pen_size};
+ghost use Rattle.be_command.specs.Effects.{pen_place, origin, clipping};
 ghost use Rattle.be_state.specs.Limits.{IsPenSize};
 ghost use Rattle.be_state.specs.Stacks.{with_state, with_clip, pushed, popped, can_push};
 ghost use Rattle.be_twin.specs.Deeds.{set_by, popped_or_same};

@@ -1,5 +1,7 @@
--- The rectangles of the pixels that wait, row by row: what the private calls add (this project's own).
-use Rattle.std.specs.Prelude.{◌≡◌, ◌<◌, ◌≤◌, ℕ, ℤ, pos, negsuc, ◌+ℤ◌, ◌-ℤ◌, Bool, true, false, ◌&&◌, ◌||◌, List, Some, slice_get}
+-- The rectangles of the pixels that wait, row by row: what the private calls add (this project's
+-- own).
+use Rattle.std.specs.Prelude.{◌≡◌, ◌<◌, ◌≤◌, ℕ, ℤ, pos, negsuc, ◌+ℤ◌, ◌-ℤ◌, Bool, true, false, ◌&&◌}
+use Rattle.std.specs.Prelude.{◌||◌, List, Some, slice_get}
 use Rattle.std.specs.List.{filter_map}
 use Rattle.std.specs.Option.{option_map}
 use Rattle.std.specs.Ordering.{int_eq}
@@ -28,7 +30,8 @@ waits_in cells left y z w = int_eq w y && waits_at cells (z -ℤ left)
 
 -- the cells from one place to before another have this mark
 abbrev pub IsAllOf : Bool → List Cell → ℕ → ℕ → Type 0
-IsAllOf dirty cells from to = (k : ℕ) → from ≤ k → k < to → option_map (λ c. c.dirty) (slice_get cells k) ≡ Some dirty
+IsAllOf dirty cells from to =
+    (k : ℕ) → from ≤ k → k < to → option_map (λ c. c.dirty) (slice_get cells k) ≡ Some dirty
 
 -- the first rows of a rectangle, so many
 abbrev pub rows_of : Rect → ℕ → Rect
@@ -36,7 +39,8 @@ rows_of r n = record r { bottom = r.top +ℤ pos n -ℤ pos 1 }
 
 -- the pixels lie in the frame, moved to the place
 abbrev pub LieIn : List Rect → Point → Rect → Type 0
-LieIn rs place frame = (x y : ℤ) → region_has rs x y ≡ true → rect_has (moved_rect frame place.x place.y) x y ≡ true
+LieIn rs place frame =
+    (x y : ℤ) → region_has rs x y ≡ true → rect_has (moved_rect frame place.x place.y) x y ≡ true
 
 -- of these views those that have pixels of the region, each with its rectangle
 abbrev pub AreAmong : List ℕ → List (ℕ × Rect) → Tree → List Rect → Type 0

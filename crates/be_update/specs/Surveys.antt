@@ -1,5 +1,5 @@
--- What an update of a window is to draw, as it is found before the update begins, and what a pane is once one has begun
--- or was passed over (this project's own).
+-- What an update of a window is to draw, as it is found before the update begins, and what a pane
+-- is once one has begun or was passed over (this project's own).
 use Rattle.std.specs.Prelude.{◌≡◌, ℕ, ℤ, ◌+ℤ◌, false, List, Some}
 use Rattle.std.specs.Option.{option_map}
 use Rattle.be_geom.specs.declared.point.Point.{Point}
@@ -14,18 +14,22 @@ use Rattle.be_update.specs.Listing.{listed_views}
 
 -- ---- before an update begins
 
--- the window's pixels that are to be drawn, in its coordinates, and the views that have some of them
+-- the window's pixels that are to be drawn, in its coordinates, and the views that have some of
+-- them
 pub record Surveyed : Type 0 where
   pub session : List Rect
   pub views : List (ℕ × Rect)
 
 -- the region has exactly the pixels of the pane that wait, seen from the window's left top
 abbrev pub IsWaiting : List Rect → Pane → Type 0
-IsWaiting rs pane = (x y : ℤ) → region_has rs x y ≡ is_dirty (cell_in pane.spans (x +ℤ pane.place.x) (y +ℤ pane.place.y))
+IsWaiting rs pane =
+    (x y : ℤ) → region_has rs x y
+    ≡ is_dirty (cell_in pane.spans (x +ℤ pane.place.x) (y +ℤ pane.place.y))
 
 -- these are the views that are listed for the region's pixels, in whatever order those are given
 abbrev pub AreListed : List (ℕ × Rect) → Tree → List Rect → Type 0
-AreListed views tree rs = (pixels : List Point) → SameSession (Some rs) (Some pixels) → views ≡ listed_views tree pixels
+AreListed views tree rs =
+    (pixels : List Point) → SameSession (Some rs) (Some pixels) → views ≡ listed_views tree pixels
 
 pub record IsSurveyOf (s : Surveyed) (pane : Pane) : Type 0 where
   pub session : IsWaiting s.session pane

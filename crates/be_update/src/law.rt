@@ -1,4 +1,6 @@
-ghost use Rattle.be_update.specs.Laws.{BegunAsTheMachine, FoundAsTheMachine, ListedAsDirty, OwedAsTheMachine, PassedAsTheMachine, StaysWhole, SurveyedForEach};
+ghost use Rattle.be_update.specs.Laws.{BegunAsTheMachine, FoundAsTheMachine, ListedAsDirty};
+ghost use Rattle.be_update.specs.Laws.{OwedAsTheMachine, PassedAsTheMachine, StaysWhole};
+ghost use Rattle.be_update.specs.Laws.{SurveyedForEach};
 
 /// The pixels that the machine lists as waiting are those that the window owns and that wait.
 pub fn waiting_pixels_are_listed()

@@ -2,8 +2,8 @@
 -- own).
 use Rattle.std.specs.Prelude.{◌≡◌, ℤ, pos, ◌+ℤ◌, ◌≤ℤ◌, ◌<ℤ◌, ◌⊎◌}
 
--- from column x on the answer is the same up to the last column, which is the end, or before it where the next column has
--- another answer
+-- from column x on the answer is the same up to the last column, which is the end, or before it
+-- where the next column has another answer
 pub record IsRunTo {A : Type 0} (answer : ℤ → A) (x end last : ℤ) : Type 0 where
   pub forward : x ≤ℤ last
   pub within : last ≤ℤ end

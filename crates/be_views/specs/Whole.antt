@@ -1,5 +1,6 @@
 -- What holds of every tree, and the tree with one more view.
-use Rattle.std.specs.Prelude.{◌≡◌, ◌+◌, ◌<◌, ◌≤◌, ℕ, zero, suc, ℤ, pos, [], ◌∷◌, ◌++◌, length, Option, Some, None, slice_get}
+use Rattle.std.specs.Prelude.{◌≡◌, ◌+◌, ◌<◌, ◌≤◌, ℕ, zero, suc, ℤ, pos, [], ◌∷◌, ◌++◌, length}
+use Rattle.std.specs.Prelude.{Option, Some, None, slice_get}
 use Rattle.be_geom.specs.Places.{at_pixel}
 use Rattle.be_geom.specs.declared.rect.Rect.{Rect}
 use Rattle.be_follow.specs.declared.mode.Follow.{Follow}
@@ -10,11 +11,17 @@ use Rattle.be_views.specs.Resizing.{root_frame}
 
 -- the root of a window whose last edges are so far from its first; it follows nothing
 abbrev pub root_view : ℤ → ℤ → View
-root_view width height = record { parent = None; frame = root_frame width height; mode = record { across = across.Left; down = down.Top } }
+root_view width height =
+    record {
+      parent = None;
+      frame = root_frame width height;
+      mode = record { across = across.Left; down = down.Top };
+    }
 
 -- one more view, in front of its siblings
 abbrev pub with_view : Tree → ℕ → Rect → Follow → Tree
-with_view tree parent frame mode = tree ++ record { parent = Some parent; frame = frame; mode = mode } ∷ []
+with_view tree parent frame mode =
+    tree ++ record { parent = Some parent; frame = frame; mode = mode } ∷ []
 
 -- one more than the depth of the parent, if there is one
 abbrev pub depth_above : (ℕ → ℕ) → Option ℕ → ℕ
@@ -41,10 +48,11 @@ pub record AreParentsFirst (tree : Tree) : Type 0 where
 
 -- the root's left top is the window's
 pub record BeginsAtZero (tree : Tree) : Type 0 where
-  pub corner : (root : View) → slice_get tree 0 ≡ Some root → left_top root.frame ≡ at_pixel (pos 0) (pos 0)
+  pub corner : (root : View) → slice_get tree 0 ≡ Some root
+      → left_top root.frame ≡ at_pixel (pos 0) (pos 0)
 
--- there are at most 32 views, a root among them that begins at (0, 0), parents stand before their children, and none is
--- deeper than 8 (the limits are this project's own)
+-- there are at most 32 views, a root among them that begins at (0, 0), parents stand before their
+-- children, and none is deeper than 8 (the limits are this project's own)
 pub record IsTree (tree : Tree) : Type 0 where
   pub some : 0 < length tree
   pub begins : BeginsAtZero tree

@@ -1,7 +1,8 @@
 ghost use Rattle.std.specs.Prelude.{◌≡◌, ◌<◌, ◌≤◌, ℤ, ◌-ℤ◌, true, length, IfOk, OnOk};
 ghost use Rattle.be_geom.specs.Points.{in_range, between};
 ghost use Rattle.be_region.specs.Regions.{HasPixelsOf};
-ghost use Rattle.be_views.specs.Clips.{IsClip, IsInRange, HasPixelsMoved, IsUncovered, IsReach, edges_have};
+ghost use Rattle.be_views.specs.Clips.{IsClip, IsInRange, HasPixelsMoved, IsUncovered, IsReach};
+ghost use Rattle.be_views.specs.Clips.{edges_have};
 ghost use Rattle.be_geom.specs.Places.{IsNear};
 ghost use Rattle.be_views.specs.Whole.{AreParentsFirst};
 

@@ -1,7 +1,9 @@
-ghost use Rattle.std.specs.Prelude.{◌≡◌, ◌<◌, ◌≤◌, ◌↔◌, pos, ◌≤ℤ◌, ◌+ℤ◌, ◌-ℤ◌, false, length, take, IsErr, IfOk};
+ghost use Rattle.std.specs.Prelude.{◌≡◌, ◌<◌, ◌≤◌, ◌↔◌, pos, ◌≤ℤ◌, ◌+ℤ◌, ◌-ℤ◌, false, length, take};
+ghost use Rattle.std.specs.Prelude.{IsErr, IfOk};
 ghost use Rattle.std.specs.List.{list_all};
 ghost use Rattle.be_geom.specs.Rects.{rect_fits};
-ghost use Rattle.be_views.specs.Resizing.{frames_after, frame_after, with_frames, root_frame, pixel_width, pixel_height};
+ghost use Rattle.be_views.specs.Resizing.{frames_after, frame_after, with_frames, root_frame};
+ghost use Rattle.be_views.specs.Resizing.{pixel_width, pixel_height};
 ghost use Rattle.be_views.specs.Whole.{AreParentsFirst};
 
 use crate::view::View;

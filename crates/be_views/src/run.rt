@@ -1,4 +1,5 @@
-ghost use Rattle.std.specs.Prelude.{◌≡◌, ◌<◌, ◌≤◌, ℤ, ◌≤ℤ◌, true, false, length, option_map, IfSome};
+ghost use Rattle.std.specs.Prelude.{◌≡◌, ◌<◌, ◌≤◌, ℤ, ◌≤ℤ◌, true, false, length, option_map};
+ghost use Rattle.std.specs.Prelude.{IfSome};
 ghost use Rattle.be_geom.specs.Rects.{rect_has};
 ghost use Rattle.be_views.specs.Pixels.{last_child_at, view_below};
 ghost use Rattle.be_views.specs.Clips.{covers};

@@ -1,5 +1,7 @@
 ghost use Rattle.be_geom.specs.Rects.{rect_has};
-ghost use Rattle.std.specs.Prelude.{◌≡◌, ◌<◌, ◌≤◌, ◌↔◌, ◌⊎◌, ℕ, true, pos, ◌-ℤ◌, ◌≤ℤ◌, ◌∷◌, [], length, slice_get, option_map, option_and_then, vec_len, vec_capacity, IfOk, IfSome, OnOk, OnErr, IsNone, IsErr};
+ghost use Rattle.std.specs.Prelude.{◌≡◌, ◌<◌, ◌≤◌, ◌↔◌, ◌⊎◌, ℕ, true, pos, ◌-ℤ◌, ◌≤ℤ◌, ◌∷◌, []};
+ghost use Rattle.std.specs.Prelude.{length, slice_get, option_map, option_and_then, vec_len};
+ghost use Rattle.std.specs.Prelude.{vec_capacity, IfOk, IfSome, OnOk, OnErr, IsNone, IsErr};
 ghost use Rattle.be_views.specs.Trees.{parent_of, place_of, place_from};
 ghost use Rattle.be_views.specs.Pixels.{view_at, view_below};
 ghost use Rattle.be_region.specs.Runs.{IsRun};

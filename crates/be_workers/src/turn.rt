@@ -110,8 +110,8 @@ fn tell(bells: &Bells, watcher: u32, places: &[u32], asked: &Result<Asked, NoMem
 const WAITS: [u64; 6] = [100, 200, 400, 800, 1600, 3200];
 
 // Tries some times to take the parts at these places. Whether it has them. To sleep at the part
-// itself costs more: who has it in hand wakes a thread each time that it gives it back, which mostly
-// finds it in hand again, as who draws wants it for each command.
+// itself costs more: who has it in hand wakes a thread each time that it gives it back, which
+// mostly finds it in hand again, as who draws wants it for each command.
 fn try_again<R: Wait, G, W: Turns + Drop>(
     tools: &Tools<'_, R, G>,
     hall: &Hall<W>,

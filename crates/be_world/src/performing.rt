@@ -20,8 +20,8 @@ use be_script::Script;
 use std::alloc::Global;
 
 impl World {
-    /// Makes an entry that is ready, under this number, and its activity's log keeps this note of it.
-    /// It takes no memory.
+    /// Makes an entry that is ready, under this number, and its activity's log keeps this note of
+    /// it. It takes no memory.
     pub fn make(&self, held: &mut Held<Part>, ready: ReadyEntry, number: u64, note: Option<Vec<u8>>)
         requires { MayMake self.now held.old.parts ready number }
         ensures { HasPerformed self.now (entry_in ready) (note_in note) number held.old held.new }

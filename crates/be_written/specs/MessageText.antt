@@ -1,9 +1,12 @@
 -- The text of a message, as the report has it (this project's own).
-use Rattle.std.specs.Prelude.{ℕ, ℤ, ◌==◌, Bool, true, false, List, [], ◌∷◌, ◌++◌, flat_map, codes, if◌then◌else◌}
+use Rattle.std.specs.Prelude.{ℕ, ℤ, ◌==◌, Bool, true, false, List, [], ◌∷◌, ◌++◌, flat_map, codes}
+use Rattle.std.specs.Prelude.{if◌then◌else◌}
 use Rattle.std.specs.Fmt.{signed_decimal}
 use Rattle.be_flat.specs.Codes.{code_of}
 use Rattle.be_lex.specs.Codes as lex
-use Rattle.be_message.specs.Messages.{Datum, bool, int, text, point, rect, message, Fields, no_fields, field, Values, no_values, value, Message, all_fields}
+use Rattle.be_message.specs.Messages.{Datum, bool, int, text, point, rect, message, Fields}
+use Rattle.be_message.specs.Messages.{no_fields, field, Values, no_values, value, Message}
+use Rattle.be_message.specs.Messages.{all_fields}
 
 -- ---- values
 

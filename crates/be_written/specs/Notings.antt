@@ -1,6 +1,7 @@
 -- What is noted of an entry, as the code has it, and the texts of what runners note (this project's
 -- own).
-use Rattle.std.specs.Prelude.{◌≡◌, ℕ, Bool, false, List, [], ◌∷◌, ◌++◌, map, Option, Some, None, if◌then◌else◌}
+use Rattle.std.specs.Prelude.{◌≡◌, ℕ, Bool, false, List, [], ◌∷◌, ◌++◌, map, Option, Some, None}
+use Rattle.std.specs.Prelude.{if◌then◌else◌}
 use Rattle.std.specs.Option.{option_map_or}
 use Rattle.be_looper.specs.Duties.{Hand}
 use Rattle.be_message.specs.Messages.{Message}
@@ -9,7 +10,8 @@ use Rattle.be_machine.specs.Activities.{Runner}
 use Rattle.be_machine.specs.declared.Entry.{Entry}
 use Rattle.be_machine.specs.State.{State, opening_state}
 use Rattle.be_machine.specs.Step.{step}
-use Rattle.be_machine.specs.Traces.{Trace, noted, got, took, listed, replied, entry_trace, same_runner, traces_of}
+use Rattle.be_machine.specs.Traces.{Trace, noted, got, took, listed, replied, entry_trace}
+use Rattle.be_machine.specs.Traces.{same_runner, traces_of}
 use Rattle.be_written.specs.declared.note.Note.{Note}
 use Rattle.be_written.specs.declared.note.Note.TheVariants as note
 use Rattle.be_written.specs.Runners.{IsRunner, runner_at}
@@ -43,8 +45,8 @@ abbrev pub text_by : Declared → Option Runner → List Trace → List ℕ
 text_by d (Some who) traces = noted_text d who traces
 text_by d None traces = []
 
--- the lines of what the maker of an entry notes of it, in the state before it; other activities note
--- nothing
+-- the lines of what the maker of an entry notes of it, in the state before it; other activities
+-- note nothing
 abbrev pub entry_text : Declared → State → Entry → List ℕ
 entry_text d s e = text_by d (runner_at d e.actor) (maker_trace d s e)
 

@@ -1,7 +1,8 @@
 -- The runners of a script: the applications, and behind them the loopers (this project's own).
 use Rattle.std.specs.Prelude.{ℕ, ◌<◌, ◌≤◌, length, Option, Some, None}
 use Rattle.be_script.specs.Script.{Declared}
-use Rattle.be_machine.specs.Activities.{Runner, app, looper, Activity, runner, twin, input, closing, activity_of}
+use Rattle.be_machine.specs.Activities.{Runner, app, looper, Activity, runner, twin, input, closing}
+use Rattle.be_machine.specs.Activities.{activity_of}
 
 -- as many windows and applications as a script may have, so that their activities can be numbered
 pub record AreFew (d : Declared) : Type 0 where

@@ -1,5 +1,6 @@
 -- What a screen tells of the cells in its rows (this project's own).
-use Rattle.std.specs.Prelude.{ℕ, ◌≡◌, ◌+◌, ◌-◌, ◌*◌, ◌/◌, ◌%◌, ◌≤◌, ◌<◌, List, ◌∷◌, take, drop, length, slice_get, Option, Some}
+use Rattle.std.specs.Prelude.{ℕ, ◌≡◌, ◌+◌, ◌-◌, ◌*◌, ◌/◌, ◌%◌, ◌≤◌, ◌<◌, List, ◌∷◌, take, drop}
+use Rattle.std.specs.Prelude.{length, slice_get, Option, Some}
 use Rattle.std.specs.Option.{option_map}
 use Rattle.be_color.specs.declared.colors.Rgb.{Rgb}
 use Rattle.be_span.specs.declared.Cell.{Cell}

@@ -17,7 +17,8 @@ use Rattle.be_machine.specs.declared.Entry.{Entry}
 use Rattle.be_machine.specs.Traces.{Trace, noted, got, took, listed, replied, traces_of}
 use Rattle.be_written.specs.MessageText.{message_text, fields_text}
 use Rattle.be_written.specs.Lines.{line_of}
-use Rattle.be_written.specs.Names.{window_names, window_name, app_names, app_name, view_name, target_name, app_actor, looper_actor, twin_actor}
+use Rattle.be_written.specs.Names.{window_names, window_name, app_names, app_name, view_name}
+use Rattle.be_written.specs.Names.{target_name, app_actor, looper_actor, twin_actor}
 
 -- ---- a letter that was taken
 

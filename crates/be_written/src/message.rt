@@ -3,7 +3,8 @@ ghost use Rattle.be_flat.specs.Codes.{code_of};
 ghost use Rattle.be_message.specs.Messages as messages;
 ghost use Rattle.be_message.specs.Messages.{all_values, all_fields};
 ghost use Rattle.be_message.specs.Views.{seen_value, seen_values, seen_field, seen_fields};
-ghost use Rattle.be_written.specs.MessageText.{bool_text, escaped, stroked, datum_text, fields_text, values_text, more_text, message_text};
+ghost use Rattle.be_written.specs.MessageText.{bool_text, escaped, stroked, datum_text};
+ghost use Rattle.be_written.specs.MessageText.{fields_text, values_text, more_text, message_text};
 
 use crate::page::Page;
 use be_geom::{NoMemory, Rect};

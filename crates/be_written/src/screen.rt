@@ -1,8 +1,10 @@
-ghost use Rattle.std.specs.Prelude.{◌≡◌, ℕ, List, ◌∷◌, ◌++◌, ◌+◌, ◌*◌, ◌^◌, ◌<◌, ◌≤◌, length, Some, OnOk};
+ghost use Rattle.std.specs.Prelude.{◌≡◌, ℕ, List, ◌∷◌, ◌++◌, ◌+◌, ◌*◌, ◌^◌, ◌<◌, ◌≤◌, length, Some};
+ghost use Rattle.std.specs.Prelude.{OnOk};
 ghost use Rattle.be_span.specs.declared.Cell.{Cell};
 ghost use Rattle.be_written.specs.ScreenText.{run_word, row_text, screen_text};
 ghost use Rattle.be_color.specs.declared.colors.Rgb.{Rgb};
-ghost use Rattle.be_written.specs.Screens.{AreCellsOf, AreColored, IsLongest, IsStrip, rgb_at, row_at};
+ghost use Rattle.be_written.specs.Screens.{AreCellsOf, AreColored, IsLongest, IsStrip, rgb_at};
+ghost use Rattle.be_written.specs.Screens.{row_at};
 
 use crate::page::Page;
 use crate::plain::run_end;

@@ -1,4 +1,5 @@
-ghost use Rattle.std.specs.Prelude.{◌≡◌, ℕ, ℤ, ◌≤◌, Bool, List, ◌∷◌, ◌++◌, flat_map, codes, OnOk, IfOk, if◌then◌else◌};
+ghost use Rattle.std.specs.Prelude.{◌≡◌, ℕ, ℤ, ◌≤◌, Bool, List, ◌∷◌, ◌++◌, flat_map, codes, OnOk};
+ghost use Rattle.std.specs.Prelude.{IfOk, if◌then◌else◌};
 ghost use Rattle.std.specs.Fmt.{signed_decimal};
 ghost use Rattle.be_flat.specs.Grammar.{Spells, SpellsDatum, SpellsInt, SpellsPoint, SpellsText};
 ghost use Rattle.be_geom.specs.declared.rect.Rect.{Rect};
@@ -7,8 +8,10 @@ ghost use Rattle.be_message.specs.declared.kind.Kind.{Kind};
 ghost use Rattle.be_message.specs.Depths.{datum_depth};
 ghost use Rattle.be_message.specs.Messages as messages;
 ghost use Rattle.be_message.specs.Messages.{Datum, Fields, Values, all_fields};
-ghost use Rattle.be_written.specs.MessageText.{bool_text, escaped, stroked, datum_text, fields_text, values_text, more_text};
-ghost use Rattle.be_written.specs.Spelt.{Leaves, StartsDatum, StartsField, StartsFields, StartsValues};
+ghost use Rattle.be_written.specs.MessageText.{bool_text, escaped, stroked, datum_text};
+ghost use Rattle.be_written.specs.MessageText.{fields_text, values_text, more_text};
+ghost use Rattle.be_written.specs.Spelt.{Leaves, StartsDatum, StartsField, StartsFields};
+ghost use Rattle.be_written.specs.Spelt.{StartsValues};
 
 use crate::cut::{byte_of, coordinate_of, cut, int_of, kind_of, length_of, word_of};
 use crate::message::{bool_text, write_stroked, write_text};

@@ -1,6 +1,8 @@
 ghost use Rattle.std.specs.Prelude.{◌≡◌, [], ◌∷◌, ◌++◌, OnOk};
 ghost use Rattle.std.specs.Fmt.{decimal};
-ghost use Rattle.be_written.specs.EntryText.{posted_words, delivery_words, replied_word, answered_word, outcome_word, end_word, act_words, entry_words, history_text};
+ghost use Rattle.be_written.specs.EntryText.{posted_words, delivery_words, replied_word};
+ghost use Rattle.be_written.specs.EntryText.{answered_word, outcome_word, end_word, act_words};
+ghost use Rattle.be_written.specs.EntryText.{entry_words, history_text};
 ghost use Rattle.be_written.specs.Lines.{behind, line_of};
 ghost use Rattle.be_written.specs.Names.{window_name, app_name, actor_name};
 ghost use Rattle.be_script.specs.Script.{declared_by};

@@ -1,5 +1,5 @@
-//! Changes the windows of a screen, as the words on the command line say, and writes how many changes were
-//! made. `bench/desk` times it.
+//! Changes the windows of a screen, as the words on the command line say, and writes how many
+//! changes were made. `bench/desk` times it.
 #![tactic(auto)]
 
 mod fault;

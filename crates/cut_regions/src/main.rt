@@ -1,6 +1,7 @@
-//! Works on regions as a screen of windows does, and writes how many rectangles there were: stacks of
-//! windows that are put together, joined and cut, columns against rows, a window that is dragged, and
-//! pixels taken out and put back, as the words on the command line say. `bench/region` times it.
+//! Works on regions as a screen of windows does, and writes how many rectangles there were: stacks
+//! of windows that are put together, joined and cut, columns against rows, a window that is
+//! dragged, and pixels taken out and put back, as the words on the command line say. `bench/region`
+//! times it.
 #![tactic(auto)]
 
 mod changes;

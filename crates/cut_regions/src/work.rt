@@ -19,8 +19,8 @@ pub enum Kind {
     Pixels,
 }
 
-/// What is done how often: `size` is the number of windows or columns, and `count` that of the other
-/// windows, rows, drags or pixels.
+/// What is done how often: `size` is the number of windows or columns, and `count` that of the
+/// other windows, rows, drags or pixels.
 #[derive(Clone, Copy, Debug, PartialEq, Eq)]
 pub struct Work {
     pub kind: Kind,

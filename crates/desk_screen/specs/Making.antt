@@ -28,4 +28,6 @@ pub record IsMade (w : ℕ) (window : Window) (tree : Tree) (pane : Pane) : Type
 pub record AreMade (windows : Windows) (trees : List Tree) (panes : List Pane) : Type 0 where
   pub many_trees : length trees ≡ length windows.windows
   pub many_panes : length panes ≡ length windows.windows
-  pub each : (k : ℕ) (window : Window) (tree : Tree) (pane : Pane) → slice_get windows.windows k ≡ Some window → slice_get trees k ≡ Some tree → slice_get panes k ≡ Some pane → IsMade k window tree pane
+  pub each : (k : ℕ) (window : Window) (tree : Tree) (pane : Pane)
+      → slice_get windows.windows k ≡ Some window → slice_get trees k ≡ Some tree
+      → slice_get panes k ≡ Some pane → IsMade k window tree pane

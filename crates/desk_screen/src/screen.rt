@@ -1,4 +1,5 @@
-ghost use Rattle.std.specs.Prelude.{◌≡◌, ◌<◌, ℕ, ℤ, None, Ok, Some, IfOk, OnOk, OnErr, MatchOption, length, option_map, slice_get};
+ghost use Rattle.std.specs.Prelude.{◌≡◌, ◌<◌, ℕ, ℤ, None, Ok, Some, IfOk, OnOk, OnErr, MatchOption};
+ghost use Rattle.std.specs.Prelude.{length, option_map, slice_get};
 ghost use Rattle.be_span.specs.Spans.{cell_in};
 ghost use Rattle.be_desk.specs.Affected.{AreAffected};
 ghost use Rattle.be_desk.specs.Changes as machine;
@@ -43,8 +44,8 @@ impl Model for Screen {
 }
 
 impl Screen {
-    /// A screen of so many columns and rows with these windows. Each is hidden once, and the last is
-    /// in front of the others.
+    /// A screen of so many columns and rows with these windows. Each is hidden once, and the last
+    /// is in front of the others.
     pub fn new(
         alloc: Global,
         width: u16,

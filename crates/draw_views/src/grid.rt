@@ -2,8 +2,8 @@ use be_geom::{NoMemory, Rect};
 use be_region::Region;
 use std::alloc::Global;
 
-/// The square of a grid in a column and a row, at whose left top it lies. Where `step` is more than `size` the squares
-/// stand apart.
+/// The square of a grid in a column and a row, at whose left top it lies. Where `step` is more than
+/// `size` the squares stand apart.
 pub fn square(column: u8, row: u8, step: i16, size: i16) -> Rect {
     let left = i16::from(column).saturating_mul(step);
     let top = i16::from(row).saturating_mul(step);

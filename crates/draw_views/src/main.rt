@@ -1,5 +1,5 @@
-//! Draws on a view of a window over and over, as the words on the command line say, and writes how many of the
-//! window's pixels the drawing paints. `bench/paint` times it.
+//! Draws on a view of a window over and over, as the words on the command line say, and writes how
+//! many of the window's pixels the drawing paints. `bench/paint` times it.
 #![tactic(auto)]
 
 mod grid;
@@ -18,7 +18,8 @@ use subject::Kind;
 const USAGE: &str = "usage: draw_views fill|pattern|frame|line|text|image|photo SIDE \
     alone|small|clip|views|session ROUNDS";
 
-/// SIDE is 1 to 1000, and ROUNDS a number of 32 bits. Other words end with status 2, and want of memory with 1.
+/// SIDE is 1 to 1000, and ROUNDS a number of 32 bits. Other words end with status 2, and want of
+/// memory with 1.
 fn main(rt: HostRuntime) -> io::Result<ExitCode> {
     let mut words = Vec::new(rt.alloc());
     for word in env::args(&rt)?.skip(1) {

@@ -8,7 +8,8 @@ use be_span::SpanBuf;
 use be_state::StateStack;
 use std::alloc::Global;
 
-/// Draws so many rounds, one at least, on a white window, and gives how many of its pixels aren't white behind that.
+/// Draws so many rounds, one at least, on a white window, and gives how many of its pixels aren't
+/// white behind that.
 pub fn painted_pixels(
     alloc: Global,
     kind: Kind,

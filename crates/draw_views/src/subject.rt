@@ -80,8 +80,8 @@ fn letters(alloc: Global, side: i16) -> Result<Vec<u8>, NoMemory> {
     Ok(codes)
 }
 
-/// A picture of two colours, each of which has so many pixels of a row before the other one follows. None where there is
-/// no such picture.
+/// A picture of two colours, each of which has so many pixels of a row before the other one
+/// follows. None where there is no such picture.
 fn picture(alloc: Global, side: i16, run: u16) -> Result<Option<Bitmap>, NoMemory> {
     let side = side.clamp(1, TILE) as u16;
     let mut pixels = Vec::new(alloc);

@@ -20,12 +20,15 @@ moved all e (some c) none = all
 moved all e none (some d) = all
 moved all e none none = all
 
--- A transfer is permitted where the counters are two, the one that gives has a unit, and may still give.
+-- A transfer is permitted where the counters are two, the one that gives has a unit, and may still
+-- give.
 abbrev pub counting : ℕ → Machine Count Transfer
 counting places = record {
   places = places;
   sound = λ all. length all ≡ places;
-  permits = λ all e. (e.source ≢ e.target) × (c : Count) × (d : Count) × (get_elem? all e.source ≡ some c) × (get_elem? all e.target ≡ some d) × (0 < c.units) × (0 < c.left);
+  permits =
+      λ all e. (e.source ≢ e.target) × (c : Count) × (d : Count) × (get_elem? all e.source ≡ some c)
+      × (get_elem? all e.target ≡ some d) × (0 < c.units) × (0 < c.left);
   after = λ all e. moved all e (get_elem? all e.source) (get_elem? all e.target);
   touches = λ all e p. (p ≡ e.source) ⊎ (p ≡ e.target);
   budget = λ c. c.left;

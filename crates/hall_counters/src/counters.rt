@@ -1,5 +1,6 @@
 //! Counters that pass units to each other, as parts of a hall.
-ghost use Rattle.std.specs.Prelude.{⊤, ◌≡◌, ℕ, ◌+◌, ◌-◌, ◌^◌, ◌<◌, ◌≤◌, ◌++◌, List, [], ◌∷◌, Some, IfOk, IfSome, IfNone, OnOk, option_map};
+ghost use Rattle.std.specs.Prelude.{⊤, ◌≡◌, ℕ, ◌+◌, ◌-◌, ◌^◌, ◌<◌, ◌≤◌, ◌++◌, List, [], ◌∷◌, Some};
+ghost use Rattle.std.specs.Prelude.{IfOk, IfSome, IfNone, OnOk, option_map};
 ghost use Rattle.std.specs.VecDeque.{deque_len, deque_capacity};
 ghost use Rattle.be_hall.specs.Hands.{part_at, with_part, meant};
 ghost use Rattle.hall_counters.specs.Counting.{counting, gave, got};
@@ -183,15 +184,21 @@ fn count_at(held: &Held<Counter>, place: u32) -> Option<Count>
 fn make_room(held: &mut Held<Counter>, place: u32) -> Result<(), NoMemory>
     requires { (x : Counter) × (part_at held.old.parts place ≡ Some x) }
     ensures room { held.new.room ≡ held.old.room }
-    ensures same { (x : Counter) × (y : Counter) × (part_at held.old.parts place ≡ Some x) × (held.new.parts ≡ with_part held.old.parts place y) × (y.count ≡ x.count) × (y.log.items ≡ x.log.items) × OnOk result (deque_len y.log < deque_capacity y.log) }
+    ensures same { (x : Counter) × (y : Counter) × (part_at held.old.parts place ≡ Some x)
+        × (held.new.parts ≡ with_part held.old.parts place y) × (y.count ≡ x.count)
+        × (y.log.items ≡ x.log.items) × OnOk result (deque_len y.log < deque_capacity y.log) }
 {
     held.get_mut(place).unwrap().reserve()
 }
 
 fn give_one(held: &mut Held<Counter>, transfer: Transfer, number: u64, rounds: u32)
-    requires { (x : Counter) × (part_at held.old.parts transfer.source ≡ Some x) × (0 < x.count.units) × (0 < x.count.left) × (deque_len x.log < deque_capacity x.log) }
+    requires { (x : Counter) × (part_at held.old.parts transfer.source ≡ Some x)
+        × (0 < x.count.units) × (0 < x.count.left) × (deque_len x.log < deque_capacity x.log) }
     ensures room { held.new.room ≡ held.old.room }
-    ensures given { (x : Counter) × (y : Counter) × (part_at held.old.parts transfer.source ≡ Some x) × (held.new.parts ≡ with_part held.old.parts transfer.source y) × (y.count ≡ gave x.count) × (y.log.items ≡ x.log.items ++ (number, transfer) ∷ []) }
+    ensures given { (x : Counter) × (y : Counter)
+        × (part_at held.old.parts transfer.source ≡ Some x)
+        × (held.new.parts ≡ with_part held.old.parts transfer.source y) × (y.count ≡ gave x.count)
+        × (y.log.items ≡ x.log.items ++ (number, transfer) ∷ []) }
 {
     held.get_mut(transfer.source)
         .unwrap()
@@ -199,9 +206,12 @@ fn give_one(held: &mut Held<Counter>, transfer: Transfer, number: u64, rounds: u
 }
 
 fn get_one(held: &mut Held<Counter>, place: u32)
-    requires { (x : Counter) × (part_at held.old.parts place ≡ Some x) × (x.count.units + 1 < 2 ^ 64) }
+    requires { (x : Counter) × (part_at held.old.parts place ≡ Some x)
+        × (x.count.units + 1 < 2 ^ 64) }
     ensures room { held.new.room ≡ held.old.room }
-    ensures got { (x : Counter) × (y : Counter) × (part_at held.old.parts place ≡ Some x) × (held.new.parts ≡ with_part held.old.parts place y) × (y.count ≡ got x.count) × (y.log.items ≡ x.log.items) }
+    ensures got { (x : Counter) × (y : Counter) × (part_at held.old.parts place ≡ Some x)
+        × (held.new.parts ≡ with_part held.old.parts place y) × (y.count ≡ got x.count)
+        × (y.log.items ≡ x.log.items) }
 {
     held.get_mut(place).unwrap().get();
 }

@@ -15,9 +15,9 @@ use turns::time;
 
 const USAGE: &str = "usage: hall_counters THREADS own|common COMMITS ROUNDS";
 
-/// The words are the number of threads, 1 to 4, whether each has counters of its own or all have one in
-/// common, how many transfers each makes, and how many rounds of work each of these takes. Other words end
-/// with status 2, and want of memory with 1.
+/// The words are the number of threads, 1 to 4, whether each has counters of its own or all have
+/// one in common, how many transfers each makes, and how many rounds of work each of these takes.
+/// Other words end with status 2, and want of memory with 1.
 fn main(rt: HostRuntime) -> io::Result<ExitCode> {
     let mut words = Vec::new(rt.alloc());
     for word in env::args(&rt)?.skip(1) {

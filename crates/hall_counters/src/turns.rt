@@ -1,5 +1,6 @@
 //! Threads that share a hall of counters.
-ghost use Rattle.std.specs.Prelude.{◌≡◌, ◌≢◌, ◌+◌, ◌*◌, ◌^◌, ◌<◌, ◌≤◌, [], ◌∷◌, true, All, map, length, vec_len, vec_capacity, IfOk};
+ghost use Rattle.std.specs.Prelude.{◌≡◌, ◌≢◌, ◌+◌, ◌*◌, ◌^◌, ◌<◌, ◌≤◌, [], ◌∷◌, true, All, map};
+ghost use Rattle.std.specs.Prelude.{length, vec_len, vec_capacity, IfOk};
 ghost use Rattle.be_hall.specs.Numbers.{total};
 ghost use Rattle.be_hall.specs.Hands.{places_of, up_from, rises_from};
 ghost use Rattle.be_hall.specs.Words.{IsPassOf, in_hand, rules_of};
@@ -65,7 +66,9 @@ pub struct Turn {
 
 fn work<R: Wait>(rt: &R, hall: &Hall<Counters>, turn: Turn) -> Pass<Counters>
     requires pass { IsPassOf (λ x. x.count) hall.now turn.pass × (in_hand turn.pass ≡ []) }
-    requires places { (turn.transfer.source < (rules_of hall.now).places) × (turn.transfer.target < (rules_of hall.now).places) × (turn.transfer.source ≢ turn.transfer.target) }
+    requires places { (turn.transfer.source < (rules_of hall.now).places)
+        × (turn.transfer.target < (rules_of hall.now).places)
+        × (turn.transfer.source ≢ turn.transfer.target) }
     ensures { IsPassOf (λ x. x.count) hall.now result × (in_hand result ≡ []) }
 {
     let Turn {
@@ -89,14 +92,21 @@ pub fn many<R: Threads + Wait + Sync>(
     hall: &Hall<Counters>,
     turns: Vec<Turn>,
 ) -> Result<Vec<Pass<Counters>>, NoMemory>
-    requires { All (λ t. IsPassOf (λ x. x.count) hall.now t.pass × (in_hand t.pass ≡ []) × (t.transfer.source < (rules_of hall.now).places) × (t.transfer.target < (rules_of hall.now).places) × (t.transfer.source ≢ t.transfer.target)) turns.items }
-    ensures { IfOk result (λ v. All (λ p. IsPassOf (λ x. x.count) hall.now p × (in_hand p ≡ [])) v.items) }
+    requires { All (λ t. IsPassOf (λ x. x.count) hall.now t.pass × (in_hand t.pass ≡ [])
+        × (t.transfer.source < (rules_of hall.now).places)
+        × (t.transfer.target < (rules_of hall.now).places)
+        × (t.transfer.source ≢ t.transfer.target)) turns.items }
+    ensures { IfOk result
+        (λ v. All (λ p. IsPassOf (λ x. x.count) hall.now p × (in_hand p ≡ [])) v.items) }
 {
     Ok(thread::map_vec(
         rt,
         turns,
         &|turn: Turn| -> Pass<Counters>
-            requires { IsPassOf (λ x. x.count) hall.now turn.pass × (in_hand turn.pass ≡ []) × (turn.transfer.source < (rules_of hall.now).places) × (turn.transfer.target < (rules_of hall.now).places) × (turn.transfer.source ≢ turn.transfer.target) }
+            requires { IsPassOf (λ x. x.count) hall.now turn.pass × (in_hand turn.pass ≡ [])
+                × (turn.transfer.source < (rules_of hall.now).places)
+                × (turn.transfer.target < (rules_of hall.now).places)
+                × (turn.transfer.source ≢ turn.transfer.target) }
             ensures { IsPassOf (λ x. x.count) hall.entry.now result × (in_hand result ≡ []) }
         { work(rt, hall, turn) },
     )?)
@@ -144,7 +154,8 @@ pub fn run<R: Threads + Wait + Sync>(
     transfers: &[Transfer],
     commits: u32,
 ) -> Result<Closed<Counters>, NoMemory>
-    requires { All (λ t. (t.source < rules.places) × (t.target < rules.places) × (t.source ≢ t.target)) transfers.now }
+    requires { All (λ t. (t.source < rules.places) × (t.target < rules.places)
+        × (t.source ≢ t.target)) transfers.now }
 {
     let (hall, mut pass) = start(alloc, rules, 1 << 30, 1 << 30)?;
     let mut turns = Vec::with_capacity(alloc, transfers.len())?;
@@ -160,9 +171,9 @@ pub fn run<R: Threads + Wait + Sync>(
     finish(rt, alloc, hall, pass, passes)
 }
 
-/// So many threads of at most four, each with counters of its own or all with one in common. Between the
-/// counters of two threads one is left alone: the slots of a hall lie side by side, and two that share a
-/// line of the processor's cache make their threads wait for each other.
+/// So many threads of at most four, each with counters of its own or all with one in common.
+/// Between the counters of two threads one is left alone: the slots of a hall lie side by side, and
+/// two that share a line of the processor's cache make their threads wait for each other.
 pub fn time<R: Threads + Wait + Sync>(
     rt: &R,
     alloc: Global,

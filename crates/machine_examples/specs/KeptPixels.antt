@@ -1,5 +1,5 @@
--- What invalidating changes, and which pixels stay where another window is shown: a window with a child is filled and the
--- child is invalidated, then a second window covers the child.
+-- What invalidating changes, and which pixels stay where another window is shown: a window with a
+-- child is filled and the child is invalidated, then a second window covers the child.
 use Rattle.std.specs.Prelude.{◌≡◌, pos, true, false, List, [], ◌∷◌, Some, take}
 use Rattle.be_actor.specs.declared.Instruction.TheVariants as instruction
 use Rattle.be_color.specs.declared.colors.Color.TheVariants.{Solid}
@@ -25,13 +25,49 @@ row = record {
   width = 3;
   height = 1;
   pictures = [];
-  windows = record { name = (97 ∷ []); frame = (rect (pos 0) (pos 0) (pos 1) (pos 0)); first_click = false; avoid_focus = false; port = 100; color = (Solid (rgb 255 255 255)) } ∷ record { name = (98 ∷ []); frame = (rect (pos 1) (pos 0) (pos 2) (pos 0)); first_click = false; avoid_focus = false; port = 100; color = (Solid (rgb 0 0 255)) } ∷ [];
-  views = record { window = 0; name = (107 ∷ []); parent = 0; frame = (rect (pos 1) (pos 0) (pos 1) (pos 0)); mode = record { across = across.Left; down = down.Top }; color = (Solid (rgb 0 255 0)) } ∷ [];
+  windows =
+      record {
+        name = (97 ∷ []);
+        frame = (rect (pos 0) (pos 0) (pos 1) (pos 0));
+        first_click = false;
+        avoid_focus = false;
+        port = 100;
+        color = (Solid (rgb 255 255 255));
+      } ∷
+      record {
+        name = (98 ∷ []);
+        frame = (rect (pos 1) (pos 0) (pos 2) (pos 0));
+        first_click = false;
+        avoid_focus = false;
+        port = 100;
+        color = (Solid (rgb 0 0 255));
+      } ∷ [];
+  views =
+      record {
+        window = 0;
+        name = (107 ∷ []);
+        parent = 0;
+        frame = (rect (pos 1) (pos 0) (pos 1) (pos 0));
+        mode = record { across = across.Left; down = down.Top };
+        color = (Solid (rgb 0 255 0));
+      } ∷ [];
   handlers = [];
   filters = [];
   bodies = [];
   draws = [];
-  apps = record { name = (109 ∷ []); program = instruction.Lock 0 ∷ instruction.Draw (command.Change change.Show) ∷ instruction.Draw (command.Fill 0 (rect (pos 0) (pos 0) (pos 9) (pos 9)) (pattern (255 ∷ 255 ∷ 255 ∷ 255 ∷ 255 ∷ 255 ∷ 255 ∷ 255 ∷ []))) ∷ instruction.Draw (command.Fill 1 (rect (pos 0) (pos 0) (pos 9) (pos 9)) (pattern (255 ∷ 255 ∷ 255 ∷ 255 ∷ 255 ∷ 255 ∷ 255 ∷ 255 ∷ []))) ∷ instruction.Draw (command.Invalidate 1 (rect (pos 0) (pos 0) (pos 9) (pos 9))) ∷ instruction.Unlock ∷ instruction.Lock 1 ∷ instruction.Draw (command.Change change.Show) ∷ instruction.Unlock ∷ [] } ∷ [];
+  apps =
+      record {
+        name = (109 ∷ []);
+        program = instruction.Lock 0 ∷ instruction.Draw
+            (command.Change change.Show) ∷ instruction.Draw
+            (command.Fill 0 (rect (pos 0) (pos 0) (pos 9) (pos 9))
+            (pattern (255 ∷ 255 ∷ 255 ∷ 255 ∷ 255 ∷ 255 ∷ 255 ∷ 255 ∷ []))) ∷ instruction.Draw
+            (command.Fill 1 (rect (pos 0) (pos 0) (pos 9) (pos 9))
+            (pattern (255 ∷ 255 ∷ 255 ∷ 255 ∷ 255 ∷ 255 ∷ 255 ∷ 255 ∷ []))) ∷ instruction.Draw
+            (command.Invalidate 1 (rect (pos 0) (pos 0) (pos 9) (pos 9))) ∷ instruction.Unlock ∷
+            instruction.Lock 1 ∷ instruction.Draw (command.Change change.Show) ∷
+            instruction.Unlock ∷ [];
+      } ∷ [];
   input = [];
 }
 

@@ -1,4 +1,5 @@
--- Of two children that hold a pixel the one declared later has it. All entries, the screen, the traces and the work.
+-- Of two children that hold a pixel the one declared later has it. All entries, the screen, the
+-- traces and the work.
 use Rattle.std.specs.Prelude.{◌≡◌, pos, true, false, List, [], ◌∷◌, Some, None, map}
 use Rattle.be_actor.specs.declared.Instruction.TheVariants as instruction
 use Rattle.be_color.specs.declared.colors.Color.TheVariants.{Solid}
@@ -31,13 +32,42 @@ row = record {
   width = 1;
   height = 1;
   pictures = [];
-  windows = record { name = (97 ∷ []); frame = (rect (pos 0) (pos 0) (pos 0) (pos 0)); first_click = true; avoid_focus = false; port = 100; color = (Solid (rgb 255 255 255)) } ∷ [];
-  views = record { window = 0; name = (107 ∷ []); parent = 0; frame = (rect (pos 0) (pos 0) (pos 0) (pos 0)); mode = record { across = across.Left; down = down.Top }; color = (Solid (rgb 255 255 255)) } ∷ record { window = 0; name = (110 ∷ []); parent = 0; frame = (rect (pos 0) (pos 0) (pos 0) (pos 0)); mode = record { across = across.Left; down = down.Top }; color = (Solid (rgb 255 255 255)) } ∷ [];
+  windows =
+      record {
+        name = (97 ∷ []);
+        frame = (rect (pos 0) (pos 0) (pos 0) (pos 0));
+        first_click = true;
+        avoid_focus = false;
+        port = 100;
+        color = (Solid (rgb 255 255 255));
+      } ∷ [];
+  views =
+      record {
+        window = 0;
+        name = (107 ∷ []);
+        parent = 0;
+        frame = (rect (pos 0) (pos 0) (pos 0) (pos 0));
+        mode = record { across = across.Left; down = down.Top };
+        color = (Solid (rgb 255 255 255));
+      } ∷
+      record {
+        window = 0;
+        name = (110 ∷ []);
+        parent = 0;
+        frame = (rect (pos 0) (pos 0) (pos 0) (pos 0));
+        mode = record { across = across.Left; down = down.Top };
+        color = (Solid (rgb 255 255 255));
+      } ∷ [];
   handlers = [];
   filters = [];
   bodies = [];
   draws = [];
-  apps = record { name = (109 ∷ []); program = instruction.Lock 0 ∷ instruction.Draw (command.Change change.Show) ∷ instruction.Unlock ∷ [] } ∷ [];
+  apps =
+      record {
+        name = (109 ∷ []);
+        program = instruction.Lock 0 ∷ instruction.Draw
+            (command.Change change.Show) ∷ instruction.Unlock ∷ [];
+      } ∷ [];
   input = input.After 0 ∷ input.Press (at_pixel (pos 0) (pos 0)) ∷ [];
 }
 
@@ -67,4 +97,10 @@ pub record Holds : Type 0 where
   pub screen : map (λ c. c.rgb) (state_after row history).screen ≡ (rgb 255 255 255) ∷ []
   pub work : work_of row ≡ 28
   pub trace_0 : shown_traces row (runner.app 0) history ≡ []
-  pub trace_1 : shown_traces row (runner.looper 0) history ≡ shown.Took 1 (sender.Twin 0) 0 target.Window (route.Handler target.Window) (shown.message 1431323732 ([])) ∷ shown.Listed 2 (rect (pos 0) (pos 0) (pos 0) (pos 0)) ∷ shown.Took 2 sender.Input 0 (target.View 2) route.Unknown (shown.message 1296324430 ((shown.field (119 ∷ 104 ∷ 101 ∷ 114 ∷ 101 ∷ []) kind.Point ((point (at_pixel (pos 0) (pos 0))) ∷ [])) ∷ [])) ∷ []
+  pub trace_1 : shown_traces row (runner.looper 0) history
+      ≡ shown.Took 1 (sender.Twin 0) 0 target.Window (route.Handler target.Window)
+      (shown.message 1431323732 ([])) ∷ shown.Listed 2 (rect (pos 0) (pos 0) (pos 0) (pos 0)) ∷
+      shown.Took 2 sender.Input 0 (target.View 2) route.Unknown
+      (shown.message 1296324430
+      ((shown.field (119 ∷ 104 ∷ 101 ∷ 114 ∷ 101 ∷ []) kind.Point
+      ((point (at_pixel (pos 0) (pos 0))) ∷ [])) ∷ [])) ∷ []

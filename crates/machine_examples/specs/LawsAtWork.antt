@@ -1,6 +1,7 @@
--- What the laws of single pixels and of limits say, at a window with a child whose root is filled, and at the row of
--- replies.
-use Rattle.std.specs.Prelude.{◌≡◌, pos, true, false, List, [], ◌∷◌, Some, None, map, take, slice_get, option_map}
+-- What the laws of single pixels and of limits say, at a window with a child whose root is filled,
+-- and at the row of replies.
+use Rattle.std.specs.Prelude.{◌≡◌, pos, true, false, List, [], ◌∷◌, Some, None, map, take}
+use Rattle.std.specs.Prelude.{slice_get, option_map}
 use Rattle.be_actor.specs.declared.Instruction.TheVariants as instruction
 use Rattle.be_color.specs.declared.colors.Color.TheVariants.{Solid}
 use Rattle.be_command.specs.declared.Command.TheVariants as command
@@ -35,13 +36,37 @@ row = record {
   width = 2;
   height = 1;
   pictures = [];
-  windows = record { name = (97 ∷ []); frame = (rect (pos 0) (pos 0) (pos 1) (pos 0)); first_click = false; avoid_focus = false; port = 100; color = (Solid (rgb 255 255 255)) } ∷ [];
-  views = record { window = 0; name = (107 ∷ []); parent = 0; frame = (rect (pos 1) (pos 0) (pos 1) (pos 0)); mode = record { across = across.Left; down = down.Top }; color = (Solid (rgb 0 255 0)) } ∷ [];
+  windows =
+      record {
+        name = (97 ∷ []);
+        frame = (rect (pos 0) (pos 0) (pos 1) (pos 0));
+        first_click = false;
+        avoid_focus = false;
+        port = 100;
+        color = (Solid (rgb 255 255 255));
+      } ∷ [];
+  views =
+      record {
+        window = 0;
+        name = (107 ∷ []);
+        parent = 0;
+        frame = (rect (pos 1) (pos 0) (pos 1) (pos 0));
+        mode = record { across = across.Left; down = down.Top };
+        color = (Solid (rgb 0 255 0));
+      } ∷ [];
   handlers = [];
   filters = [];
   bodies = [];
   draws = [];
-  apps = record { name = (109 ∷ []); program = instruction.Lock 0 ∷ instruction.Draw (command.Change change.Show) ∷ instruction.Draw (command.Fill 0 (rect (pos 0) (pos 0) (pos 9) (pos 9)) (pattern (255 ∷ 255 ∷ 255 ∷ 255 ∷ 255 ∷ 255 ∷ 255 ∷ 255 ∷ []))) ∷ instruction.Unlock ∷ [] } ∷ [];
+  apps =
+      record {
+        name = (109 ∷ []);
+        program = instruction.Lock 0 ∷ instruction.Draw
+            (command.Change change.Show) ∷ instruction.Draw
+            (command.Fill 0 (rect (pos 0) (pos 0) (pos 9) (pos 9))
+            (pattern (255 ∷ 255 ∷ 255 ∷ 255 ∷ 255 ∷ 255 ∷ 255 ∷ 255 ∷ []))) ∷
+            instruction.Unlock ∷ [];
+      } ∷ [];
   input = [];
 }
 
@@ -83,7 +108,8 @@ pub record Holds : Type 0 where
   pub nobody : owner_in flushed (pos 1) (pos 0) ≡ None
   pub owner : owner_in shown (pos 1) (pos 0) ≡ Some 0
   pub view : view_here shown.desk 0 (pos 1) (pos 0) ≡ Some 1
-  pub color : color_of (view_colors shown) 0 (view_here shown.desk 0 (pos 1) (pos 0)) ≡ Some (Solid (rgb 0 255 0))
+  pub color : color_of (view_colors shown) 0 (view_here shown.desk 0 (pos 1) (pos 0))
+      ≡ Some (Solid (rgb 0 255 0))
   pub exposed : color_at shown (pos 1) (pos 0) ≡ Some (rgb 0 255 0)
   pub mark : mark_at shown (pos 1) (pos 0) ≡ Some true
   -- the fill of the root changes its own pixel, and not the child's
@@ -97,13 +123,17 @@ pub record Holds : Type 0 where
   pub alone : option_map (λ p. has_notice p) (slice_get shown.ports 0) ≡ Some false
   pub open_port : option_map (λ p. p.closed) (slice_get shown.ports 0) ≡ Some false
   -- both commands in the link are within their limits
-  pub linked : option_map (map (λ c. is_command_for row 0 c.command)) (slice_get flushed.links 0) ≡ Some (true ∷ true ∷ [])
+  pub linked : option_map (map (λ c. is_command_for row 0 c.command)) (slice_get flushed.links 0)
+      ≡ Some (true ∷ true ∷ [])
   -- before the begin a notice is on its way and no session is open, after it one is
   pub notified : option_map (λ pane. pane.notified) (slice_get filled.panes 0) ≡ Some true
   pub closed : option_map (λ pane. pane.session) (slice_get filled.panes 0) ≡ Some None
   -- an application that is about to send waits for nothing
   pub idle : cell_of (state_after replies.row []) (runner.app 0) ≡ Some reply.idle
-  pub idle_again : cell_of (state_after replies.row (take 4 replies.history)) (runner.app 0) ≡ Some reply.idle
-  pub waiting : cell_of (state_after replies.row (take 1 replies.history)) (runner.app 0) ≡ Some reply.waiting
+  pub idle_again : cell_of (state_after replies.row (take 4 replies.history)) (runner.app 0)
+      ≡ Some reply.idle
+  pub waiting : cell_of (state_after replies.row (take 1 replies.history)) (runner.app 0)
+      ≡ Some reply.waiting
   -- the message in hand lies no deeper than its hop allows
-  pub depth : option_map (λ hand. depth_of hand.letter.body) (hand_at (state_after replies.row (take 2 replies.history)) 0) ≡ Some 1
+  pub depth : option_map (λ hand. depth_of hand.letter.body)
+      (hand_at (state_after replies.row (take 2 replies.history)) 0) ≡ Some 1

@@ -1,4 +1,5 @@
--- A window is shown and filled: its update comes between the two commands. All entries, the screen, the traces and the work.
+-- A window is shown and filled: its update comes between the two commands. All entries, the screen,
+-- the traces and the work.
 use Rattle.std.specs.Prelude.{◌≡◌, pos, true, false, List, [], ◌∷◌, map}
 use Rattle.be_actor.specs.declared.Instruction.TheVariants as instruction
 use Rattle.be_color.specs.declared.colors.Color.TheVariants.{Solid}
@@ -24,13 +25,29 @@ row = record {
   width = 4;
   height = 3;
   pictures = [];
-  windows = record { name = (97 ∷ []); frame = (rect (pos 1) (pos 1) (pos 2) (pos 2)); first_click = false; avoid_focus = false; port = 100; color = (Solid (rgb 255 255 255)) } ∷ [];
+  windows =
+      record {
+        name = (97 ∷ []);
+        frame = (rect (pos 1) (pos 1) (pos 2) (pos 2));
+        first_click = false;
+        avoid_focus = false;
+        port = 100;
+        color = (Solid (rgb 255 255 255));
+      } ∷ [];
   views = [];
   handlers = [];
   filters = [];
   bodies = [];
   draws = [];
-  apps = record { name = (109 ∷ []); program = instruction.Lock 0 ∷ instruction.Draw (command.Change change.Show) ∷ instruction.Draw (command.Fill 0 (rect (pos 0) (pos 0) (pos 9) (pos 9)) (pattern (255 ∷ 255 ∷ 255 ∷ 255 ∷ 255 ∷ 255 ∷ 255 ∷ 255 ∷ []))) ∷ instruction.Unlock ∷ [] } ∷ [];
+  apps =
+      record {
+        name = (109 ∷ []);
+        program = instruction.Lock 0 ∷ instruction.Draw
+            (command.Change change.Show) ∷ instruction.Draw
+            (command.Fill 0 (rect (pos 0) (pos 0) (pos 9) (pos 9))
+            (pattern (255 ∷ 255 ∷ 255 ∷ 255 ∷ 255 ∷ 255 ∷ 255 ∷ 255 ∷ []))) ∷
+            instruction.Unlock ∷ [];
+      } ∷ [];
   input = [];
 }
 
@@ -55,7 +72,12 @@ history =
 -- what the machine makes of the script
 pub record Holds : Type 0 where
   pub entries : first_entries 16 row 0 ≡ history
-  pub screen : map (λ c. c.rgb) (state_after row history).screen ≡ (rgb 51 102 152) ∷ (rgb 51 102 152) ∷ (rgb 51 102 152) ∷ (rgb 51 102 152) ∷ (rgb 51 102 152) ∷ (rgb 0 0 0) ∷ (rgb 0 0 0) ∷ (rgb 51 102 152) ∷ (rgb 51 102 152) ∷ (rgb 0 0 0) ∷ (rgb 0 0 0) ∷ (rgb 51 102 152) ∷ []
+  pub screen : map (λ c. c.rgb) (state_after row history).screen
+      ≡ (rgb 51 102 152) ∷ (rgb 51 102 152) ∷ (rgb 51 102 152) ∷ (rgb 51 102 152) ∷
+      (rgb 51 102 152) ∷ (rgb 0 0 0) ∷ (rgb 0 0 0) ∷ (rgb 51 102 152) ∷ (rgb 51 102 152) ∷
+      (rgb 0 0 0) ∷ (rgb 0 0 0) ∷ (rgb 51 102 152) ∷ []
   pub work : work_of row ≡ 18
   pub trace_0 : shown_traces row (runner.app 0) history ≡ []
-  pub trace_1 : shown_traces row (runner.looper 0) history ≡ shown.Took 1 (sender.Twin 0) 0 target.Window (route.Handler target.Window) (shown.message 1431323732 ([])) ∷ shown.Listed 0 (rect (pos 0) (pos 0) (pos 1) (pos 1)) ∷ []
+  pub trace_1 : shown_traces row (runner.looper 0) history
+      ≡ shown.Took 1 (sender.Twin 0) 0 target.Window (route.Handler target.Window)
+      (shown.message 1431323732 ([])) ∷ shown.Listed 0 (rect (pos 0) (pos 0) (pos 1) (pos 1)) ∷ []

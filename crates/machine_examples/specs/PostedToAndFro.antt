@@ -1,4 +1,5 @@
--- Two windows post to one another until the eighth message is too deep. All entries, the screen, the traces and the work.
+-- Two windows post to one another until the eighth message is too deep. All entries, the screen,
+-- the traces and the work.
 use Rattle.std.specs.Prelude.{◌≡◌, pos, false, List, [], ◌∷◌, map}
 use Rattle.be_actor.specs.declared.Instruction.TheVariants as instruction
 use Rattle.be_color.specs.declared.colors.Color.TheVariants.{Solid}
@@ -22,13 +23,46 @@ row = record {
   width = 1;
   height = 1;
   pictures = [];
-  windows = record { name = (97 ∷ []); frame = (rect (pos 0) (pos 0) (pos 0) (pos 0)); first_click = false; avoid_focus = false; port = 100; color = (Solid (rgb 255 255 255)) } ∷ record { name = (98 ∷ []); frame = (rect (pos 0) (pos 0) (pos 0) (pos 0)); first_click = false; avoid_focus = false; port = 100; color = (Solid (rgb 255 255 255)) } ∷ [];
+  windows =
+      record {
+        name = (97 ∷ []);
+        frame = (rect (pos 0) (pos 0) (pos 0) (pos 0));
+        first_click = false;
+        avoid_focus = false;
+        port = 100;
+        color = (Solid (rgb 255 255 255));
+      } ∷
+      record {
+        name = (98 ∷ []);
+        frame = (rect (pos 0) (pos 0) (pos 0) (pos 0));
+        first_click = false;
+        avoid_focus = false;
+        port = 100;
+        color = (Solid (rgb 255 255 255));
+      } ∷ [];
   views = [];
   handlers = [];
   filters = [];
-  bodies = record { window = 0; target = target.Window; what = 1346981447; program = instruction.Post 1 target.Window (draft 1346981447 ([])) ∷ [] } ∷ record { window = 1; target = target.Window; what = 1346981447; program = instruction.Post 0 target.Window (draft 1346981447 ([])) ∷ [] } ∷ [];
+  bodies =
+      record {
+        window = 0;
+        target = target.Window;
+        what = 1346981447;
+        program = instruction.Post 1 target.Window (draft 1346981447 ([])) ∷ [];
+      } ∷
+      record {
+        window = 1;
+        target = target.Window;
+        what = 1346981447;
+        program = instruction.Post 0 target.Window (draft 1346981447 ([])) ∷ [];
+      } ∷ [];
   draws = [];
-  apps = record { name = (109 ∷ []); program = instruction.Post 0 target.Window (draft 1346981447 ([])) ∷ [] } ∷ [];
+  apps =
+      record {
+        name = (109 ∷ []);
+        program = instruction.Post 0 target.Window
+            (draft 1346981447 ([])) ∷ [];
+      } ∷ [];
   input = [];
 }
 
@@ -67,5 +101,17 @@ pub record Holds : Type 0 where
   pub screen : map (λ c. c.rgb) (state_after row history).screen ≡ (rgb 51 102 152) ∷ []
   pub work : work_of row ≡ 34
   pub trace_0 : shown_traces row (runner.app 0) history ≡ []
-  pub trace_1 : shown_traces row (runner.looper 0) history ≡ shown.Took 1 (sender.App 0) 0 target.Window (route.Handler target.Window) (shown.message 1346981447 ([])) ∷ shown.Took 2 (sender.Looper 1) 2 target.Window (route.Handler target.Window) (shown.message 1346981447 ([])) ∷ shown.Took 3 (sender.Looper 1) 4 target.Window (route.Handler target.Window) (shown.message 1346981447 ([])) ∷ shown.Took 4 (sender.Looper 1) 6 target.Window (route.Handler target.Window) (shown.message 1346981447 ([])) ∷ []
-  pub trace_2 : shown_traces row (runner.looper 1) history ≡ shown.Took 1 (sender.Looper 0) 1 target.Window (route.Handler target.Window) (shown.message 1346981447 ([])) ∷ shown.Took 2 (sender.Looper 0) 3 target.Window (route.Handler target.Window) (shown.message 1346981447 ([])) ∷ shown.Took 3 (sender.Looper 0) 5 target.Window (route.Handler target.Window) (shown.message 1346981447 ([])) ∷ shown.Took 4 (sender.Looper 0) 7 target.Window (route.Handler target.Window) (shown.message 1346981447 ([])) ∷ []
+  pub trace_1 : shown_traces row (runner.looper 0) history
+      ≡ shown.Took 1 (sender.App 0) 0 target.Window (route.Handler target.Window)
+      (shown.message 1346981447 ([])) ∷ shown.Took 2 (sender.Looper 1) 2 target.Window
+      (route.Handler target.Window) (shown.message 1346981447 ([])) ∷ shown.Took 3 (sender.Looper 1)
+      4 target.Window (route.Handler target.Window) (shown.message 1346981447 ([])) ∷ shown.Took 4
+      (sender.Looper 1) 6 target.Window (route.Handler target.Window)
+      (shown.message 1346981447 ([])) ∷ []
+  pub trace_2 : shown_traces row (runner.looper 1) history
+      ≡ shown.Took 1 (sender.Looper 0) 1 target.Window (route.Handler target.Window)
+      (shown.message 1346981447 ([])) ∷ shown.Took 2 (sender.Looper 0) 3 target.Window
+      (route.Handler target.Window) (shown.message 1346981447 ([])) ∷ shown.Took 3 (sender.Looper 0)
+      5 target.Window (route.Handler target.Window) (shown.message 1346981447 ([])) ∷ shown.Took 4
+      (sender.Looper 0) 7 target.Window (route.Handler target.Window)
+      (shown.message 1346981447 ([])) ∷ []

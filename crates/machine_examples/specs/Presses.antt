@@ -1,4 +1,5 @@
--- Presses on an inactive window, on the active one, and on one that accepts the first click. All entries, the screen, the traces and the work.
+-- Presses on an inactive window, on the active one, and on one that accepts the first click. All
+-- entries, the screen, the traces and the work.
 use Rattle.std.specs.Prelude.{◌≡◌, pos, true, false, List, [], ◌∷◌, Some, None, map}
 use Rattle.be_actor.specs.declared.Instruction.TheVariants as instruction
 use Rattle.be_color.specs.declared.colors.Color.TheVariants.{Solid}
@@ -29,14 +30,39 @@ row = record {
   width = 2;
   height = 1;
   pictures = [];
-  windows = record { name = (97 ∷ []); frame = (rect (pos 0) (pos 0) (pos 0) (pos 0)); first_click = false; avoid_focus = false; port = 100; color = (Solid (rgb 255 255 255)) } ∷ record { name = (98 ∷ []); frame = (rect (pos 1) (pos 0) (pos 1) (pos 0)); first_click = true; avoid_focus = false; port = 100; color = (Solid (rgb 255 255 255)) } ∷ [];
+  windows =
+      record {
+        name = (97 ∷ []);
+        frame = (rect (pos 0) (pos 0) (pos 0) (pos 0));
+        first_click = false;
+        avoid_focus = false;
+        port = 100;
+        color = (Solid (rgb 255 255 255));
+      } ∷
+      record {
+        name = (98 ∷ []);
+        frame = (rect (pos 1) (pos 0) (pos 1) (pos 0));
+        first_click = true;
+        avoid_focus = false;
+        port = 100;
+        color = (Solid (rgb 255 255 255));
+      } ∷ [];
   views = [];
   handlers = [];
   filters = [];
   bodies = [];
   draws = [];
-  apps = record { name = (109 ∷ []); program = instruction.Lock 0 ∷ instruction.Draw (command.Change change.Show) ∷ instruction.Unlock ∷ instruction.Lock 1 ∷ instruction.Draw (command.Change change.Show) ∷ instruction.Unlock ∷ [] } ∷ [];
-  input = input.Press (at_pixel (pos 0) (pos 0)) ∷ input.Press (at_pixel (pos 0) (pos 0)) ∷ input.Press (at_pixel (pos 1) (pos 0)) ∷ [];
+  apps =
+      record {
+        name = (109 ∷ []);
+        program = instruction.Lock 0 ∷ instruction.Draw
+            (command.Change change.Show) ∷ instruction.Unlock ∷ instruction.Lock 1 ∷
+            instruction.Draw
+            (command.Change change.Show) ∷ instruction.Unlock ∷ [];
+      } ∷ [];
+  input =
+      input.Press (at_pixel (pos 0) (pos 0)) ∷ input.Press (at_pixel (pos 0) (pos 0)) ∷ input.Press
+      (at_pixel (pos 1) (pos 0)) ∷ [];
 }
 
 abbrev pub history : List Entry
@@ -77,8 +103,21 @@ history =
 -- what the machine makes of the script
 pub record Holds : Type 0 where
   pub entries : first_entries 33 row 0 ≡ history
-  pub screen : map (λ c. c.rgb) (state_after row history).screen ≡ (rgb 255 255 255) ∷ (rgb 255 255 255) ∷ []
+  pub screen : map (λ c. c.rgb) (state_after row history).screen
+      ≡ (rgb 255 255 255) ∷ (rgb 255 255 255) ∷ []
   pub work : work_of row ≡ 105
   pub trace_0 : shown_traces row (runner.app 0) history ≡ []
-  pub trace_1 : shown_traces row (runner.looper 0) history ≡ shown.Took 1 (sender.Twin 0) 0 target.Window (route.Handler target.Window) (shown.message 1431323732 ([])) ∷ shown.Listed 0 (rect (pos 0) (pos 0) (pos 0) (pos 0)) ∷ shown.Took 2 sender.Input 0 (target.View 0) route.Unknown (shown.message 1296324430 ((shown.field (119 ∷ 104 ∷ 101 ∷ 114 ∷ 101 ∷ []) kind.Point ((point (at_pixel (pos 0) (pos 0))) ∷ [])) ∷ [])) ∷ []
-  pub trace_2 : shown_traces row (runner.looper 1) history ≡ shown.Took 1 (sender.Twin 1) 0 target.Window (route.Handler target.Window) (shown.message 1431323732 ([])) ∷ shown.Listed 0 (rect (pos 0) (pos 0) (pos 0) (pos 0)) ∷ shown.Took 2 sender.Input 0 (target.View 0) route.Unknown (shown.message 1296324430 ((shown.field (119 ∷ 104 ∷ 101 ∷ 114 ∷ 101 ∷ []) kind.Point ((point (at_pixel (pos 0) (pos 0))) ∷ [])) ∷ [])) ∷ []
+  pub trace_1 : shown_traces row (runner.looper 0) history
+      ≡ shown.Took 1 (sender.Twin 0) 0 target.Window (route.Handler target.Window)
+      (shown.message 1431323732 ([])) ∷ shown.Listed 0 (rect (pos 0) (pos 0) (pos 0) (pos 0)) ∷
+      shown.Took 2 sender.Input 0 (target.View 0) route.Unknown
+      (shown.message 1296324430
+      ((shown.field (119 ∷ 104 ∷ 101 ∷ 114 ∷ 101 ∷ []) kind.Point
+      ((point (at_pixel (pos 0) (pos 0))) ∷ [])) ∷ [])) ∷ []
+  pub trace_2 : shown_traces row (runner.looper 1) history
+      ≡ shown.Took 1 (sender.Twin 1) 0 target.Window (route.Handler target.Window)
+      (shown.message 1431323732 ([])) ∷ shown.Listed 0 (rect (pos 0) (pos 0) (pos 0) (pos 0)) ∷
+      shown.Took 2 sender.Input 0 (target.View 0) route.Unknown
+      (shown.message 1296324430
+      ((shown.field (119 ∷ 104 ∷ 101 ∷ 114 ∷ 101 ∷ []) kind.Point
+      ((point (at_pixel (pos 0) (pos 0))) ∷ [])) ∷ [])) ∷ []

@@ -1,4 +1,5 @@
--- A resize that would bring a view out of the range is refused, and changes nothing. All entries, the screen, the traces and the work.
+-- A resize that would bring a view out of the range is refused, and changes nothing. All entries,
+-- the screen, the traces and the work.
 use Rattle.std.specs.Prelude.{◌≡◌, pos, true, false, List, [], ◌∷◌, map}
 use Rattle.be_actor.specs.declared.Instruction.TheVariants as instruction
 use Rattle.be_color.specs.declared.colors.Color.TheVariants.{Solid}
@@ -26,13 +27,35 @@ row = record {
   width = 2;
   height = 1;
   pictures = [];
-  windows = record { name = (97 ∷ []); frame = (rect (pos 0) (pos 0) (pos 0) (pos 0)); first_click = false; avoid_focus = false; port = 100; color = (Solid (rgb 255 255 255)) } ∷ [];
-  views = record { window = 0; name = (107 ∷ []); parent = 0; frame = (rect (pos 32000) (pos 0) (pos 32767) (pos 0)); mode = record { across = across.Right; down = down.Top }; color = (Solid (rgb 255 255 255)) } ∷ [];
+  windows =
+      record {
+        name = (97 ∷ []);
+        frame = (rect (pos 0) (pos 0) (pos 0) (pos 0));
+        first_click = false;
+        avoid_focus = false;
+        port = 100;
+        color = (Solid (rgb 255 255 255));
+      } ∷ [];
+  views =
+      record {
+        window = 0;
+        name = (107 ∷ []);
+        parent = 0;
+        frame = (rect (pos 32000) (pos 0) (pos 32767) (pos 0));
+        mode = record { across = across.Right; down = down.Top };
+        color = (Solid (rgb 255 255 255));
+      } ∷ [];
   handlers = [];
   filters = [];
   bodies = [];
   draws = [];
-  apps = record { name = (109 ∷ []); program = instruction.Lock 0 ∷ instruction.Draw (command.Change change.Show) ∷ instruction.Sync ∷ instruction.Draw (command.Change (change.ResizeTo (pos 32767) (pos 0))) ∷ instruction.Unlock ∷ [] } ∷ [];
+  apps =
+      record {
+        name = (109 ∷ []);
+        program = instruction.Lock 0 ∷ instruction.Draw
+            (command.Change change.Show) ∷ instruction.Sync ∷ instruction.Draw
+            (command.Change (change.ResizeTo (pos 32767) (pos 0))) ∷ instruction.Unlock ∷ [];
+      } ∷ [];
   input = [];
 }
 
@@ -59,7 +82,10 @@ history =
 -- what the machine makes of the script
 pub record Holds : Type 0 where
   pub entries : first_entries 18 row 0 ≡ history
-  pub screen : map (λ c. c.rgb) (state_after row history).screen ≡ (rgb 255 255 255) ∷ (rgb 51 102 152) ∷ []
+  pub screen : map (λ c. c.rgb) (state_after row history).screen
+      ≡ (rgb 255 255 255) ∷ (rgb 51 102 152) ∷ []
   pub work : work_of row ≡ 28
   pub trace_0 : shown_traces row (runner.app 0) history ≡ []
-  pub trace_1 : shown_traces row (runner.looper 0) history ≡ shown.Took 1 (sender.Twin 0) 0 target.Window (route.Handler target.Window) (shown.message 1431323732 ([])) ∷ shown.Listed 0 (rect (pos 0) (pos 0) (pos 0) (pos 0)) ∷ []
+  pub trace_1 : shown_traces row (runner.looper 0) history
+      ≡ shown.Took 1 (sender.Twin 0) 0 target.Window (route.Handler target.Window)
+      (shown.message 1431323732 ([])) ∷ shown.Listed 0 (rect (pos 0) (pos 0) (pos 0) (pos 0)) ∷ []

@@ -1,4 +1,5 @@
--- A message that nobody understands, one that gets no reply, and one that gets its reply and a second one. All entries, the screen, the traces and the work.
+-- A message that nobody understands, one that gets no reply, and one that gets its reply and a
+-- second one. All entries, the screen, the traces and the work.
 use Rattle.std.specs.Prelude.{◌≡◌, pos, false, List, [], ◌∷◌, map}
 use Rattle.be_actor.specs.declared.Instruction.TheVariants as instruction
 use Rattle.be_actor.specs.Drafts.{value}
@@ -27,13 +28,35 @@ row = record {
   width = 1;
   height = 1;
   pictures = [];
-  windows = record { name = (97 ∷ []); frame = (rect (pos 0) (pos 0) (pos 0) (pos 0)); first_click = false; avoid_focus = false; port = 100; color = (Solid (rgb 255 255 255)) } ∷ [];
+  windows =
+      record {
+        name = (97 ∷ []);
+        frame = (rect (pos 0) (pos 0) (pos 0) (pos 0));
+        first_click = false;
+        avoid_focus = false;
+        port = 100;
+        color = (Solid (rgb 255 255 255));
+      } ∷ [];
   views = [];
   handlers = [];
   filters = [];
-  bodies = record { window = 0; target = target.Window; what = 1095977777; program = [] } ∷ record { window = 0; target = target.Window; what = 1095977778; program = instruction.Reply (draft 1497715551 (value (110 ∷ []) (int (pos 1)) ∷ [])) ∷ instruction.Reply (draft 1313824607 ([])) ∷ [] } ∷ [];
+  bodies =
+      record { window = 0; target = target.Window; what = 1095977777; program = [] } ∷
+      record {
+        window = 0;
+        target = target.Window;
+        what = 1095977778;
+        program = instruction.Reply (draft 1497715551 (value (110 ∷ []) (int (pos 1)) ∷ [])) ∷
+            instruction.Reply (draft 1313824607 ([])) ∷ [];
+      } ∷ [];
   draws = [];
-  apps = record { name = (109 ∷ []); program = instruction.Send 0 target.Window (draft 1464356703 ([])) ∷ instruction.Send 0 target.Window (draft 1095977777 ([])) ∷ instruction.Send 0 target.Window (draft 1095977778 ([])) ∷ [] } ∷ [];
+  apps =
+      record {
+        name = (109 ∷ []);
+        program = instruction.Send 0 target.Window
+            (draft 1464356703 ([])) ∷ instruction.Send 0 target.Window (draft 1095977777 ([])) ∷
+            instruction.Send 0 target.Window (draft 1095977778 ([])) ∷ [];
+      } ∷ [];
   input = [];
 }
 
@@ -60,5 +83,13 @@ pub record Holds : Type 0 where
   pub entries : first_entries 16 row 0 ≡ history
   pub screen : map (λ c. c.rgb) (state_after row history).screen ≡ (rgb 51 102 152) ∷ []
   pub work : work_of row ≡ 18
-  pub trace_0 : shown_traces row (runner.app 0) history ≡ shown.Got (shown.message 1313821781 ([])) ∷ shown.Got (shown.message 1313821253 ([])) ∷ shown.Got (shown.message 1497715551 ((shown.field (110 ∷ []) kind.Int ((int (pos 1)) ∷ [])) ∷ [])) ∷ []
-  pub trace_1 : shown_traces row (runner.looper 0) history ≡ shown.Took 1 (sender.App 0) 0 target.Window route.Unknown (shown.message 1464356703 ([])) ∷ shown.Took 2 (sender.App 0) 0 target.Window (route.Handler target.Window) (shown.message 1095977777 ([])) ∷ shown.Took 3 (sender.App 0) 0 target.Window (route.Handler target.Window) (shown.message 1095977778 ([])) ∷ shown.Replied (shown.message 1497715551 ((shown.field (110 ∷ []) kind.Int ((int (pos 1)) ∷ [])) ∷ [])) ∷ []
+  pub trace_0 : shown_traces row (runner.app 0) history
+      ≡ shown.Got (shown.message 1313821781 ([])) ∷ shown.Got (shown.message 1313821253 ([])) ∷
+      shown.Got (shown.message 1497715551
+      ((shown.field (110 ∷ []) kind.Int ((int (pos 1)) ∷ [])) ∷ [])) ∷ []
+  pub trace_1 : shown_traces row (runner.looper 0) history
+      ≡ shown.Took 1 (sender.App 0) 0 target.Window route.Unknown (shown.message 1464356703 ([])) ∷
+      shown.Took 2 (sender.App 0) 0 target.Window (route.Handler target.Window)
+      (shown.message 1095977777 ([])) ∷ shown.Took 3 (sender.App 0) 0 target.Window
+      (route.Handler target.Window) (shown.message 1095977778 ([])) ∷ shown.Replied
+      (shown.message 1497715551 ((shown.field (110 ∷ []) kind.Int ((int (pos 1)) ∷ [])) ∷ [])) ∷ []

@@ -1,4 +1,5 @@
--- A pop with nothing saved, and one push too many. All entries, the screen, the traces and the work.
+-- A pop with nothing saved, and one push too many. All entries, the screen, the traces and the
+-- work.
 use Rattle.std.specs.Prelude.{◌≡◌, pos, false, List, [], ◌∷◌, map}
 use Rattle.be_actor.specs.declared.Instruction.TheVariants as instruction
 use Rattle.be_color.specs.declared.colors.Color.TheVariants.{Solid}
@@ -18,13 +19,36 @@ row = record {
   width = 1;
   height = 1;
   pictures = [];
-  windows = record { name = (97 ∷ []); frame = (rect (pos 0) (pos 0) (pos 0) (pos 0)); first_click = false; avoid_focus = false; port = 100; color = (Solid (rgb 255 255 255)) } ∷ [];
+  windows =
+      record {
+        name = (97 ∷ []);
+        frame = (rect (pos 0) (pos 0) (pos 0) (pos 0));
+        first_click = false;
+        avoid_focus = false;
+        port = 100;
+        color = (Solid (rgb 255 255 255));
+      } ∷ [];
   views = [];
   handlers = [];
   filters = [];
   bodies = [];
   draws = [];
-  apps = record { name = (109 ∷ []); program = instruction.Lock 0 ∷ instruction.Draw (command.Pop 0) ∷ instruction.Draw (command.Push 0) ∷ instruction.Draw (command.Push 0) ∷ instruction.Draw (command.Push 0) ∷ instruction.Draw (command.Push 0) ∷ instruction.Draw (command.Push 0) ∷ instruction.Draw (command.Push 0) ∷ instruction.Draw (command.Push 0) ∷ instruction.Draw (command.Push 0) ∷ instruction.Draw (command.Push 0) ∷ instruction.Draw (command.Push 0) ∷ instruction.Draw (command.Push 0) ∷ instruction.Draw (command.Push 0) ∷ instruction.Draw (command.Push 0) ∷ instruction.Draw (command.Push 0) ∷ instruction.Draw (command.Push 0) ∷ instruction.Draw (command.Push 0) ∷ instruction.Draw (command.Push 0) ∷ instruction.Unlock ∷ [] } ∷ [];
+  apps =
+      record {
+        name = (109 ∷ []);
+        program = instruction.Lock 0 ∷ instruction.Draw (command.Pop 0) ∷
+            instruction.Draw (command.Push 0) ∷ instruction.Draw (command.Push 0) ∷ instruction.Draw
+            (command.Push 0) ∷ instruction.Draw (command.Push 0) ∷ instruction.Draw
+            (command.Push 0) ∷
+            instruction.Draw (command.Push 0) ∷ instruction.Draw (command.Push 0) ∷ instruction.Draw
+            (command.Push 0) ∷ instruction.Draw (command.Push 0) ∷ instruction.Draw
+            (command.Push 0) ∷
+            instruction.Draw (command.Push 0) ∷ instruction.Draw (command.Push 0) ∷ instruction.Draw
+            (command.Push 0) ∷ instruction.Draw (command.Push 0) ∷ instruction.Draw
+            (command.Push 0) ∷
+            instruction.Draw (command.Push 0) ∷ instruction.Draw (command.Push 0) ∷
+            instruction.Unlock ∷ [];
+      } ∷ [];
   input = [];
 }
 

@@ -1,4 +1,5 @@
--- A window that is uncovered in part draws only that part in its second update. All entries, the screen, the traces and the work.
+-- A window that is uncovered in part draws only that part in its second update. All entries, the
+-- screen, the traces and the work.
 use Rattle.std.specs.Prelude.{◌≡◌, pos, true, false, List, [], ◌∷◌, Some, None, map}
 use Rattle.be_actor.specs.declared.Instruction.TheVariants as instruction
 use Rattle.be_color.specs.declared.colors.Color.TheVariants.{Solid}
@@ -30,13 +31,49 @@ row = record {
   width = 3;
   height = 1;
   pictures = [];
-  windows = record { name = (97 ∷ []); frame = (rect (pos 0) (pos 0) (pos 2) (pos 0)); first_click = false; avoid_focus = false; port = 100; color = (Solid (rgb 255 255 255)) } ∷ record { name = (98 ∷ []); frame = (rect (pos 0) (pos 0) (pos 0) (pos 0)); first_click = true; avoid_focus = false; port = 100; color = (Solid (rgb 255 255 255)) } ∷ [];
+  windows =
+      record {
+        name = (97 ∷ []);
+        frame = (rect (pos 0) (pos 0) (pos 2) (pos 0));
+        first_click = false;
+        avoid_focus = false;
+        port = 100;
+        color = (Solid (rgb 255 255 255));
+      } ∷
+      record {
+        name = (98 ∷ []);
+        frame = (rect (pos 0) (pos 0) (pos 0) (pos 0));
+        first_click = true;
+        avoid_focus = false;
+        port = 100;
+        color = (Solid (rgb 255 255 255));
+      } ∷ [];
   views = [];
   handlers = [];
   filters = [];
-  bodies = record { window = 1; target = (target.View 0); what = 1296324430; program = instruction.Draw (command.Change change.Hide) ∷ [] } ∷ [];
-  draws = record { window = 0; view = 0; program = instruction.Draw (command.Mode 0 mode.Invert) ∷ instruction.Draw (command.Fill 0 (rect (pos 0) (pos 0) (pos 2) (pos 0)) (pattern (255 ∷ 255 ∷ 255 ∷ 255 ∷ 255 ∷ 255 ∷ 255 ∷ 255 ∷ []))) ∷ [] } ∷ [];
-  apps = record { name = (109 ∷ []); program = instruction.Lock 1 ∷ instruction.Draw (command.Change change.Show) ∷ instruction.Unlock ∷ instruction.Lock 0 ∷ instruction.Draw (command.Change change.Show) ∷ instruction.Unlock ∷ [] } ∷ [];
+  bodies =
+      record {
+        window = 1;
+        target = (target.View 0);
+        what = 1296324430;
+        program = instruction.Draw (command.Change change.Hide) ∷ [];
+      } ∷ [];
+  draws =
+      record {
+        window = 0;
+        view = 0;
+        program = instruction.Draw (command.Mode 0 mode.Invert) ∷ instruction.Draw
+            (command.Fill 0 (rect (pos 0) (pos 0) (pos 2) (pos 0))
+            (pattern (255 ∷ 255 ∷ 255 ∷ 255 ∷ 255 ∷ 255 ∷ 255 ∷ 255 ∷ []))) ∷ [];
+      } ∷ [];
+  apps =
+      record {
+        name = (109 ∷ []);
+        program = instruction.Lock 1 ∷ instruction.Draw
+            (command.Change change.Show) ∷ instruction.Unlock ∷ instruction.Lock 0 ∷
+            instruction.Draw
+            (command.Change change.Show) ∷ instruction.Unlock ∷ [];
+      } ∷ [];
   input = input.Press (at_pixel (pos 0) (pos 0)) ∷ [];
 }
 
@@ -92,8 +129,19 @@ history =
 -- what the machine makes of the script
 pub record Holds : Type 0 where
   pub entries : first_entries 47 row 0 ≡ history
-  pub screen : map (λ c. c.rgb) (state_after row history).screen ≡ (rgb 0 0 0) ∷ (rgb 0 0 0) ∷ (rgb 0 0 0) ∷ []
+  pub screen : map (λ c. c.rgb) (state_after row history).screen
+      ≡ (rgb 0 0 0) ∷ (rgb 0 0 0) ∷ (rgb 0 0 0) ∷ []
   pub work : work_of row ≡ 108
   pub trace_0 : shown_traces row (runner.app 0) history ≡ []
-  pub trace_1 : shown_traces row (runner.looper 0) history ≡ shown.Took 1 (sender.Twin 0) 0 target.Window (route.Handler target.Window) (shown.message 1431323732 ([])) ∷ shown.Listed 0 (rect (pos 0) (pos 0) (pos 2) (pos 0)) ∷ shown.Took 2 (sender.Twin 0) 0 target.Window (route.Handler target.Window) (shown.message 1431323732 ([])) ∷ shown.Listed 0 (rect (pos 0) (pos 0) (pos 0) (pos 0)) ∷ []
-  pub trace_2 : shown_traces row (runner.looper 1) history ≡ shown.Took 1 (sender.Twin 1) 0 target.Window (route.Handler target.Window) (shown.message 1431323732 ([])) ∷ shown.Listed 0 (rect (pos 0) (pos 0) (pos 0) (pos 0)) ∷ shown.Took 2 sender.Input 0 (target.View 0) (route.Handler (target.View 0)) (shown.message 1296324430 ((shown.field (119 ∷ 104 ∷ 101 ∷ 114 ∷ 101 ∷ []) kind.Point ((point (at_pixel (pos 0) (pos 0))) ∷ [])) ∷ [])) ∷ []
+  pub trace_1 : shown_traces row (runner.looper 0) history
+      ≡ shown.Took 1 (sender.Twin 0) 0 target.Window (route.Handler target.Window)
+      (shown.message 1431323732 ([])) ∷ shown.Listed 0 (rect (pos 0) (pos 0) (pos 2) (pos 0)) ∷
+      shown.Took 2 (sender.Twin 0) 0 target.Window (route.Handler target.Window)
+      (shown.message 1431323732 ([])) ∷ shown.Listed 0 (rect (pos 0) (pos 0) (pos 0) (pos 0)) ∷ []
+  pub trace_2 : shown_traces row (runner.looper 1) history
+      ≡ shown.Took 1 (sender.Twin 1) 0 target.Window (route.Handler target.Window)
+      (shown.message 1431323732 ([])) ∷ shown.Listed 0 (rect (pos 0) (pos 0) (pos 0) (pos 0)) ∷
+      shown.Took 2 sender.Input 0 (target.View 0) (route.Handler (target.View 0))
+      (shown.message 1296324430
+      ((shown.field (119 ∷ 104 ∷ 101 ∷ 114 ∷ 101 ∷ []) kind.Point
+      ((point (at_pixel (pos 0) (pos 0))) ∷ [])) ∷ [])) ∷ []

@@ -24,13 +24,38 @@ row = record {
   width = 1;
   height = 1;
   pictures = [];
-  windows = record { name = (97 ∷ []); frame = (rect (pos 0) (pos 0) (pos 0) (pos 0)); first_click = false; avoid_focus = false; port = 100; color = (Solid (rgb 255 0 0)) } ∷ record { name = (98 ∷ []); frame = (rect (pos 0) (pos 0) (pos 0) (pos 0)); first_click = false; avoid_focus = false; port = 100; color = (Solid (rgb 0 0 255)) } ∷ [];
+  windows =
+      record {
+        name = (97 ∷ []);
+        frame = (rect (pos 0) (pos 0) (pos 0) (pos 0));
+        first_click = false;
+        avoid_focus = false;
+        port = 100;
+        color = (Solid (rgb 255 0 0));
+      } ∷
+      record {
+        name = (98 ∷ []);
+        frame = (rect (pos 0) (pos 0) (pos 0) (pos 0));
+        first_click = false;
+        avoid_focus = false;
+        port = 100;
+        color = (Solid (rgb 0 0 255));
+      } ∷ [];
   views = [];
   handlers = [];
   filters = [];
   bodies = [];
   draws = [];
-  apps = record { name = (109 ∷ []); program = instruction.Lock 0 ∷ instruction.Draw (command.Change change.Show) ∷ instruction.Unlock ∷ instruction.Lock 1 ∷ instruction.Draw (command.Change change.Show) ∷ instruction.Unlock ∷ instruction.Lock 1 ∷ instruction.Draw (command.Change (change.Behind 0)) ∷ instruction.Unlock ∷ [] } ∷ [];
+  apps =
+      record {
+        name = (109 ∷ []);
+        program = instruction.Lock 0 ∷ instruction.Draw
+            (command.Change change.Show) ∷ instruction.Unlock ∷ instruction.Lock 1 ∷
+            instruction.Draw
+            (command.Change change.Show) ∷ instruction.Unlock ∷ instruction.Lock 1 ∷
+            instruction.Draw
+            (command.Change (change.Behind 0)) ∷ instruction.Unlock ∷ [];
+      } ∷ [];
   input = [];
 }
 
@@ -77,5 +102,11 @@ pub record Holds : Type 0 where
   pub screen : map (λ c. c.rgb) (state_after row history).screen ≡ (rgb 255 0 0) ∷ []
   pub work : work_of row ≡ 67
   pub trace_0 : shown_traces row (runner.app 0) history ≡ []
-  pub trace_1 : shown_traces row (runner.looper 0) history ≡ shown.Took 1 (sender.Twin 0) 0 target.Window (route.Handler target.Window) (shown.message 1431323732 ([])) ∷ shown.Listed 0 (rect (pos 0) (pos 0) (pos 0) (pos 0)) ∷ shown.Took 2 (sender.Twin 0) 0 target.Window (route.Handler target.Window) (shown.message 1431323732 ([])) ∷ shown.Listed 0 (rect (pos 0) (pos 0) (pos 0) (pos 0)) ∷ []
-  pub trace_2 : shown_traces row (runner.looper 1) history ≡ shown.Took 1 (sender.Twin 1) 0 target.Window (route.Handler target.Window) (shown.message 1431323732 ([])) ∷ []
+  pub trace_1 : shown_traces row (runner.looper 0) history
+      ≡ shown.Took 1 (sender.Twin 0) 0 target.Window (route.Handler target.Window)
+      (shown.message 1431323732 ([])) ∷ shown.Listed 0 (rect (pos 0) (pos 0) (pos 0) (pos 0)) ∷
+      shown.Took 2 (sender.Twin 0) 0 target.Window (route.Handler target.Window)
+      (shown.message 1431323732 ([])) ∷ shown.Listed 0 (rect (pos 0) (pos 0) (pos 0) (pos 0)) ∷ []
+  pub trace_2 : shown_traces row (runner.looper 1) history
+      ≡ shown.Took 1 (sender.Twin 1) 0 target.Window (route.Handler target.Window)
+      (shown.message 1431323732 ([])) ∷ []

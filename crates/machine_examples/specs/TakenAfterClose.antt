@@ -1,4 +1,5 @@
--- Letters that had arrived at a closed window are taken, and no later one arrives. All entries, the screen, the traces and the work.
+-- Letters that had arrived at a closed window are taken, and no later one arrives. All entries, the
+-- screen, the traces and the work.
 use Rattle.std.specs.Prelude.{◌≡◌, pos, false, List, [], ◌∷◌, map}
 use Rattle.be_actor.specs.declared.Instruction.TheVariants as instruction
 use Rattle.be_color.specs.declared.colors.Color.TheVariants.{Solid}
@@ -25,13 +26,34 @@ row = record {
   width = 1;
   height = 1;
   pictures = [];
-  windows = record { name = (97 ∷ []); frame = (rect (pos 0) (pos 0) (pos 0) (pos 0)); first_click = false; avoid_focus = false; port = 100; color = (Solid (rgb 255 255 255)) } ∷ [];
+  windows =
+      record {
+        name = (97 ∷ []);
+        frame = (rect (pos 0) (pos 0) (pos 0) (pos 0));
+        first_click = false;
+        avoid_focus = false;
+        port = 100;
+        color = (Solid (rgb 255 255 255));
+      } ∷ [];
   views = [];
   handlers = [];
   filters = [];
-  bodies = record { window = 0; target = target.Window; what = 1346981447; program = instruction.Note (115 ∷ 101 ∷ 101 ∷ 110 ∷ []) ∷ [] } ∷ [];
+  bodies =
+      record {
+        window = 0;
+        target = target.Window;
+        what = 1346981447;
+        program = instruction.Note (115 ∷ 101 ∷ 101 ∷ 110 ∷ []) ∷ [];
+      } ∷ [];
   draws = [];
-  apps = record { name = (109 ∷ []); program = instruction.Lock 0 ∷ instruction.Post 0 target.Window (draft 1346981447 ([])) ∷ instruction.Draw (command.Change change.Close) ∷ instruction.Sync ∷ instruction.Unlock ∷ [] } ∷ [];
+  apps =
+      record {
+        name = (109 ∷ []);
+        program = instruction.Lock 0 ∷ instruction.Post 0 target.Window
+            (draft 1346981447 ([])) ∷ instruction.Draw (command.Change change.Close) ∷
+            instruction.Sync ∷
+            instruction.Unlock ∷ [];
+      } ∷ [];
   input = [];
 }
 
@@ -55,4 +77,6 @@ pub record Holds : Type 0 where
   pub screen : map (λ c. c.rgb) (state_after row history).screen ≡ (rgb 51 102 152) ∷ []
   pub work : work_of row ≡ 22
   pub trace_0 : shown_traces row (runner.app 0) history ≡ []
-  pub trace_1 : shown_traces row (runner.looper 0) history ≡ shown.Took 1 (sender.App 0) 0 target.Window (route.Handler target.Window) (shown.message 1346981447 ([])) ∷ shown.Noted (115 ∷ 101 ∷ 101 ∷ 110 ∷ []) ∷ []
+  pub trace_1 : shown_traces row (runner.looper 0) history
+      ≡ shown.Took 1 (sender.App 0) 0 target.Window (route.Handler target.Window)
+      (shown.message 1346981447 ([])) ∷ shown.Noted (115 ∷ 101 ∷ 101 ∷ 110 ∷ []) ∷ []

@@ -30,14 +30,25 @@ tree =
 
 -- what the definitions say of these views, of two lines and of a letter
 pub record Holds : Type 0 where
-  -- of two children that hold a pixel the later one has it, and a child's child never draws past its parent
-  pub views_at : (view_at tree (pos 5) (pos 5) ≡ Some 2) × (view_at tree (pos 3) (pos 3) ≡ Some 3) × (view_at tree (pos 6) (pos 3) ≡ Some 0) × (view_at tree (pos 1) (pos 1) ≡ Some 1) × (view_at tree (pos 10) (pos 1) ≡ None)
-  pub places : (place_of tree 3 ≡ Some (at_pixel (pos 2) (pos 2))) × (place_of tree 4 ≡ None) × (preorder tree ≡ 0 ∷ 1 ∷ 3 ∷ 2 ∷ [])
+  -- of two children that hold a pixel the later one has it, and a child's child never draws past
+  -- its parent
+  pub views_at : (view_at tree (pos 5) (pos 5) ≡ Some 2) × (view_at tree (pos 3) (pos 3) ≡ Some 3)
+      × (view_at tree (pos 6) (pos 3) ≡ Some 0) × (view_at tree (pos 1) (pos 1) ≡ Some 1)
+      × (view_at tree (pos 10) (pos 1) ≡ None)
+  pub places : (place_of tree 3 ≡ Some (at_pixel (pos 2) (pos 2))) × (place_of tree 4 ≡ None)
+      × (preorder tree ≡ 0 ∷ 1 ∷ 3 ∷ 2 ∷ [])
   -- a view that follows both sides grows with its parent, and so does one in it
-  pub grown : frames_after tree (pos 12) (pos 9) ≡ rect 0 0 12 9 ∷ rect 1 1 8 5 ∷ rect 4 4 8 8 ∷ rect 1 1 12 9 ∷ []
+  pub grown : frames_after tree (pos 12) (pos 9)
+      ≡ rect 0 0 12 9 ∷ rect 1 1 8 5 ∷ rect 4 4 8 8 ∷ rect 1 1 12 9 ∷ []
   -- the line from (0, 0) to (2, 1) is (0, 0), (1, 1), (2, 1)
-  pub line : map (λ p. line_has (at_pixel (pos 0) (pos 0)) (at_pixel (pos 2) (pos 1)) 1 p.x p.y) (at_pixel (pos 0) (pos 0) ∷ at_pixel (pos 1) (pos 0) ∷ at_pixel (pos 1) (pos 1) ∷ at_pixel (pos 2) (pos 0) ∷ at_pixel (pos 2) (pos 1) ∷ at_pixel (pos 3) (pos 1) ∷ []) ≡ true ∷ false ∷ true ∷ false ∷ true ∷ false ∷ []
+  pub line : map (λ p. line_has (at_pixel (pos 0) (pos 0)) (at_pixel (pos 2) (pos 1)) 1 p.x p.y)
+      (at_pixel (pos 0) (pos 0) ∷ at_pixel (pos 1) (pos 0) ∷ at_pixel (pos 1) (pos 1) ∷ at_pixel
+      (pos 2) (pos 0) ∷ at_pixel (pos 2) (pos 1) ∷ at_pixel (pos 3) (pos 1) ∷ [])
+      ≡ true ∷ false ∷ true ∷ false ∷ true ∷ false ∷ []
   -- with a pen of 2 a point covers itself and what is right of it and below
-  pub point : map (λ p. line_has (at_pixel (pos 3) (pos 3)) (at_pixel (pos 3) (pos 3)) 2 p.x p.y) (at_pixel (pos 2) (pos 3) ∷ at_pixel (pos 3) (pos 3) ∷ at_pixel (pos 4) (pos 4) ∷ at_pixel (pos 5) (pos 4) ∷ []) ≡ false ∷ true ∷ true ∷ false ∷ []
+  pub point : map (λ p. line_has (at_pixel (pos 3) (pos 3)) (at_pixel (pos 3) (pos 3)) 2 p.x p.y)
+      (at_pixel (pos 2) (pos 3) ∷ at_pixel (pos 3) (pos 3) ∷ at_pixel (pos 4) (pos 4) ∷ at_pixel
+      (pos 5) (pos 4) ∷ []) ≡ false ∷ true ∷ true ∷ false ∷ []
   -- the letter A, 7e1111117e: its lowest left pixel is set, its highest left one isn't
-  pub letter_a : (glyph_bit 65 0 6 ≡ true) × (glyph_bit 65 0 0 ≡ false) × (glyph_bit 65 2 0 ≡ true) × (glyph_bit 65 5 6 ≡ false)
+  pub letter_a : (glyph_bit 65 0 6 ≡ true) × (glyph_bit 65 0 0 ≡ false) × (glyph_bit 65 2 0 ≡ true)
+      × (glyph_bit 65 5 6 ≡ false)

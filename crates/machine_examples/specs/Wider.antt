@@ -26,13 +26,35 @@ row = record {
   width = 8;
   height = 1;
   pictures = [];
-  windows = record { name = (97 ∷ []); frame = (rect (pos 0) (pos 0) (pos 4) (pos 0)); first_click = false; avoid_focus = false; port = 100; color = (Solid (rgb 255 255 255)) } ∷ [];
-  views = record { window = 0; name = (107 ∷ []); parent = 0; frame = (rect (pos 1) (pos 0) (pos 2) (pos 0)); mode = record { across = across.Center; down = down.Top }; color = (Solid (rgb 255 0 0)) } ∷ [];
+  windows =
+      record {
+        name = (97 ∷ []);
+        frame = (rect (pos 0) (pos 0) (pos 4) (pos 0));
+        first_click = false;
+        avoid_focus = false;
+        port = 100;
+        color = (Solid (rgb 255 255 255));
+      } ∷ [];
+  views =
+      record {
+        window = 0;
+        name = (107 ∷ []);
+        parent = 0;
+        frame = (rect (pos 1) (pos 0) (pos 2) (pos 0));
+        mode = record { across = across.Center; down = down.Top };
+        color = (Solid (rgb 255 0 0));
+      } ∷ [];
   handlers = [];
   filters = [];
   bodies = [];
   draws = [];
-  apps = record { name = (109 ∷ []); program = instruction.Lock 0 ∷ instruction.Draw (command.Change change.Show) ∷ instruction.Draw (command.Change (change.ResizeTo (pos 7) (pos 0))) ∷ instruction.Unlock ∷ [] } ∷ [];
+  apps =
+      record {
+        name = (109 ∷ []);
+        program = instruction.Lock 0 ∷ instruction.Draw
+            (command.Change change.Show) ∷ instruction.Draw
+            (command.Change (change.ResizeTo (pos 7) (pos 0))) ∷ instruction.Unlock ∷ [];
+      } ∷ [];
   input = [];
 }
 
@@ -57,7 +79,12 @@ history =
 -- what the machine makes of the script
 pub record Holds : Type 0 where
   pub entries : first_entries 16 row 0 ≡ history
-  pub screen : map (λ c. c.rgb) (state_after row history).screen ≡ (rgb 255 255 255) ∷ (rgb 255 255 255) ∷ (rgb 255 255 255) ∷ (rgb 255 0 0) ∷ (rgb 255 0 0) ∷ (rgb 255 255 255) ∷ (rgb 255 255 255) ∷ (rgb 255 255 255) ∷ []
+  pub screen : map (λ c. c.rgb) (state_after row history).screen
+      ≡ (rgb 255 255 255) ∷ (rgb 255 255 255) ∷ (rgb 255 255 255) ∷ (rgb 255 0 0) ∷ (rgb 255 0 0) ∷
+      (rgb 255 255 255) ∷ (rgb 255 255 255) ∷ (rgb 255 255 255) ∷ []
   pub work : work_of row ≡ 26
   pub trace_0 : shown_traces row (runner.app 0) history ≡ []
-  pub trace_1 : shown_traces row (runner.looper 0) history ≡ shown.Took 1 (sender.Twin 0) 0 target.Window (route.Handler target.Window) (shown.message 1431323732 ([])) ∷ shown.Listed 0 (rect (pos 0) (pos 0) (pos 7) (pos 0)) ∷ shown.Listed 1 (rect (pos 0) (pos 0) (pos 1) (pos 0)) ∷ []
+  pub trace_1 : shown_traces row (runner.looper 0) history
+      ≡ shown.Took 1 (sender.Twin 0) 0 target.Window (route.Handler target.Window)
+      (shown.message 1431323732 ([])) ∷ shown.Listed 0 (rect (pos 0) (pos 0) (pos 7) (pos 0)) ∷
+      shown.Listed 1 (rect (pos 0) (pos 0) (pos 1) (pos 0)) ∷ []

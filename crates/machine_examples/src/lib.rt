@@ -1,4 +1,5 @@
-//! Examples of the window machine, worked out by computing with its definitions: nothing of the server runs here.
+//! Examples of the window machine, worked out by computing with its definitions: nothing of the
+//! server runs here.
 //!
 //! Each function has an empty body; its contract says what the machine makes of one script.
 #![tactic(auto)]
@@ -70,7 +71,8 @@ pub fn slanted_line()
     ensures { slanted_line_example.Holds }
 {}
 
-/// A message that nobody understands, one that gets no reply, and one that gets its reply and a second one.
+/// A message that nobody understands, one that gets no reply, and one that gets its reply and a
+/// second one.
 pub fn replies()
     ensures { replies_example.Holds }
 {}
@@ -115,12 +117,14 @@ pub fn one_window_in_order()
     ensures { order_example.Holds }
 {}
 
-/// Which view is at a pixel, where views are, which pixels two lines have, and four pixels of a letter.
+/// Which view is at a pixel, where views are, which pixels two lines have, and four pixels of a
+/// letter.
 pub fn views_and_lines()
     ensures { views_example.Holds }
 {}
 
-/// A window with a child is shown, filled and updated, and an application sends: what the laws of pixels and limits say.
+/// A window with a child is shown, filled and updated, and an application sends: what the laws of
+/// pixels and limits say.
 pub fn laws_at_work()
     ensures { laws_at_work_example.Holds }
 {}

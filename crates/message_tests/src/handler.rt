@@ -14,8 +14,9 @@ const HELPER: Target = Target::Plain(0);
 
 const KEYS: Target = Target::Plain(1);
 
-/// Three views, each within the one before, a plain handler in front of the window and one in front of the
-/// innermost view. The window has a body for 1 and 2, the second view for 2, and the helper for 3.
+/// Three views, each within the one before, a plain handler in front of the window and one in front
+/// of the innermost view. The window has a body for 1 and 2, the second view for 2, and the helper
+/// for 3.
 fn window(alloc: Global) -> Result<Chain, ChainFault> {
     let mut chain = Chain::new(alloc);
     chain.add_view(None)?;

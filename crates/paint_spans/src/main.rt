@@ -1,5 +1,6 @@
-//! Paints slices of cells in each mode, and moves, cuts and fills the pixels of a window, as the words on
-//! the command line say; and writes how many cells were done. `bench/modes` and `bench/span` time it.
+//! Paints slices of cells in each mode, and moves, cuts and fills the pixels of a window, as the
+//! words on the command line say; and writes how many cells were done. `bench/modes` and
+//! `bench/span` time it.
 #![tactic(auto)]
 
 mod slices;

@@ -1,5 +1,6 @@
-//! Passes letters through a port that is full but for one, and writes the number of the last one: so many
-//! letters, of so many bytes, so many rounds, as the words on the command line say. `bench/port` times it.
+//! Passes letters through a port that is full but for one, and writes the number of the last one:
+//! so many letters, of so many bytes, so many rounds, as the words on the command line say.
+//! `bench/port` times it.
 #![tactic(auto)]
 
 mod passing;

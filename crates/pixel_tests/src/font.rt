@@ -1,8 +1,8 @@
 use be_font::{NotInFont, bit, next_run, row, width_of};
 use std::test::Fail;
 
-/// The glyphs as they are printed: for each code from 32 on five columns from the left, two digits each, of
-/// which the lowest bit is the top row.
+/// The glyphs as they are printed: for each code from 32 on five columns from the left, two digits
+/// each, of which the lowest bit is the top row.
 const PRINTED: [u64; 95] = [
     0x0000000000,
     0x00005f0000,

@@ -1,6 +1,6 @@
-//! Plays the picture of standard input over and over on 256 by 256 white pixels, of a bitmap off the
-//! screen or of a window, and writes how many pixels aren't white behind that; or only reads it, or
-//! also copies its commands. `bench/picture` times it.
+//! Plays the picture of standard input over and over on 256 by 256 white pixels, of a bitmap off
+//! the screen or of a window, and writes how many pixels aren't white behind that; or only reads
+//! it, or also copies its commands. `bench/picture` times it.
 #![tactic(auto)]
 
 mod rounds;

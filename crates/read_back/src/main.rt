@@ -15,8 +15,8 @@ use std::{env, io};
 
 const USAGE: &str = "usage: read_back ROUNDS";
 
-/// The one word is a number of rounds, 1 to 4294967295, without sign and leading zeros. Other words end
-/// with status 2, bytes that are no message with 1.
+/// The one word is a number of rounds, 1 to 4294967295, without sign and leading zeros. Other words
+/// end with status 2, bytes that are no message with 1.
 fn main(rt: HostRuntime) -> io::Result<ExitCode> {
     let mut words = env::args(&rt)?.skip(1);
     let (Some(word), None) = (words.next(), words.next()) else {

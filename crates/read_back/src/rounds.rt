@@ -6,8 +6,8 @@ ghost use Rattle.be_flat.specs.Reading.{reading, FailsAs};
 use be_flat::{FlatError, each_message_has_one_spelling, flatten, unflatten};
 use std::alloc::Global;
 
-/// Reads and writes a flattened message in each round. The bytes come back as they were, and only where
-/// they spell a message; what fails is the reading of them.
+/// Reads and writes a flattened message in each round. The bytes come back as they were, and only
+/// where they spell a message; what fails is the reading of them.
 pub fn read_back(alloc: Global, bytes: &[u8], rounds: u32) -> Result<Vec<u8>, FlatError>
     requires { 0 < rounds }
     ensures same { IfOk result (λ last. last.items ≡ bytes.now) }

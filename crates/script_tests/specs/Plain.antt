@@ -1,6 +1,8 @@
--- Scripts that are seen at once to have ways for their messages, as tests write them: no plain handlers, each view in
--- the root, common filters, bodies of windows and their roots, each for a word of its own.
-use Rattle.std.specs.Prelude.{ℕ, ◌+◌, ◌==◌, Bool, true, false, ◌&&◌, nat_le, nat_lt, List, [], ◌∷◌, length}
+-- Scripts that are seen at once to have ways for their messages, as tests write them: no plain
+-- handlers, each view in the root, common filters, bodies of windows and their roots, each for a
+-- word of its own.
+use Rattle.std.specs.Prelude.{ℕ, ◌+◌, ◌==◌, Bool, true, false, ◌&&◌, nat_le, nat_lt, List, [], ◌∷◌}
+use Rattle.std.specs.Prelude.{length}
 use Rattle.std.specs.List.{list_all}
 use Rattle.be_handler.specs.declared.Rule.{Rule}
 use Rattle.be_handler.specs.declared.Rule.TheVariants.{Skip, Pass, Redirect}
@@ -28,13 +30,15 @@ abbrev pub is_plain_view : ℕ → ViewLine → Bool
 is_plain_view windows line = nat_lt line.window windows && line.parent == 0
 
 abbrev pub is_plain_filter : ℕ → FilterLine → Bool
-is_plain_filter windows line = nat_lt line.window windows && is_common line.list && leads_near line.rule
+is_plain_filter windows line =
+    nat_lt line.window windows && is_common line.list && leads_near line.rule
 
 -- from this word on, each word above the one before
 abbrev pub are_plain_bodies : ℕ → ℕ → List BodyLine → Bool
 are_plain_bodies windows low [] = true
 are_plain_bodies windows low (line ∷ lines) =
-    nat_lt line.window windows && is_near line.target && nat_le low line.what && are_plain_bodies windows (line.what + 1) lines
+    nat_lt line.window windows && is_near line.target && nat_le low line.what
+    && are_plain_bodies windows (line.what + 1) lines
 
 abbrev pub is_plain_draw : ℕ → DrawLine → Bool
 is_plain_draw windows line = nat_lt line.window windows

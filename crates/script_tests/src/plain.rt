@@ -1,7 +1,8 @@
 ghost use Rattle.std.specs.Prelude.{◌≡◌, length};
 ghost use Rattle.std.specs.Bool.{OnTrue};
 ghost use Rattle.std.specs.List.{list_all};
-ghost use Rattle.script_tests.specs.Plain.{is_near, leads_near, is_plain_view, is_plain_filter, are_plain_bodies, is_plain_draw};
+ghost use Rattle.script_tests.specs.Plain.{is_near, leads_near, is_plain_view, is_plain_filter};
+ghost use Rattle.script_tests.specs.Plain.{are_plain_bodies, is_plain_draw};
 ghost use Rattle.be_script.specs.Routable.{IsRoutable};
 ghost use Rattle.be_script.specs.Script.{declared_by};
 

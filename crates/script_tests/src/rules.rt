@@ -3,7 +3,8 @@ ghost use Rattle.std.specs.List.{list_all, list_any};
 ghost use Rattle.std.specs.Option.{IfSome};
 ghost use Rattle.be_message.specs.Names.{is_name};
 ghost use Rattle.be_message.specs.Views.{seen_value};
-ghost use Rattle.be_actor.specs.Conditions.{are_kept, draft_of, has_two_parts, is_kept, is_place, keeps_fields, takes_current, HasCurrent, HasCurrentAt};
+ghost use Rattle.be_actor.specs.Conditions.{are_kept, draft_of, has_two_parts, is_kept, is_place};
+ghost use Rattle.be_actor.specs.Conditions.{keeps_fields, takes_current, HasCurrent, HasCurrentAt};
 ghost use Rattle.be_actor.specs.DraftViews.{seen_word, seen_words};
 ghost use Rattle.be_actor.specs.Limits.{all_go_together, go_together, is_spelt, is_word};
 

@@ -1,5 +1,6 @@
 -- Lists of counters of which one is changed, for the laws.
-use Rattle.std.proofs.Common.{◌≡◌, ◌≢◌, ℕ, zero, suc, ◌+◌, ◌<◌, ◌≤◌, true, false, nat_lt, List, [], ◌∷◌, length, set, sym, refl, ap, arith}
+use Rattle.std.proofs.Common.{◌≡◌, ◌≢◌, ℕ, zero, suc, ◌+◌, ◌<◌, ◌≤◌, true, false, nat_lt, List, []}
+use Rattle.std.proofs.Common.{◌∷◌, length, set, sym, refl, ap, arith}
 use Rattle.std.proofs.lemmas.Bool.{ltb-true, both_ways}
 use mathlib.Core.Option.{some, some-injective, some-ne-none}
 use lib.ListN.{get_elem?}

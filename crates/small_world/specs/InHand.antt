@@ -1,5 +1,6 @@
 -- Counters in hand: what they tell of a step, and what a step does to them.
-use Rattle.std.specs.Prelude.{◌≡◌, ℕ, ◌+◌, ◌<◌, Bool, true, nat_lt, List, [], ◌∷◌, ◌++◌, Option, Some, option_map}
+use Rattle.std.specs.Prelude.{◌≡◌, ℕ, ◌+◌, ◌<◌, Bool, true, nat_lt, List, [], ◌∷◌, ◌++◌, Option}
+use Rattle.std.specs.Prelude.{Some, option_map}
 use Rattle.be_hall.specs.Hands.{part_at, with_part}
 use Rattle.be_hall.specs.Machine.{Fits, IsHeld, IsReady}
 use Rattle.small_world.specs.declared.step.Count.{Count}
@@ -9,7 +10,8 @@ use Rattle.small_world.specs.declared.counter.Counter.{Counter}
 use Rattle.small_world.specs.declared.judging.Prospect.{Prospect}
 use Rattle.small_world.specs.declared.judging.Prospect.TheVariants.{May, MayNot, Needs}
 use Rattle.small_world.specs.declared.world.World.{World}
-use Rattle.small_world.specs.Counting.{closing_place, target_of, work_of, may, Touches, IsSound, passing, acted, got}
+use Rattle.small_world.specs.Counting.{closing_place, target_of, work_of, may, Touches, IsSound}
+use Rattle.small_world.specs.Counting.{passing, acted, got}
 use Rattle.small_world.specs.Counters.{count_of, log_of, spare_of}
 
 -- whether the activity has work, where its counter is in hand

@@ -1,6 +1,10 @@
 -- The rules keep the laws of parts, of activities, and of runs that end.
-use Rattle.std.proofs.Common.{◌≡◌, ◌≢◌, ℕ, zero, suc, ◌+◌, ◌*◌, ◌<◌, ◌≤◌, inl, inr, ⊎_elim, Bool, true, false, not, ◌&&◌, nat_lt, List, Some, None, if◌then◌else◌, sym, refl, ap, ◌∙◌, subst, mod-lt, arith}
-use Rattle.std.proofs.lemmas.Bool.{ltb-true, ltb-false, lt-ltb, le-ltb, and_parts, and_from, not-true, not_from_false, both_ways, cond-true, cond-false, cases_Bool, cases_lt}
+use Rattle.std.proofs.Common.{◌≡◌, ◌≢◌, ℕ, zero, suc, ◌+◌, ◌*◌, ◌<◌, ◌≤◌, inl, inr, ⊎_elim, Bool}
+use Rattle.std.proofs.Common.{true, false, not, ◌&&◌, nat_lt, List, Some, None, if◌then◌else◌, sym}
+use Rattle.std.proofs.Common.{refl, ap, ◌∙◌, subst, mod-lt, arith}
+use Rattle.std.proofs.lemmas.Bool.{ltb-true, ltb-false, lt-ltb, le-ltb, and_parts, and_from}
+use Rattle.std.proofs.lemmas.Bool.{not-true, not_from_false, both_ways, cond-true, cond-false}
+use Rattle.std.proofs.lemmas.Bool.{cases_Bool, cases_lt}
 use mathlib.Core.Option.{some}
 use mathlib.Core.Logic.{dite}
 use native.Mathlib.Decide.{dec_le}
@@ -13,8 +17,12 @@ use Rattle.small_world.specs.declared.step.Count.{Count}
 use Rattle.small_world.specs.declared.step.Step.{Step}
 use Rattle.small_world.specs.declared.step.Step.TheVariants.{Give, Use, Close}
 use Rattle.small_world.specs.declared.world.World.{World}
-use Rattle.small_world.specs.Changing.{length-changed, changed_else, total_changed, has_else, has_none, there, has_some, Fit, fit_changed}
-use Rattle.small_world.specs.Counting.{gave, used, got, emptied, changed_at, is_close, closing_place, target_of, wish_of, actor_of, work_of, has_work, is_idle_below, may, after_step, Touches, is_closed, IsSound, legal_step, passing}
+use Rattle.small_world.specs.Changing.{length-changed, changed_else, total_changed, has_else}
+use Rattle.small_world.specs.Changing.{has_none, there, has_some, Fit, fit_changed}
+use Rattle.small_world.specs.Counting.{gave, used, got, emptied, changed_at, is_close}
+use Rattle.small_world.specs.Counting.{closing_place, target_of, wish_of, actor_of, work_of}
+use Rattle.small_world.specs.Counting.{has_work, is_idle_below, may, after_step, Touches, is_closed}
+use Rattle.small_world.specs.Counting.{IsSound, legal_step, passing}
 
 legal_is : (b : Bool) (v e : Step) → (if b then Some v else None) ≡ Some e → (b ≡ true) × (v ≡ e)
 legal_is true v e h = (refl, (cc))

@@ -3,7 +3,8 @@ ghost use Rattle.std.specs.Prelude.{⊤, ◌≡◌, ◌<◌, Some, OnOk};
 ghost use Rattle.be_hall.specs.Hands.{part_at, with_part, meant};
 ghost use Rattle.small_world.specs.Counting.{passing};
 ghost use Rattle.small_world.specs.Counters.{count_of, log_of, spare_of};
-ghost use Rattle.small_world.specs.InHand.{CanAct, Acts, CanReceive, Receives, CanHandOver, HandsOver};
+ghost use Rattle.small_world.specs.InHand.{CanAct, Acts, CanReceive, Receives, CanHandOver};
+ghost use Rattle.small_world.specs.InHand.{HandsOver};
 
 use crate::counter::Counter;
 use crate::judging::Prospect;

@@ -1,6 +1,7 @@
 //! The activities of the counters.
 ghost use Rattle.std.specs.Prelude.{◌≡◌, ◌+◌, true, slice_set};
-ghost use Rattle.small_world.specs.Counting.{closing_place, is_wanted, legal_step, is_close, is_closed};
+ghost use Rattle.small_world.specs.Counting.{closing_place, is_wanted, legal_step, is_close};
+ghost use Rattle.small_world.specs.Counting.{is_closed};
 
 use crate::counter::Counter;
 use crate::judging::Prospect;

@@ -15,7 +15,8 @@ pub struct World {
 
 impl World {
     ghost use Rattle.std.specs.Prelude.{◌≡◌, ◌+◌, ◌^◌};
-    ghost use Rattle.small_world.specs.Counting.{closing_place, target_of, wish_of, actor_of, taker_of, work_of};
+    ghost use Rattle.small_world.specs.Counting.{closing_place, target_of, wish_of, actor_of};
+    ghost use Rattle.small_world.specs.Counting.{taker_of, work_of};
 
     /// The number of the closing activity.
     pub fn closing(&self) -> u32

@@ -1,11 +1,15 @@
-ghost use Rattle.be_machine.specs.KeptLimits.{HandsAreShallow, LinkedAreWithinLimits, BufferedAreWithinLimits, NoSessionAtBegin, OwedNoticesAreAlone, CellsAreIdleAtSends};
+ghost use Rattle.be_machine.specs.KeptLimits.{HandsAreShallow, LinkedAreWithinLimits};
+ghost use Rattle.be_machine.specs.KeptLimits.{BufferedAreWithinLimits, NoSessionAtBegin};
+ghost use Rattle.be_machine.specs.KeptLimits.{OwedNoticesAreAlone, CellsAreIdleAtSends};
 
-/// The message that a looper handles lies at most 15 deep, so that one made with it lies at most 16 deep.
+/// The message that a looper handles lies at most 15 deep, so that one made with it lies at most 16
+/// deep.
 pub fn messages_in_hand_are_shallow()
     ensures { HandsAreShallow }
 {}
 
-/// Each command that is made and not executed yet is one that a script may say of its window, or ends an update.
+/// Each command that is made and not executed yet is one that a script may say of its window, or
+/// ends an update.
 pub fn waiting_commands_are_within_limits()
     ensures linked { LinkedAreWithinLimits }
     ensures buffered { BufferedAreWithinLimits }

@@ -1,4 +1,5 @@
-ghost use Rattle.std.specs.Prelude.{◌≡◌, ◌<◌, ◌≤◌, ◌++◌, ◌∷◌, [], None, length, map, IfErr, IfOk, OnOk};
+ghost use Rattle.std.specs.Prelude.{◌≡◌, ◌<◌, ◌≤◌, ◌++◌, ◌∷◌, [], None, length, map, IfErr, IfOk};
+ghost use Rattle.std.specs.Prelude.{OnOk};
 ghost use Rattle.be_said.specs.Due.{IsDue};
 ghost use Rattle.be_said.specs.Fits.{Fits, IsNew};
 ghost use Rattle.be_said.specs.Deeds.{adds_window};
@@ -48,7 +49,8 @@ fn opened(
     requires new_windows { AreNew (map (λ line. line.name) windows.now) }
     requires new_bitmaps { AreNew (map (λ line. line.name) bitmaps.now) }
     requires new { IsNew (map (λ line. line.name) windows.now) name.now }
-    ensures opened { IfOk result (λ inside. IsOpened (map (λ line. line.name) windows.now ++ name.now ∷ [])
+    ensures opened { IfOk result
+        (λ inside. IsOpened (map (λ line. line.name) windows.now ++ name.now ∷ [])
         (map (λ line. line.name) bitmaps.now) inside) }
     ensures memory { IfErr result (λ fault. fault ≡ LineFault.NoMemory) }
 {
@@ -80,7 +82,8 @@ fn add_windows(names: &mut Names, windows: &[WindowLine]) -> Result<(), NoMemory
     requires none { names.old.windows ≡ [] }
     requires few { length windows.now ≤ 32 }
     requires new { AreNew (map (λ line. line.name) windows.now) }
-    ensures { OnOk result (names.new ≡ record names.old { windows = map (λ line. line.name) windows.now }) }
+    ensures { OnOk result
+        (names.new ≡ record names.old { windows = map (λ line. line.name) windows.now }) }
 {
     for line in windows {
         names::add_window(names, &line.name)?;
@@ -92,7 +95,8 @@ fn add_bitmaps(names: &mut Names, bitmaps: &[BitmapLine]) -> Result<(), NoMemory
     requires none { names.old.bitmaps ≡ [] }
     requires few { length bitmaps.now ≤ 64 }
     requires new { AreNew (map (λ line. line.name) bitmaps.now) }
-    ensures { OnOk result (names.new ≡ record names.old { bitmaps = map (λ line. line.name) bitmaps.now }) }
+    ensures { OnOk result
+        (names.new ≡ record names.old { bitmaps = map (λ line. line.name) bitmaps.now }) }
 {
     for line in bitmaps {
         names::add_bitmap(names, &line.name)?;

@@ -1,8 +1,12 @@
-ghost use Rattle.std.specs.Prelude.{◌≡◌, ℕ, ◌+◌, ◌<◌, ◌≤◌, true, ◌∷◌, IsOk, IfOk, OnOk, IfErr, ◌↔◌, length, [], Some, None};
+ghost use Rattle.std.specs.Prelude.{◌≡◌, ℕ, ◌+◌, ◌<◌, ◌≤◌, true, ◌∷◌, IsOk, IfOk, OnOk, IfErr, ◌↔◌};
+ghost use Rattle.std.specs.Prelude.{length, [], Some, None};
 ghost use Rattle.be_handler.specs.Growth.{with_view, with_plain, with_filter, with_new_body};
 ghost use Rattle.be_handler.specs.declared.fault.ChainFault.{ChainFault};
-ghost use Rattle.be_script.specs.Routable.{IsRoutable, can_add_view, can_add_plain, can_add_filter, can_add_body, views_before, handlers_before, filters_before, bodies_before};
-ghost use Rattle.be_script.specs.Routes.{routed_number, handlers_with, HasChains, HasNumbers, HasRoutes};
+ghost use Rattle.be_script.specs.Routable.{IsRoutable, can_add_view, can_add_plain, can_add_filter};
+ghost use Rattle.be_script.specs.Routable.{can_add_body, views_before, handlers_before};
+ghost use Rattle.be_script.specs.Routable.{filters_before, bodies_before};
+ghost use Rattle.be_script.specs.Routes.{routed_number, handlers_with, HasChains, HasNumbers};
+ghost use Rattle.be_script.specs.Routes.{HasRoutes};
 ghost use Rattle.be_script.specs.Script.{declared_by};
 ghost use Rattle.be_script.specs.Windows.{declared_filter, declared_body};
 

@@ -1,5 +1,6 @@
 ghost use Rattle.std.specs.Prelude.{◌≡◌, ◌+◌, ◌++◌, IfOk, OnOk, OnErr, map, sum_by, length};
-ghost use Rattle.be_script.specs.Costs.{limited, own_cost, posts_of, posts_of_step, part_of, last_cost, cost_before, posted_cost, table};
+ghost use Rattle.be_script.specs.Costs.{limited, own_cost, posts_of, posts_of_step, part_of};
+ghost use Rattle.be_script.specs.Costs.{last_cost, cost_before, posted_cost, table};
 ghost use Rattle.be_script.specs.Routes.{routed_number};
 
 use crate::BodyLine;
