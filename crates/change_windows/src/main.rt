@@ -1,16 +1,18 @@
 //! Changes the windows of a screen, as the words on the command line say, and writes how many
-//! changes were made. `bench/desk` times it.
+//! changes were made, and a sum of all cells that the windows show then. `bench/desk` times it.
 #![tactic(auto)]
 
 mod fault;
 mod rounds;
+mod sum;
 mod windows;
 
 use rounds::{Kind, rounds};
 use std::process::ExitCode;
 use std::{env, io};
+use sum::sum_of;
 
-const USAGE: &str = "usage: change_windows show|front|move|size|apart WINDOWS ROUNDS";
+const USAGE: &str = "usage: change_windows show|front|move|size|apart|drag WINDOWS ROUNDS";
 
 /// Other words than those of the usage end with status 2, and whatever hinders a change with 1.
 fn main(rt: HostRuntime) -> io::Result<ExitCode> {
@@ -31,8 +33,9 @@ fn main(rt: HostRuntime) -> io::Result<ExitCode> {
         return Ok(ExitCode::from(2));
     };
     match rounds(rt.alloc(), kind, windows, count) {
-        Ok(changes) => {
-            println!(rt; "{changes}")?;
+        Ok((changes, screen)) => {
+            let sum = sum_of(&screen, windows);
+            println!(rt; "{changes} {sum}")?;
             Ok(ExitCode::SUCCESS)
         }
         Err(fault) => {
@@ -49,6 +52,7 @@ fn kind_of(word: &str) -> Option<Kind> {
         "move" => Some(Kind::Move),
         "size" => Some(Kind::Size),
         "apart" => Some(Kind::Apart),
+        "drag" => Some(Kind::Drag),
         _ => None,
     }
 }
