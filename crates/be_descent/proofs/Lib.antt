@@ -1,4 +1,5 @@
 pub mod PaintLemmas
+pub mod CellLemmas
 pub mod MarkLemmas
 pub mod CutLemmas
 pub mod BandLemmas

@@ -10,7 +10,7 @@ use Rattle.be_geom.specs.Rects.{rect_has}
 use Rattle.be_descent.specs.declared.walk.Found.{Found}
 use Rattle.be_descent.specs.declared.way.Way.{Way}
 use Rattle.be_descent.specs.Places.{lies_at, HasNoMore, IsNext}
-use Rattle.be_descent.specs.Painting.{Rule, IsPainted}
+use Rattle.be_span.specs.Painting.{Rule, IsPainted}
 
 -- nothing is painted yet
 pub none_painted : (rule : Rule) (at : ℤ → ℤ → Bool) (s : Spans) → ((x y : ℤ) → at x y ≡ false)

@@ -13,7 +13,7 @@ use Rattle.be_region.specs.Regions.{region_has}
 use Rattle.be_span.specs.declared.Cell.{Cell}
 use Rattle.be_span.specs.Spans.{Spans, cell_in}
 use Rattle.be_span.proofs.CellLemmas.{cell_none}
-use Rattle.be_descent.specs.Painting.{Rule, IsPainted}
+use Rattle.be_span.specs.Painting.{Rule, IsPainted}
 use Rattle.be_descent.proofs.PaintLemmas.{both_painted, same_painted}
 
 none_mapped : (f : Cell → Cell) (b : Bool) (old : Option Cell) → old ≡ None
@@ -117,7 +117,7 @@ spread true false true = refl
 spread true false false = refl
 spread false b m = refl
 
-and_none : (a b m : Bool) → (a ≡ true → b ≡ false) → (a && m) ≡ true → (b && m) ≡ false
+pub and_none : (a b m : Bool) → (a ≡ true → b ≡ false) → (a && m) ≡ true → (b && m) ≡ false
 and_none true b m apart h = ap (λ c. c && m) (apart refl)
 and_none false b m apart h = absurd (true≢false (sym h))
 
@@ -230,7 +230,7 @@ none_boxed false h m t e = refl
 pub boxed : (p a h m t : Bool) → p ≡ (a && h) → (p && (m && t)) ≡ (a && (h && (m && t)))
 boxed p a h m t e = ap (λ b. b && (m && t)) e ∙ and_joined a h (m && t)
 
-pub image_test : (f h m : Bool) → f ≡ true → (f && (h && (m && h))) ≡ (h && m)
+pub image_test : (f h m : Bool) → f ≡ true → (f && (h && (m && true))) ≡ (h && m)
 image_test f true true is = ap (λ b. b && true) is
 image_test f true false is = none_and f
 image_test f false m is = none_and f

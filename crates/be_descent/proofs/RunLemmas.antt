@@ -7,7 +7,7 @@ use Rattle.be_shape.specs.declared.row.Row.{Row}
 use Rattle.be_shape.specs.declared.row.Row.TheVariants.{One, Two}
 use Rattle.be_shape.specs.declared.row.Span.{Span}
 use Rattle.be_span.specs.Spans.{Spans}
-use Rattle.be_descent.specs.Painting.{Rule, IsPainted}
+use Rattle.be_span.specs.Painting.{Rule, IsPainted}
 use Rattle.be_descent.proofs.HullLemmas.{pair_apart}
 use Rattle.be_descent.proofs.PaintLemmas.{both_painted, none_painted, same_painted}
 use Rattle.be_descent.proofs.RegionLemmas.{and_joined, none_more, not_other, one_or_other}

@@ -12,7 +12,7 @@ use Rattle.be_shape.proofs.BetweenLemmas.{is_between}
 use Rattle.be_shape.specs.declared.Raster.{Raster}
 use Rattle.be_span.specs.Spans.{Spans}
 use Rattle.be_descent.specs.Inks.{shape_has, AreRowsIn}
-use Rattle.be_descent.specs.Painting.{Rule, IsPainted}
+use Rattle.be_span.specs.Painting.{Rule, IsPainted}
 use Rattle.be_descent.specs.declared.way.Way.{Way}
 use Rattle.be_descent.proofs.PaintLemmas.{none_painted}
 use Rattle.be_descent.proofs.RegionLemmas.{band_painted, in_columns, no_row_yet, none_from}

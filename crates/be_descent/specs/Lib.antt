@@ -1,4 +1,3 @@
-pub mod Painting
 pub mod Marks
 pub mod Cutting
 pub mod Places

@@ -3,7 +3,7 @@ use Rattle.std.specs.Prelude.{◌≡◌, ℤ, Bool, length, count_by}
 use Rattle.be_region.specs.Bands.{AreBands}
 use Rattle.be_span.specs.declared.Cell.{Cell}
 use Rattle.be_span.specs.Spans.{Spans, pixels_of}
-use Rattle.be_descent.specs.Painting.{Rule, IsPainted}
+use Rattle.be_span.specs.Painting.{Rule, IsPainted}
 
 -- what holds of every buffer: its rectangles are bands, and each of their pixels has a cell
 pub record IsWhole (s : Spans) : Type 0 where

@@ -5,7 +5,7 @@ ghost use Rattle.be_geom.specs.Rects.{rect_has};
 ghost use Rattle.be_shape.specs.Rows.{row_has, span_has, IsRow};
 ghost use Rattle.be_descent.specs.Drawing.{may_draw};
 ghost use Rattle.be_descent.specs.Inks.{shape_has};
-ghost use Rattle.be_descent.specs.Painting.{IsPainted};
+ghost use Rattle.be_span.specs.Painting.{IsPainted};
 
 use crate::far::down_to;
 use crate::laying::Lay;

@@ -3,7 +3,7 @@ ghost use Rattle.be_geom.specs.Places.{IsNear};
 ghost use Rattle.be_geom.specs.Rects.{rect_has};
 ghost use Rattle.be_span.specs.Runs.{IsSpanOf, IsInside};
 ghost use Rattle.be_descent.specs.Clips.{first_hold};
-ghost use Rattle.be_descent.specs.Painting.{IsPainted};
+ghost use Rattle.be_span.specs.Painting.{IsPainted};
 
 use crate::laying::Lay;
 use crate::walk::next_in;

@@ -1,16 +1,13 @@
-ghost use Rattle.std.specs.Prelude.{◌≡◌, ℤ, ◌-ℤ◌, true, IfSome};
+ghost use Rattle.std.specs.Prelude.{◌≡◌, ℤ, ◌-ℤ◌, true, IfSome, slice_index};
+ghost use Rattle.be_color.specs.Pattern.{place_in_pattern};
 ghost use Rattle.be_span.specs.declared.Cell.{Cell};
 ghost use Rattle.be_span.specs.Slices.{painted, pattern_color, recolored};
 
-use crate::laying::Lay;
-use be_color::{Color, Mode, Pattern, Rgb, pick};
-use be_geom::{Point, Rect};
-use be_span::{Brush, Span, SpanBuf};
+use be_color::{Color, Pattern, Rgb, pick};
+use be_geom::Point;
+use be_span::{Brush, Cell, Paint, paint_bits};
 
-/// An ink: a mode joins to each pixel the colour that its bit of a pattern picks. Its mark stays.
-///
-/// A pattern of one colour takes one choice of the mode for a rectangle; in Copy and in Over no
-/// cell is read then where no pixel is dirty.
+/// A mode joins to each pixel the colour that its bit of a pattern picks.
 #[derive(Clone, Copy)]
 pub struct Coat {
     pub brush: Brush,
@@ -19,14 +16,16 @@ pub struct Coat {
     pub window: Point,
 }
 
-impl Lay for Coat {
+impl Paint for Coat {
     ghost rule = { λ s x y. painted s.brush
         (pattern_color s.brush s.pattern.rows (x -ℤ s.window.x) (y -ℤ s.window.y)) };
 
     ghost at = { λ s x y. true };
 
-    fn lay(&self, spans: &mut SpanBuf, span: Span, area: Rect) {
-        spans.paint_block(span, area, self.brush, &self.pattern, self.window);
+    #[inline(always)]
+    fn paint(&self, cells: &mut [Cell], x: i32, y: i32, clean: bool) {
+        let byte = row_of(&self.pattern, y - i32::from(self.window.y));
+        paint_bits(cells, self.brush, byte, x - i32::from(self.window.x), clean);
     }
 }
 
@@ -38,9 +37,17 @@ impl Coat {
     {
         let Brush { mode, high, low } = self.brush;
         let bit = self.pattern.solid_bit()?;
-        match (mode, pick(mode, bit, high, low)) {
-            (Mode::Copy | Mode::Over, Color::Solid(rgb)) => Some(rgb),
-            _ => None,
+        match pick(mode, bit, high, low) {
+            Color::Solid(rgb) if self.brush.replaces() => Some(rgb),
+            Color::Solid(_) | Color::Clear => None,
         }
     }
+}
+
+/// The row of a pattern at a row of the coordinates over which it is laid.
+#[tactic(auto, unfolding(be_color::specs::Pattern::place_in_pattern))]
+fn row_of(pattern: &Pattern, y: i32) -> u8
+    ensures { result ≡ slice_index pattern.now.rows (place_in_pattern y) }
+{
+    pattern.rows[y.rem_euclid(8) as usize]
 }

@@ -2,7 +2,7 @@ ghost use Rattle.std.specs.Prelude.{ℤ, ◌&&◌, not, All};
 ghost use Rattle.be_geom.specs.Rects.{rect_has};
 ghost use Rattle.be_region.specs.Regions.{IsNotEmpty, region_has};
 ghost use Rattle.be_span.specs.Runs.{IsSpanOf, IsInside};
-ghost use Rattle.be_descent.specs.Painting.{IsPainted};
+ghost use Rattle.be_span.specs.Painting.{IsPainted};
 
 use crate::cutting::{Cut, cut_at};
 use crate::laying::Lay;

@@ -1,4 +1,4 @@
-ghost use Rattle.std.specs.Prelude.{◌≡◌, pos, negsuc, ◌+ℤ◌, ◌-ℤ◌, ◌≤ℤ◌};
+ghost use Rattle.std.specs.Prelude.{◌≡◌, pos, negsuc, ◌+ℤ◌, ◌-ℤ◌, ◌≤ℤ◌, ◌⊎◌};
 ghost use Rattle.std.specs.Int.{int_min};
 ghost use Rattle.be_geom.specs.Places.{IsNear};
 
@@ -8,6 +8,19 @@ pub(crate) fn far_from(low: i32, high: i32) -> usize
     ensures { pos result ≡ high -ℤ low }
 {
     (i64::from(high) - i64::from(low)) as usize
+}
+
+/// How far a coordinate is behind an edge, and how far before it: one of the two is 0.
+#[inline(always)]
+pub(crate) fn around(edge: i32, z: i32) -> (usize, usize)
+    ensures far { pos result.0 -ℤ pos result.1 ≡ z -ℤ edge }
+    ensures one { (result.0 ≡ 0) ⊎ (result.1 ≡ 0) }
+{
+    if edge <= z {
+        (far_from(edge, z), 0)
+    } else {
+        (0, far_from(z, edge))
+    }
 }
 
 /// A row that lies so far down, or the end where that is above it.

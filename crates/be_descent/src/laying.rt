@@ -2,7 +2,7 @@ ghost use Rattle.std.specs.Prelude.{◌≡◌, ℤ, Bool, ◌&&◌};
 ghost use Rattle.be_geom.specs.Rects.{rect_has};
 ghost use Rattle.be_span.specs.declared.Cell.{Cell};
 ghost use Rattle.be_span.specs.Runs.{IsSpanOf, IsInside};
-ghost use Rattle.be_descent.specs.Painting.{IsPainted};
+ghost use Rattle.be_span.specs.Painting.{IsPainted};
 
 use be_geom::Rect;
 use be_span::{Span, SpanBuf};

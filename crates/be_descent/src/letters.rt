@@ -1,24 +1,19 @@
-ghost use Rattle.std.specs.Prelude.{◌≡◌, ◌<◌, ◌+◌, ℕ, ℤ, pos, ◌-ℤ◌, ◌≤ℤ◌, true, false};
-ghost use Rattle.std.specs.Prelude.{◌&&◌, length, slice_index};
-ghost use Rattle.std.specs.Option.{option_map};
+ghost use Rattle.std.specs.Prelude.{◌≡◌, ◌<◌, ◌&&◌, length};
 ghost use Rattle.be_geom.specs.Places.{IsNear};
 ghost use Rattle.be_geom.specs.Rects.{rect_has};
-ghost use Rattle.be_span.specs.Runs.{IsInside, IsSpanOf};
-ghost use Rattle.be_span.specs.Slices.{mask_bit, masked_color, painted};
-ghost use Rattle.be_span.specs.Spans.{cell_in};
+ghost use Rattle.be_span.specs.Painting.{IsPainted};
+ghost use Rattle.be_span.specs.Slices.{painted};
 ghost use Rattle.be_descent.specs.Drawing.{may_draw};
 ghost use Rattle.be_descent.specs.Inks.{masks_have};
-ghost use Rattle.be_descent.specs.Painting.{IsPainted};
 
 use crate::boxed::paint_boxed;
-use crate::far::far_from;
-use crate::laying::Lay;
-use crate::part::part_in;
+use crate::far::around;
+use crate::ink::Ink;
 use crate::reach::Reach;
 use crate::way::Way;
 use be_color::Color;
 use be_geom::Rect;
-use be_span::{Brush, Span, SpanBuf};
+use be_span::{Brush, Cell, Paint, SpanBuf, paint_marked};
 
 /// The pixels that the masks have a bit for, counted from the first.
 const BITS: Rect = Rect {
@@ -28,10 +23,10 @@ const BITS: Rect = Rect {
     bottom: 6,
 };
 
-/// An ink: a mode joins a colour to each pixel whose bit of its row's mask is set, as for letters
-/// of a text. Its mark stays. There is a mask for each of seven rows, and the highest bit is for
-/// the leftmost of 64 columns. It takes a few steps for each row and each set bit, and one choice
-/// of the mode. In Copy and in Over no cell is read where no pixel is dirty.
+/// A mode joins a colour to each pixel whose bit of its row's mask is set, as for letters of a
+/// text. There is a mask for each of seven rows, and the highest bit is for the leftmost of 64
+/// columns. It takes a few steps for each row and each set bit. In Copy and in Over no cell is read
+/// where no pixel is dirty.
 #[derive(Clone, Copy)]
 pub struct Letters<'a> {
     pub brush: Brush,
@@ -41,20 +36,18 @@ pub struct Letters<'a> {
     pub way: Way,
 }
 
-impl Lay for Letters<'_> {
+impl Paint for Letters<'_> {
     ghost rule = { λ s x y. painted s.brush s.color };
 
     ghost at = { λ s x y. masks_have s.masks.now s.way x y };
 
-    fn lay(&self, spans: &mut SpanBuf, span: Span, area: Rect) {
-        if let Some(part) = part_in(area, BITS, self.way) {
-            let Letters {
-                brush,
-                color,
-                masks,
-                way,
-            } = *self;
-            lay_masks(spans, span, part, brush, color, masks, way);
+    #[inline(always)]
+    fn paint(&self, cells: &mut [Cell], x: i32, y: i32, clean: bool) {
+        let (row, above) = around(self.way.down, y);
+        let (column, before) = around(self.way.right, x);
+        if above == 0 && row < 7 && column < 64 {
+            let mask = self.masks[row] << column;
+            paint_marked(cells, before, self.brush, self.color, mask, clean);
         }
     }
 }
@@ -68,62 +61,12 @@ pub fn paint_letters(spans: &mut SpanBuf, area: Rect, letters: &Letters<'_>, rea
         (λ x y. rect_has area x y && (masks_have letters.now.masks.now letters.now.way x y
         && may_draw reach.now x y)) spans.old spans.new }
 {
-    paint_boxed(spans, area, BITS, letters.way, reach, letters);
-}
-
-/// Lays a colour on those pixels of a rectangle whose bit is set. All of them have one.
-fn lay_masks(
-    spans: &mut SpanBuf,
-    span: Span,
-    part: Rect,
-    brush: Brush,
-    color: Color,
-    masks: &[u64; 7],
-    way: Way,
-)
-    requires span { IsSpanOf spans.old.rects span }
-    requires inside { IsInside part span.rect }
-    requires left { way.right ≤ℤ part.left }
-    requires right { (part.right -ℤ way.right) ≤ℤ pos 63 }
-    requires top { way.down ≤ℤ part.top }
-    requires bottom { (part.bottom -ℤ way.down) ≤ℤ pos 6 }
-    ensures region { spans.new.rects ≡ spans.old.rects }
-    ensures painted { (x y : ℤ) → rect_has part x y ≡ true → cell_in spans.new x y
-        ≡ option_map (painted brush (masked_color masks.now color
-        (x -ℤ way.right) (y -ℤ way.down))) (cell_in spans.old x y) }
-    ensures others { (x y : ℤ) → rect_has part x y ≡ false
-        → cell_in spans.new x y ≡ cell_in spans.old x y }
-{
-    let column = far_from(way.right, i32::from(part.left));
-    let first = far_from(way.down, i32::from(part.top));
-    let last = far_from(way.down, i32::from(part.bottom));
-    let moved = masks_from(masks, column);
-    spans.paint_masks(span, part, brush, color, &moved[first..last + 1]);
-}
-
-/// The masks for the columns from one on.
-fn masks_from(masks: &[u64; 7], column: usize) -> [u64; 7]
-    requires { column < 64 }
-    ensures seven { length result ≡ 7 }
-    ensures each { (k row : ℕ) → row < 7
-        → mask_bit (slice_index result row) k ≡ mask_bit (slice_index masks.now row) (column + k) }
-{
-    let [a, b, c, d, e, f, g] = *masks;
-    [
-        mask_from(a, column),
-        mask_from(b, column),
-        mask_from(c, column),
-        mask_from(d, column),
-        mask_from(e, column),
-        mask_from(f, column),
-        mask_from(g, column),
-    ]
-}
-
-/// The mask for the columns from one on.
-fn mask_from(mask: u64, column: usize) -> u64
-    requires { column < 64 }
-    ensures { (k : ℕ) → mask_bit result k ≡ mask_bit mask (column + k) }
-{
-    mask << column
+    paint_boxed(
+        spans,
+        area,
+        BITS,
+        letters.way,
+        reach,
+        &Ink { paint: letters },
+    );
 }

@@ -2,13 +2,13 @@
 //!
 //! A descent goes through stages, each of which hands rectangles on to the next one: the spans of
 //! the buffer (`paint_area`), what is in none of the frames in front (`Below`), each clip (`Clips`)
-//! and the session (`Session`). It ends with an ink, which paints a rectangle and asks nothing
-//! more. A stage is a type that implements `Lay`. Its test says at which pixels the ink paints;
-//! that of a whole descent is what the tests of its stages come to together.
+//! and the session (`Session`). It ends with an `Ink`, which paints a rectangle and asks nothing
+//! more. A stage is a type that implements `Lay`. Its test says at which pixels it paints; that of
+//! a whole descent is what the tests of its stages come to together.
 //!
-//! The inks are a colour that takes the place of what was there (`Fill`), a pattern's colours in
-//! a drawing mode (`Coat`), a picture (`Image`) and seven rows of 64 bits, as for letters
-//! (`Letters`). The stage `Shaped` stands before an ink and holds it to a shape.
+//! What an ink paints are a pattern's colours in a drawing mode (`Coat`), a picture (`Image`) and
+//! seven rows of 64 bits, as for letters (`Letters`), or one colour (`be_span::Fill`). `Held` holds
+//! them to a shape.
 //!
 //! `Fronts::find` finds the frames in front of a view, and `paint_reached` is the descent for a
 //! view. `paint_bands` and `paint_line` are those of a shape that lies anywhere, by rectangles that
@@ -28,9 +28,10 @@ mod coat;
 mod cutting;
 mod descending;
 mod far;
-mod fill;
 mod fronts;
+mod held;
 mod image;
+mod ink;
 mod laying;
 mod letters;
 mod line;
@@ -40,8 +41,8 @@ mod part;
 mod reach;
 mod rows;
 mod session;
-mod shaped;
 mod shown;
+mod thin;
 mod walk;
 mod way;
 mod within;
@@ -51,9 +52,10 @@ pub use bands::paint_bands;
 pub use below::Below;
 pub use clips::Clips;
 pub use coat::Coat;
-pub use fill::Fill;
 pub use fronts::Fronts;
+pub use held::Held;
 pub use image::{Image, paint_image};
+pub use ink::Ink;
 pub use laying::Lay;
 pub use letters::{Letters, paint_letters};
 pub use line::paint_line;
@@ -61,6 +63,5 @@ pub use marks::marks_stay;
 pub use nest::{Limits, paint_within};
 pub use reach::{Reach, paint_reached};
 pub use session::Session;
-pub use shaped::Shaped;
 pub use way::Way;
 pub use within::Within;

@@ -8,17 +8,18 @@ ghost use Rattle.be_shape.specs.Rows.{row_has, span_has, IsRow};
 ghost use Rattle.be_shape.specs.Runs.{HasPixelOfRow};
 ghost use Rattle.be_descent.specs.Drawing.{may_draw};
 ghost use Rattle.be_descent.specs.Inks.{shape_has, IsLine};
-ghost use Rattle.be_descent.specs.Painting.{IsPainted};
+ghost use Rattle.be_span.specs.Painting.{IsPainted};
 
-use crate::laying::Lay;
+use crate::held::Held;
+use crate::ink::Ink;
 use crate::part::columns_in;
 use crate::reach::{Reach, paint_reached};
 use crate::rows::rows_in;
-use crate::shaped::Shaped;
+use crate::thin::Thin;
 use crate::way::Way;
 use be_geom::{Point, Rect};
 use be_shape::{PenSize, Raster, Row, Span as Columns};
-use be_span::SpanBuf;
+use be_span::{Paint, SpanBuf};
 
 /// How many rows of a line go together.
 const ROWS: i32 = 64;
@@ -26,21 +27,21 @@ const ROWS: i32 = 64;
 /// Paints the pixels of a line on which a view may draw, as far as the buffer has them. The line
 /// lies that way on the screen. There is a descent for each 64 rows, in the columns that the line
 /// has there. Besides them it goes once over the rectangles of the buffer's region.
-pub fn paint_line<L: Lay>(
+pub fn paint_line<P: Paint>(
     spans: &mut SpanBuf,
     from: Point,
     to: Point,
     pen: PenSize,
     way: Way,
     reach: &Reach<'_>,
-    ink: &L,
+    paint: &P,
 )
     requires view { reach.now.view < length reach.now.tree.now }
     requires corner { IsNear 64 reach.now.corner.right × IsNear 64 reach.now.corner.down }
     requires near { IsNear 64 way.right × IsNear 64 way.down }
-    ensures { IsPainted (L.rule ink.now) (λ x y.
+    ensures { IsPainted (P.rule paint.now) (λ x y.
         shape_has (Line from to pen) way x y
-        && (may_draw reach.now x y && L.at ink.now x y)) spans.old spans.new }
+        && (may_draw reach.now x y && P.at paint.now x y)) spans.old spans.new }
 {
     let line = Raster::Line(from, to, pen);
     let Some(frame) = spans.region().frame() else {
@@ -56,19 +57,19 @@ pub fn paint_line<L: Lay>(
             top: y as i16,
             ..rows
         };
-        let end = paint_part(spans, area, &line, way, reach, ink);
+        let end = paint_part(spans, area, &line, way, reach, paint);
         y = i32::from(end) + 1;
     }
 }
 
 /// Paints those in the first 64 rows of an area. The line has a pixel in each row. Gives the last.
-fn paint_part<L: Lay>(
+fn paint_part<P: Paint>(
     spans: &mut SpanBuf,
     area: Rect,
     line: &Raster,
     way: Way,
     reach: &Reach<'_>,
-    ink: &L,
+    paint: &P,
 ) -> i16
     requires view { reach.now.view < length reach.now.tree.now }
     requires corner { IsNear 64 reach.now.corner.right × IsNear 64 reach.now.corner.down }
@@ -79,27 +80,27 @@ fn paint_part<L: Lay>(
         → HasPixelOfRow line.now (y -ℤ way.down) }
     ensures forward { area.top ≤ℤ result }
     ensures within { result ≤ℤ area.bottom }
-    ensures painted { IsPainted (L.rule ink.now) (λ x y. (between area.left x area.right
+    ensures painted { IsPainted (P.rule paint.now) (λ x y. (between area.left x area.right
         && between area.top y result) && (shape_has line.now way x y
-        && (may_draw reach.now x y && L.at ink.now x y))) spans.old spans.new }
+        && (may_draw reach.now x y && P.at paint.now x y))) spans.old spans.new }
 {
     let end = i32::from(area.bottom).min(i32::from(area.top) + (ROWS - 1)) as i16;
     let part = Rect {
         bottom: end,
         ..area
     };
-    paint_cut(spans, part, line, way, reach, ink);
+    paint_cut(spans, part, line, way, reach, paint);
     end
 }
 
 /// The same of all rows of an area, in the columns between those of the first and the last row.
-fn paint_cut<L: Lay>(
+fn paint_cut<P: Paint>(
     spans: &mut SpanBuf,
     area: Rect,
     line: &Raster,
     way: Way,
     reach: &Reach<'_>,
-    ink: &L,
+    paint: &P,
 )
     requires view { reach.now.view < length reach.now.tree.now }
     requires corner { IsNear 64 reach.now.corner.right × IsNear 64 reach.now.corner.down }
@@ -108,9 +109,9 @@ fn paint_cut<L: Lay>(
     requires line { IsLine line.now }
     requires top { HasPixelOfRow line.now (area.top -ℤ way.down) }
     requires bottom { HasPixelOfRow line.now (area.bottom -ℤ way.down) }
-    ensures { IsPainted (L.rule ink.now) (λ x y. rect_has area x y
+    ensures { IsPainted (P.rule paint.now) (λ x y. rect_has area x y
         && (shape_has line.now way x y
-        && (may_draw reach.now x y && L.at ink.now x y))) spans.old spans.new }
+        && (may_draw reach.now x y && P.at paint.now x y))) spans.old spans.new }
 {
     let top = line.row(i32::from(area.top) - way.down);
     let bottom = line.row(i32::from(area.bottom) - way.down);
@@ -118,12 +119,36 @@ fn paint_cut<L: Lay>(
         return;
     };
     if let Some(part) = columns_in(area, run, way.right) {
-        let shaped = Shaped {
-            raster: line,
-            way,
-            next: ink,
-        };
-        paint_reached(spans, part, reach, &shaped);
+        paint_held(spans, part, line, way, reach, paint);
+    }
+}
+
+/// Paints the pixels of an area that a shape has and on which a view may draw. A thin line that is
+/// steep takes fewer steps a row than others.
+fn paint_held<P: Paint>(
+    spans: &mut SpanBuf,
+    area: Rect,
+    raster: &Raster,
+    way: Way,
+    reach: &Reach<'_>,
+    paint: &P,
+)
+    requires view { reach.now.view < length reach.now.tree.now }
+    requires corner { IsNear 64 reach.now.corner.right × IsNear 64 reach.now.corner.down }
+    requires near { IsNear 64 way.right × IsNear 64 way.down }
+    ensures { IsPainted (P.rule paint.now) (λ x y. rect_has area x y
+        && (may_draw reach.now x y
+        && (shape_has raster.now way x y && P.at paint.now x y))) spans.old spans.new }
+{
+    match raster.steep() {
+        Some(line) => {
+            let thin = Thin { line, way, paint };
+            paint_reached(spans, area, reach, &Ink { paint: &thin });
+        }
+        None => {
+            let held = Held { raster, way, paint };
+            paint_reached(spans, area, reach, &Ink { paint: &held });
+        }
     }
 }
 

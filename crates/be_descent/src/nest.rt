@@ -3,7 +3,7 @@ ghost use Rattle.be_geom.specs.Rects.{rect_has};
 ghost use Rattle.be_region.specs.Regions.{IsNotEmpty, region_has};
 ghost use Rattle.be_geom.specs.Places.{IsNear};
 ghost use Rattle.be_descent.specs.Clips.{states_allow};
-ghost use Rattle.be_descent.specs.Painting.{IsPainted};
+ghost use Rattle.be_span.specs.Painting.{IsPainted};
 ghost use Rattle.be_descent.specs.Places.{session_has};
 
 use crate::area::paint_area;

@@ -60,7 +60,7 @@ pub(crate) fn columns_in(area: Rect, run: Columns, by: i32) -> Option<Rect>
 /// The first and the last of the coordinates from `low` to `high` that are among those from `first`
 /// to `last`, which lie so far on. None where there is none.
 #[inline(always)]
-fn common(low: i16, high: i16, first: i32, last: i32, by: i32) -> Option<(i16, i16)>
+pub(crate) fn common(low: i16, high: i16, first: i32, last: i32, by: i32) -> Option<(i16, i16)>
     ensures none { IfNone result ((z : ℤ)
         → (between low z high && between first (z -ℤ by) last) ≡ false) }
     ensures order { IfSome result (λ edges. edges.0 ≤ℤ edges.1) }

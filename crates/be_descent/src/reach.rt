@@ -2,7 +2,7 @@ ghost use Rattle.std.specs.Prelude.{◌<◌, ℤ, ◌&&◌, length};
 ghost use Rattle.be_geom.specs.Places.{IsNear};
 ghost use Rattle.be_geom.specs.Rects.{rect_has};
 ghost use Rattle.be_descent.specs.Drawing.{may_draw};
-ghost use Rattle.be_descent.specs.Painting.{IsPainted};
+ghost use Rattle.be_span.specs.Painting.{IsPainted};
 
 use crate::fronts::Fronts;
 use crate::laying::Lay;

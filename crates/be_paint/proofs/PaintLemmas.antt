@@ -14,7 +14,7 @@ use Rattle.be_descent.specs.Drawing.{may_draw}
 use Rattle.be_descent.specs.Fronts.{shows}
 use Rattle.be_descent.specs.Inks.{frame_of, picture_color, shape_has}
 use Rattle.be_descent.specs.Marks.{LeavesMarks}
-use Rattle.be_descent.specs.Painting.{Rule, IsPainted}
+use Rattle.be_span.specs.Painting.{Rule, IsPainted}
 use Rattle.be_descent.specs.Places.{has_moved}
 use Rattle.be_geom.specs.declared.point.Point.{Point}
 use Rattle.be_geom.specs.declared.rect.Rect.{Rect}

@@ -2,7 +2,7 @@
 use Rattle.std.specs.Prelude.{◌≡◌, ◌<◌, ℕ, ℤ, pos, ◌+ℤ◌, ◌-ℤ◌, Bool, List, Option, length}
 use Rattle.std.specs.Prelude.{slice_index}
 use Rattle.be_color.specs.declared.colors.Color.{Color}
-use Rattle.be_descent.specs.Painting.{Rule}
+use Rattle.be_span.specs.Painting.{Rule}
 use Rattle.be_descent.specs.declared.reach.Reach as descents
 use Rattle.be_descent.specs.declared.way.Way.{Way}
 use Rattle.be_geom.specs.declared.point.Point.{Point}

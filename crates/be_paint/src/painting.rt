@@ -2,7 +2,7 @@ ghost use Rattle.std.specs.Prelude.{◌≡◌, ◌<◌, ℤ, ◌-ℤ◌, ◌&&�
 ghost use Rattle.std.specs.Option.{option_map};
 ghost use Rattle.be_descent.specs.Drawing.{may_draw};
 ghost use Rattle.be_descent.specs.Inks.{shape_has};
-ghost use Rattle.be_descent.specs.Painting.{IsPainted};
+ghost use Rattle.be_span.specs.Painting.{IsPainted};
 ghost use Rattle.be_geom.specs.Places.{IsNear};
 ghost use Rattle.be_paint.specs.Inks.{painted_cell};
 ghost use Rattle.be_paint.specs.Laying.{brush_of, descent_of, ink_of, laid};
@@ -15,9 +15,9 @@ ghost use Rattle.be_span.specs.Spans.{cell_in};
 use crate::ink::Ink;
 use crate::reach::{Reach, Site};
 use crate::texts::{Text, paint_text};
-use be_descent::{Coat, Fill, Image, Lay, Way, paint_bands, paint_image, paint_line};
+use be_descent::{Coat, Image, Way, paint_bands, paint_image, paint_line};
 use be_shape::Raster;
-use be_span::{Brush, SpanBuf};
+use be_span::{Brush, Fill, Paint, SpanBuf};
 use be_state::State;
 
 /// Draws an ink where the view may draw. A pixel is painted once, by the mode of the state in
@@ -134,23 +134,25 @@ fn paint_shape(
     }
 }
 
-/// The same with any ink.
-fn paint_raster<L: Lay>(
+/// The same with what is painted.
+fn paint_raster<P: Paint>(
     spans: &mut SpanBuf,
     raster: &Raster,
     way: Way,
     reach: &be_descent::Reach<'_>,
-    ink: &L,
+    paint: &P,
 )
     requires view { reach.now.view < length reach.now.tree.now }
     requires corner { IsNear 64 reach.now.corner.right × IsNear 64 reach.now.corner.down }
     requires near { IsNear 64 way.right × IsNear 64 way.down }
-    ensures { IsPainted (L.rule ink.now) (λ x y. shape_has raster.now way x y
-        && (may_draw reach.now x y && L.at ink.now x y)) spans.old spans.new }
+    ensures { IsPainted (P.rule paint.now) (λ x y. shape_has raster.now way x y
+        && (may_draw reach.now x y && P.at paint.now x y)) spans.old spans.new }
 {
     match *raster {
-        Raster::Fill(_) | Raster::Frame(_, _) => paint_bands(spans, raster, way, reach, ink),
-        Raster::Line(from, to, pen) => paint_line(spans, from, to, pen, way, reach, ink),
+        Raster::Fill(_) | Raster::Frame(_, _) => {
+            paint_bands(spans, raster, way, reach, &be_descent::Ink { paint });
+        }
+        Raster::Line(from, to, pen) => paint_line(spans, from, to, pen, way, reach, paint),
     }
 }
 

@@ -1,6 +1,6 @@
 ghost use Rattle.std.specs.Prelude.{◌≡◌, ◌<◌, ℤ, pos, ◌+ℤ◌, ◌-ℤ◌, ◌≤ℤ◌, true, ◌&&◌, length};
 ghost use Rattle.be_descent.specs.Drawing.{may_draw};
-ghost use Rattle.be_descent.specs.Painting.{IsPainted};
+ghost use Rattle.be_span.specs.Painting.{IsPainted};
 ghost use Rattle.be_geom.specs.Places.{IsNear};
 ghost use Rattle.be_geom.specs.Points.{between};
 ghost use Rattle.be_geom.specs.Rects.{rect_has};

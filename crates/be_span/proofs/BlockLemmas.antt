@@ -1,38 +1,16 @@
 -- The pixels of a rectangle, painted row by row.
-use Rattle.std.proofs.Common.{◌≡◌, ℕ, ◌<◌, ℤ, pos, negsuc, ◌+ℤ◌, ◌-ℤ◌, ◌≤ℤ◌, ◌<ℤ◌, true, false, inl, inr, List, refl, sym, ap, ◌∙◌, subst, arith}
-use Rattle.std.specs.Prelude.{unsigned_abs, slice_index}
+use Rattle.std.proofs.Common.{◌≡◌, ℕ, ◌+◌, ◌*◌, ◌<◌, ℤ, pos, ◌+ℤ◌, ◌-ℤ◌, ◌≤ℤ◌, ◌<ℤ◌, Bool, true, false, cond, inl, inr, Option, Some, None, refl, sym, ap, ◌∙◌, subst, arith}
+use Rattle.std.specs.Prelude.{◌&&◌, unsigned_abs}
 use Rattle.std.specs.Option.{option_map}
 use Rattle.std.proofs.lemmas.Int.{ints, by_lt_z}
 use Rattle.std.proofs.lemmas.Bool.{true≢false}
 use Rattle.be_geom.specs.declared.rect.Rect.{Rect}
 use Rattle.be_geom.specs.Rects.{rect_has}
-use Rattle.be_color.specs.Pattern.{place_in_pattern, pattern_bit}
-use Rattle.be_color.specs.Pixel.{picked}
 use Rattle.be_span.specs.declared.Cell.{Cell}
-use Rattle.be_span.specs.declared.brush.Brush.{Brush}
-use Rattle.be_span.specs.declared.brush.Source.TheVariants.{Bits}
 use Rattle.be_span.specs.Runs.{IsBeside}
-use Rattle.be_span.specs.Slices.{pattern_color, row_bit, source_at}
-use Rattle.be_span.specs.Spans.{Spans, cell_in}
-use Rattle.be_span.proofs.GridLemmas.{IsIn, in_from, has_from, pos_abs}
-
--- ---- patterns
-
-place_below : (z : ℤ) → place_in_pattern z < 8
-unfolding place_in_pattern
-place_below (pos n) = omega arith
-place_below (negsuc n) = omega arith
-
--- a pattern whose rows are all the same byte
-same_rows : (rows : List ℕ) (byte : ℕ) (x y : ℤ) → slice_index rows (place_in_pattern y) ≡ byte → pattern_bit rows x y ≡ row_bit byte x
-unfolding pattern_bit
-same_rows rows byte x y e = ap (λ b. row_bit b x) e
-
--- the colour of the k-th cell of a row of the pattern
-pub row_color : (brush : Brush) (rows : List ℕ) (byte : ℕ) (left column x dx y : ℤ) (k : ℕ) → byte ≡ slice_index rows (place_in_pattern y) → column ≡ left -ℤ dx → x ≡ left +ℤ pos k → source_at brush (Bits byte column) k ≡ pattern_color brush rows (x -ℤ dx) y
-row_color brush rows byte left column x dx y k e f g =
-    let at : column +ℤ pos k ≡ x -ℤ dx = omega (arith, ints) in
-    ap (λ b. picked brush.mode b brush.high brush.low) (ap (row_bit byte) at ∙ sym (same_rows rows byte (x -ℤ dx) y (sym e)))
+use Rattle.be_span.specs.Painting.{Rule, changed, IsPainted}
+use Rattle.be_span.specs.Spans.{Spans, cell_in, place_in, width_of}
+use Rattle.be_span.proofs.GridLemmas.{IsIn, either, in_from, has_from, pos_abs}
 
 -- ---- rows
 
@@ -82,3 +60,44 @@ row_changed f old mid new r count left y next from wide top bottom step so_far c
         (λ from_left. by_lt_z r.right x
         (λ behind. inr (inr (omega (arith, ints))))
         (λ to_right. absurd (true≢false (sym (has_from r x w record { left = omega (arith, ints); right = to_right; top = omega (arith, ints); bottom = omega (arith, ints) }) ∙ out))))))
+
+-- ---- the whole rectangle
+
+picked : (b : Bool) (c d : Cell) → Some (cond b c d) ≡ cond b (Some c) (Some d)
+picked true c d = refl
+picked false c d = refl
+
+neither : (b : Bool) → let none : Option Cell = None in none ≡ cond b none none
+neither true = refl
+neither false = refl
+
+-- a cell is changed, or stays
+chosen : (rule : Rule) (at : ℤ → ℤ → Bool) (x y : ℤ) (o : Option Cell) → option_map (changed rule at x y) o ≡ cond (at x y) (option_map (rule x y) o) o
+chosen rule at x y None = neither (at x y)
+chosen rule at x y (Some c) = picked (at x y) (rule x y c) c
+
+pub block_painted : (rule : Rule) (at : ℤ → ℤ → Bool) (old new : Spans) (r : Rect) (end : ℤ) → new.rects ≡ old.rects → ((x y : ℤ) → rect_has r x y ≡ true → y <ℤ end) → AreChangedTo (changed rule at) old new r end → IsPainted rule (λ x y. rect_has r x y && at x y) old new
+block_painted rule at old new r end same within is = record {
+  region = same;
+  cells = λ x y. elim (either (rect_has r x y)) [
+    | inl h ↦ is.inside x y h (within x y h) ∙ chosen rule at x y (cell_in old x y) ∙ sym (ap (λ b. cond (b && at x y) (option_map (rule x y) (cell_in old x y)) (cell_in old x y)) h)
+    | inr h ↦ is.beside x y h ∙ sym (ap (λ b. cond (b && at x y) (option_map (rule x y) (cell_in old x y)) (cell_in old x y)) h)
+  ];
+}
+
+-- a row further down
+pub place_down : (r : Rect) (x y : ℤ) → r.top ≤ℤ y → place_in r x (y +ℤ pos 1) ≡ place_in r x y + width_of r
+unfolding place_in
+place_down r x y below =
+    let here = pos_abs (y -ℤ r.top) (omega (arith, ints)) in
+    let next = pos_abs (y +ℤ pos 1 -ℤ r.top) (omega (arith, ints)) in
+    further (unsigned_abs (y -ℤ r.top)) (unsigned_abs (y +ℤ pos 1 -ℤ r.top)) (width_of r) (unsigned_abs (x -ℤ r.left)) (one_more _ _ here next)
+  where
+    one_more : (a b : ℕ) → pos a ≡ y -ℤ r.top → pos b ≡ y +ℤ pos 1 -ℤ r.top → b ≡ a + 1
+    one_more a b e f = omega (arith, ints)
+
+    mul-add-one : (a w : ℕ) → (a + 1) * w ≡ a * w + w
+    mul-add-one a w = omega arith
+
+    further : (a b w c : ℕ) → b ≡ a + 1 → b * w + c ≡ a * w + c + w
+    further a b w c e = let times = ap (λ n. n * w) e ∙ mul-add-one a w in omega arith

@@ -10,4 +10,3 @@ pub mod ExposeLemmas
 pub mod CopyLemmas
 pub mod MaskLemmas
 pub mod BlockLemmas
-pub mod TurnLemmas

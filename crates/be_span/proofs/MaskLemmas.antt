@@ -1,17 +1,16 @@
 -- The bits of a mask, from the last set bit to the first.
-use Rattle.std.proofs.Common.{◌≡◌, ℕ, zero, suc, ℤ, pos, ◌+ℤ◌, ◌-ℤ◌, ◌-◌, ◌/◌, ◌%◌, ◌^◌, ◌<◌, ◌≤◌, min, true, false, eqb, cond, inl, inr, List, Some, None, length, get_or, set, slice_get, refl, sym, ap, ◌∙◌, arith, w64, bit_and}
-use Rattle.std.specs.Prelude.{◌&&◌, slice_index}
+use Rattle.std.proofs.Common.{◌≡◌, ℕ, zero, suc, ◌+◌, ◌-◌, ◌/◌, ◌%◌, ◌^◌, ◌<◌, ◌≤◌, min, true, false, eqb, cond, inl, inr, List, Option, Some, None, length, get_or, set, slice_get, refl, sym, ap, ◌∙◌, arith, w64, bit_and}
+use Rattle.std.specs.Prelude.{◌&&◌, not, nat_lt}
 use Rattle.std.specs.Option.{option_map}
 use Rattle.std.specs.Int.{bit_at, trailing_zeros}
 use Rattle.std.proofs.lemmas.Bool.{cases_lt, cases_order, lt-ltb, le-ltb, true≢false}
-use Rattle.std.proofs.lemmas.Int.{ints}
 use Rattle.std.proofs.lemmas.Nat.Bits.{bit_at-zero, bit_at-suc, bit_at_lowest, bit_at_and, bit_at-trailing_zeros}
 use Rattle.std.proofs.lemmas.Option.{slice_get-get_or, slice_get_past}
 use Rattle.be_color.specs.declared.colors.Color.{Color}
 use Rattle.be_color.specs.declared.colors.Color.TheVariants.{Clear}
 use Rattle.be_span.specs.declared.Cell.{Cell}
 use Rattle.be_span.specs.declared.brush.Brush.{Brush}
-use Rattle.be_span.specs.Slices.{mask_bit, masked_color, painted}
+use Rattle.be_span.specs.Slices.{has_bit_from, mask_bit, painted}
 use Rattle.be_span.proofs.SliceLemmas.{slice_get-set_same, slice_get-set_other, stays}
 
 mask_at : (bits k : ℕ) → k < 64 → mask_bit bits k ≡ eqb (bit_at bits (63 - k)) 1
@@ -145,11 +144,17 @@ last_past brush color bits rest old new some fits past is =
     one_less brush color bits rest place (bit_and rest (rest - 1)) old new new without is (λ k other. refl)
     (is.left place without.set ∙ none ∙ sym (ap (option_map (painted brush color)) none))
 
--- ---- rows
+-- ---- from a cell on
 
--- the colour of the k-th cell of a row
-pub row_color : (masks : List ℕ) (color : Color) (mask k row : ℕ) (left top x y : ℤ) → mask ≡ slice_index masks row → x ≡ left +ℤ pos k → y ≡ top +ℤ pos row → cond (mask_bit mask k) color Clear ≡ masked_color masks color (x -ℤ left) (y -ℤ top)
-row_color masks color mask k row left top x y e f g =
-    let across : x -ℤ left ≡ pos k = omega (arith, ints) in
-    let down : y -ℤ top ≡ pos row = omega (arith, ints) in
-    ap (λ m. cond (mask_bit m k) color Clear) e ∙ sym (ap (λ z. masked_color masks color z (y -ℤ top)) across ∙ ap (masked_color masks color (pos k)) down)
+-- a cell before it stays
+pub before_from : (brush : Brush) (color : Color) (from bits k : ℕ) (o : Option Cell) → k < from → o ≡ option_map (painted brush (cond (has_bit_from from bits k) color Clear)) o
+before_from brush color from bits k o less =
+    stays (painted brush (cond (has_bit_from from bits k) color Clear)) o
+    (λ c. ap (λ b. painted brush (cond (not b && mask_bit bits (k - from)) color Clear) c) (lt-ltb k from less))
+
+-- the others have the mask's bits
+pub bit_from : (from bits k j : ℕ) → k ≡ from + j → has_bit_from from bits k ≡ mask_bit bits j
+bit_from from bits k j e =
+    let not_before : nat_lt k from ≡ false = le-ltb k from (omega arith) in
+    let far : k - from ≡ j = omega arith in
+    ap (λ b. not b && mask_bit bits (k - from)) not_before ∙ ap (mask_bit bits) far

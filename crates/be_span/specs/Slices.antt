@@ -1,21 +1,25 @@
 -- What painting makes of cells side by side (the rules of colours are those of single pixels).
-use Rattle.std.specs.Prelude.{ℕ, ℤ, pos, negsuc, ◌+ℤ◌, ◌-◌, ◌%◌, ◌==◌, Bool, ◌&&◌, nat_lt}
-use Rattle.std.specs.Prelude.{if◌then◌else◌, List, Option, Some, None, slice_get, slice_index}
+use Rattle.std.specs.Prelude.{ℕ, ℤ, ◌-◌, ◌%◌, ◌==◌, Bool, true, false, ◌&&◌, nat_lt, not, List}
+use Rattle.std.specs.Prelude.{Option, Some, None, if◌then◌else◌, slice_get}
 use Rattle.std.specs.Int.{bit_at}
 use Rattle.be_color.specs.declared.colors.Color.{Color}
 use Rattle.be_color.specs.declared.colors.Color.TheVariants.{Clear}
 use Rattle.be_color.specs.declared.colors.Rgb.{Rgb}
-use Rattle.be_color.specs.declared.modes.Mode.TheVariants.{Copy}
+use Rattle.be_color.specs.declared.modes.Mode.{Mode}
+use Rattle.be_color.specs.declared.modes.Mode.TheVariants.{Copy, Over, Erase, Invert, Add, Subtract}
+use Rattle.be_color.specs.declared.modes.Mode.TheVariants.{Blend, Min, Max, Select}
 use Rattle.be_color.specs.Pattern.{place_in_pattern, pattern_bit}
 use Rattle.be_color.specs.Pixel.{picked, blended}
 use Rattle.be_span.specs.declared.Cell.{Cell}
 use Rattle.be_span.specs.declared.brush.Brush.{Brush}
-use Rattle.be_span.specs.declared.brush.Source.{Source}
-use Rattle.be_span.specs.declared.brush.Source.TheVariants.{One, Bits, Colors}
 
 -- the bit of a pattern's row at a column, of which the highest is leftmost
 abbrev pub row_bit : ℕ → ℤ → Bool
 row_bit byte x = bit_at byte (7 - place_in_pattern x) == 1
+
+-- the bit of a byte at a place, counted from the left and again from the left behind the eighth
+abbrev pub turned_bit : ℕ → ℕ → Bool
+turned_bit byte place = bit_at byte (7 - place % 8) == 1
 
 -- whether a mask has a bit for the k-th cell, of which the highest is for the first; behind the
 -- 64th there is none
@@ -27,24 +31,19 @@ abbrev pub color_or_clear : Option Color → Color
 color_or_clear (Some color) = color
 color_or_clear None = Clear
 
--- the colour that the k-th cell of a slice is painted with
-abbrev pub source_at : Brush → Source → ℕ → Color
-source_at brush (One color) k = color
-source_at brush (Bits byte column) k =
-    picked brush.mode (row_bit byte (column +ℤ pos k)) brush.high brush.low
-source_at brush (Colors colors) k = color_or_clear (slice_get colors.now k)
+-- the colour of the k-th cell, where the first of a list is for the cell at a place; a cell without
+-- one is painted with the transparent one
+abbrev pub color_from : ℕ → List Color → ℕ → Color
+color_from from colors k =
+    if nat_lt k from then Clear else color_or_clear (slice_get colors (k - from))
+
+-- whether a mask has a bit for the k-th cell, where its first is for the cell at a place
+abbrev pub has_bit_from : ℕ → ℕ → ℕ → Bool
+has_bit_from from bits k = not (nat_lt k from) && mask_bit bits (k - from)
 
 -- the colour that the bit of a pattern's rows picks at a column and a row
 abbrev pub pattern_color : Brush → List ℕ → ℤ → ℤ → Color
 pattern_color brush rows x y = picked brush.mode (pattern_bit rows x y) brush.high brush.low
-
--- the colour with which masks, one a row, paint a pixel at a column and a row, counted from the
--- first
-abbrev pub masked_color : List ℕ → Color → ℤ → ℤ → Color
-masked_color masks color (pos column) (pos row) =
-    if mask_bit (slice_index masks row) column then color else Clear
-masked_color masks color (pos column) (negsuc row) = Clear
-masked_color masks color (negsuc column) row = Clear
 
 -- a cell on which a colour was painted; its mark stays
 abbrev pub painted : Brush → Color → Cell → Cell
@@ -55,12 +54,19 @@ painted brush source c =
 abbrev pub plain : Brush
 plain = record { mode = Copy; high = Clear; low = Clear }
 
+-- the mode gives a pixel a colour whatever it had
+abbrev pub replaces : Mode → Bool
+replaces Copy = true
+replaces Over = true
+replaces Erase = false
+replaces Invert = false
+replaces Add = false
+replaces Subtract = false
+replaces Blend = false
+replaces Min = false
+replaces Max = false
+replaces Select = false
+
 -- a cell with another colour; its mark stays
 abbrev pub recolored : Rgb → Cell → Cell
 recolored rgb c = record { rgb = rgb; dirty = c.dirty }
-
--- a cell painted by the bit at a place of the byte, counted from the left and again from the left
--- behind the eighth
-abbrev pub painted_by_bit : Brush → ℕ → ℕ → Cell → Cell
-painted_by_bit brush byte place c =
-    painted brush (picked brush.mode (bit_at byte (7 - place % 8) == 1) brush.high brush.low) c

@@ -1,3 +1,6 @@
+ghost use Rattle.std.specs.Prelude.{◌≡◌};
+ghost use Rattle.be_span.specs.Slices.{replaces};
+
 use be_color::{Color, Mode};
 
 /// With what a view paints: its mode and its colours.
@@ -15,20 +18,21 @@ impl Brush {
         high: Color::Clear,
         low: Color::Clear,
     };
-}
 
-/// The colours that the cells of a row are painted with, from the left on.
-#[derive(Clone, Copy, Debug, PartialEq, Eq)]
-pub enum Source<'a> {
-    /// Each with this one.
-    One(Color),
-    /// Each with the colour that its bit picks.
-    Bits {
-        /// The row of the pattern.
-        byte: u8,
-        /// The column of the first cell, in window coordinates.
-        column: i32,
-    },
-    /// Each with its own. A cell behind those that have one stays.
-    Colors(&'a [Color]),
+    /// Whether its mode gives a pixel a colour whatever it had.
+    pub fn replaces(self) -> bool
+        ensures { result ≡ replaces self.mode }
+    {
+        match self.mode {
+            Mode::Copy | Mode::Over => true,
+            Mode::Erase
+            | Mode::Invert
+            | Mode::Add
+            | Mode::Subtract
+            | Mode::Blend
+            | Mode::Min
+            | Mode::Max
+            | Mode::Select => false,
+        }
+    }
 }

@@ -1,29 +1,25 @@
 ghost use Rattle.std.specs.Prelude.{◌≡◌, ◌<◌, ◌↔◌, ℕ, ℤ, pos, ◌+ℤ◌, ◌-ℤ◌, ◌≤ℤ◌, true, false, None};
 ghost use Rattle.std.specs.Prelude.{Some, IfOk, IfNone, IfSome, IsSome, IsTrue, All, length};
-ghost use Rattle.std.specs.Prelude.{slice_get, count_by, if◌then◌else◌};
+ghost use Rattle.std.specs.Prelude.{slice_get, count_by, ◌+◌, ◌^◌, ◌&&◌, if◌then◌else◌};
 ghost use Rattle.std.specs.Option.{option_map};
 ghost use Rattle.be_geom.specs.Rects.{rect_has};
 ghost use Rattle.be_region.specs.Regions.{region_has};
 ghost use Rattle.be_region.specs.Bands.{AreBands};
 ghost use Rattle.be_span.specs.Cells.{unmarked, exposed_cell, colored_as};
-ghost use Rattle.be_span.specs.Spans.{cell_in, is_dirty, black_cell, clean_cell, pixels_of};
+ghost use Rattle.be_span.specs.Painting.{changed, IsPainted};
 ghost use Rattle.be_span.specs.Runs.{AreRows, HasRun, IsBeside, IsInside, IsSpanOf};
-ghost use Rattle.be_span.specs.Slices.{source_at, mask_bit, masked_color, painted, pattern_color};
-ghost use Rattle.be_span.specs.Slices.{plain, recolored};
-ghost use Rattle.be_color.specs.declared.colors.Color.TheVariants.{Solid, Clear};
+ghost use Rattle.be_span.specs.Spans.{cell_in, is_dirty, black_cell, clean_cell, pixels_of};
+ghost use Rattle.be_span.specs.Spans.{area_of, place_in};
 
-use crate::brush::{Brush, Source};
+use crate::Cell;
 use crate::copy::copy_part;
 use crate::expose::expose_part;
-use crate::places::{cell_at, run_from, span_from, starts_of};
-use crate::rows::{
-    dirty_among, dirty_of, fill_marked_part, fill_part, overwrite, paint_marked_part, paint_part,
-    paint_same_part, unmark_all,
-};
+use crate::paint::{Paint, paint_rows};
+use crate::places::{cell_at, run_from, starts_of};
+use crate::rows::{dirty_among, dirty_of, overwrite, paint_part, unmark_all};
 use crate::span::Span;
-use crate::{Cell, block, masks};
-use be_color::{Color, Pattern, Rgb, pick};
-use be_geom::{NoMemory, Point, Rect};
+use be_color::{Color, Rgb};
+use be_geom::{NoMemory, Rect};
 use be_region::Region;
 use std::alloc::Global;
 use std::marker::Model;
@@ -225,210 +221,65 @@ impl SpanBuf {
         dirty_of(some, self.dirty)
     }
 
-    /// Paints the `count` pixels from (x, y) on to the right. Their marks stay.
-    pub fn paint_row(&mut self, x: i32, y: i32, count: usize, brush: Brush, source: Source<'_>)
-        requires { HasRun self.old.rects x y count }
-        ensures region { self.new.rects ≡ self.old.rects }
-        ensures painted { (k : ℕ) → k < count → cell_in self.new (x +ℤ pos k) y
-            ≡ option_map (painted brush (source_at brush source.entry k))
-            (cell_in self.old (x +ℤ pos k) y) }
-        ensures others { (z w : ℤ) → IsBeside x y count z w
-            → cell_in self.new z w ≡ cell_in self.old z w }
-        ensures marks { count_by (λ c. c.dirty) self.new.cells
-            ≡ count_by (λ c. c.dirty) self.old.cells }
-    {
-        let Some(run) = run_from(&self.region, &self.starts, x, y) else {
-            return;
-        };
-        paint_part(&mut self.cells, run.start, count, brush, source);
-    }
-
-    /// The rectangle of the region that has a pixel. None outside the region. It holds as long as
-    /// the region stays.
-    pub fn span_at(&self, x: i32, y: i32) -> Option<Span>
-        ensures none { IfNone result (region_has self.now.rects x y ≡ false) }
-        ensures some { IfSome result (λ span. IsSpanOf self.now.rects span
-            × (rect_has span.rect x y ≡ true)) }
-    {
-        span_from(&self.region, &self.starts, x, y)
-    }
-
-    /// Paints the `count` pixels from (x, y) on to the right, all of them in this span. Their marks
-    /// stay. It takes no search.
+    /// The rectangle at a place of the region, and where its cells stand. It holds as long as the
+    /// region stays.
     #[inline(always)]
-    pub fn paint_in(
-        &mut self,
-        span: Span,
-        x: i32,
-        y: i32,
-        count: usize,
-        brush: Brush,
-        source: Source<'_>,
-    )
-        requires span { IsSpanOf self.old.rects span }
-        requires left { span.rect.left ≤ℤ x }
-        requires right { (x +ℤ pos count) ≤ℤ (span.rect.right +ℤ pos 1) }
-        requires top { span.rect.top ≤ℤ y }
-        requires bottom { y ≤ℤ span.rect.bottom }
-        ensures region { self.new.rects ≡ self.old.rects }
-        ensures painted { (k : ℕ) → k < count → cell_in self.new (x +ℤ pos k) y
-            ≡ option_map (painted brush (source_at brush source.entry k))
-            (cell_in self.old (x +ℤ pos k) y) }
-        ensures others { (z w : ℤ) → IsBeside x y count z w
-            → cell_in self.new z w ≡ cell_in self.old z w }
-        ensures marks { count_by (λ c. c.dirty) self.new.cells
-            ≡ count_by (λ c. c.dirty) self.old.cells }
+    pub fn span(&self, place: usize) -> Span
+        requires { place < length self.now.rects }
+        ensures span { IsSpanOf self.now.rects result }
+        ensures rect { slice_get self.now.rects place ≡ Some result.rect }
     {
-        let cells = &mut self.cells;
-        let start = cell_at(span.rect, span.start, x, y);
-        paint_part(cells, start, count, brush, source);
+        let rect = self.region.rect_at(place).unwrap();
+        let start = self.starts[place];
+        Span { rect, start }
     }
 
-    /// Paints the pixels of a rectangle, all of them in this span, each with the colour that its
-    /// bit of the pattern picks. The pattern is laid over the screen from `origin` on. Their marks
-    /// stay. It takes no search, and where the pattern is of one colour, one choice of the mode.
-    /// Where that colour takes the place of each pixel's and no pixel is dirty, no cell is read.
-    pub fn paint_block(
-        &mut self,
-        span: Span,
-        rect: Rect,
-        brush: Brush,
-        pattern: &Pattern,
-        origin: Point,
-    )
+    /// Paints the pixels of a rectangle, all of them in this span. It takes no search.
+    #[inline(always)]
+    pub fn paint<P: Paint>(&mut self, span: Span, rect: Rect, paint: &P)
         requires span { IsSpanOf self.old.rects span }
         requires inside { IsInside rect span.rect }
-        ensures region { self.new.rects ≡ self.old.rects }
-        ensures painted { (x y : ℤ) → rect_has rect x y ≡ true → cell_in self.new x y
-            ≡ option_map (painted brush
-            (pattern_color brush pattern.now.rows (x -ℤ origin.x) (y -ℤ origin.y)))
-            (cell_in self.old x y) }
-        ensures others { (x y : ℤ) → rect_has rect x y ≡ false
-            → cell_in self.new x y ≡ cell_in self.old x y }
-        ensures marks { count_by (λ c. c.dirty) self.new.cells
-            ≡ count_by (λ c. c.dirty) self.old.cells }
+        ensures { IsPainted (P.rule paint.now) (λ x y. rect_has rect x y && P.at paint.now x y)
+            self.old self.new }
     {
-        match pattern.solid_bit() {
-            Some(bit) => {
-                let color = pick(brush.mode, bit, brush.high, brush.low);
-                block::paint_alike(self, span, rect, brush, color);
-            }
-            None => block::paint_rows(self, span, rect, brush, pattern, origin),
-        }
+        paint_rows(self, span, rect, paint);
     }
 
-    /// Gives the pixels of a rectangle, all of them in this span, a colour, whatever they had.
-    /// Their marks stay. It takes no search, and where no pixel is dirty no cell is read.
-    pub fn recolor_block(&mut self, span: Span, rect: Rect, rgb: Rgb)
-        requires span { IsSpanOf self.old.rects span }
-        requires inside { IsInside rect span.rect }
-        ensures region { self.new.rects ≡ self.old.rects }
-        ensures painted { (x y : ℤ) → rect_has rect x y ≡ true → cell_in self.new x y
-            ≡ option_map (recolored rgb) (cell_in self.old x y) }
-        ensures others { (x y : ℤ) → rect_has rect x y ≡ false
-            → cell_in self.new x y ≡ cell_in self.old x y }
-        ensures marks { count_by (λ c. c.dirty) self.new.cells
-            ≡ count_by (λ c. c.dirty) self.old.cells }
-    {
-        block::recolor(self, span, rect, rgb);
-    }
-
-    /// Paints those pixels of a rectangle, all of them in this span, whose bit of their row's mask
-    /// is set, with the same colour. The highest bit is the leftmost column's, and columns behind
-    /// the 64th have none. Their marks stay. It takes no search, one choice of the mode, and a few
-    /// steps for each row and each set bit. In Copy and in Over no cell is read where no pixel is
-    /// dirty.
-    pub fn paint_masks(&mut self, span: Span, rect: Rect, brush: Brush, color: Color, masks: &[u64])
-        requires span { IsSpanOf self.old.rects span }
-        requires inside { IsInside rect span.rect }
-        requires rows { pos (length masks.now) ≡ rect.bottom -ℤ rect.top +ℤ pos 1 }
-        ensures region { self.new.rects ≡ self.old.rects }
-        ensures painted { (x y : ℤ) → rect_has rect x y ≡ true → cell_in self.new x y
-            ≡ option_map (painted brush
-            (masked_color masks.now color (x -ℤ rect.left) (y -ℤ rect.top)))
-            (cell_in self.old x y) }
-        ensures others { (x y : ℤ) → rect_has rect x y ≡ false
-            → cell_in self.new x y ≡ cell_in self.old x y }
-        ensures marks { count_by (λ c. c.dirty) self.new.cells
-            ≡ count_by (λ c. c.dirty) self.old.cells }
-    {
-        masks::paint_marked_rows(self, span, rect, brush, color, masks);
-    }
-
-    /// Paints the `count` pixels from (x, y) on to the right, all of them in this span, with the
-    /// same colour. Each caller has a loop of its own, for its mode.
+    /// Where the cell of a pixel stands, which is in this span.
     #[inline(always)]
-    pub(crate) fn paint_same(
+    pub(crate) fn place_in(&self, span: Span, x: i32, y: i32) -> usize
+        requires span { IsSpanOf self.now.rects span }
+        requires inside { rect_has span.rect x y ≡ true }
+        ensures place { result ≡ span.start + place_in span.rect x y }
+        ensures fits { span.start + area_of span.rect < 2 ^ 63 }
+    {
+        let _cells = &self.cells;
+        cell_at(span.rect, span.start, x, y)
+    }
+
+    /// Paints the `count` pixels from (x, y) on to the right, all of them in this span, whose cells
+    /// begin at a place.
+    #[inline(always)]
+    pub(crate) fn paint_run<P: Paint>(
         &mut self,
         span: Span,
+        start: usize,
+        count: usize,
         x: i32,
         y: i32,
-        count: usize,
-        brush: Brush,
-        source: Rgb,
+        paint: &P,
+        clean: bool,
     )
         requires span { IsSpanOf self.old.rects span }
         requires left { span.rect.left ≤ℤ x }
         requires right { (x +ℤ pos count) ≤ℤ (span.rect.right +ℤ pos 1) }
         requires top { span.rect.top ≤ℤ y }
         requires bottom { y ≤ℤ span.rect.bottom }
+        requires start { start ≡ span.start + place_in span.rect x y }
+        requires clean { clean ≡ true → count_by (λ c. c.dirty) self.old.cells ≡ 0 }
         ensures region { self.new.rects ≡ self.old.rects }
         ensures painted { (k : ℕ) → k < count → cell_in self.new (x +ℤ pos k) y
-            ≡ option_map (painted brush (Solid source)) (cell_in self.old (x +ℤ pos k) y) }
-        ensures others { (z w : ℤ) → IsBeside x y count z w
-            → cell_in self.new z w ≡ cell_in self.old z w }
-        ensures marks { count_by (λ c. c.dirty) self.new.cells
-            ≡ count_by (λ c. c.dirty) self.old.cells }
-    {
-        let cells = &mut self.cells;
-        let first = cell_at(span.rect, span.start, x, y);
-        paint_same_part(cells, first, count, brush, source);
-    }
-
-    /// Gives the `count` pixels from (x, y) on to the right, all of them in this span, a colour,
-    /// where no pixel is dirty. No cell is read, and it takes no search.
-    #[inline(always)]
-    pub fn fill_clean(&mut self, span: Span, x: i32, y: i32, count: usize, rgb: Rgb)
-        requires span { IsSpanOf self.old.rects span }
-        requires left { span.rect.left ≤ℤ x }
-        requires right { (x +ℤ pos count) ≤ℤ (span.rect.right +ℤ pos 1) }
-        requires top { span.rect.top ≤ℤ y }
-        requires bottom { y ≤ℤ span.rect.bottom }
-        requires clean { count_by (λ c. c.dirty) self.old.cells ≡ 0 }
-        ensures region { self.new.rects ≡ self.old.rects }
-        ensures painted { (k : ℕ) → k < count → cell_in self.new (x +ℤ pos k) y
-            ≡ option_map (recolored rgb) (cell_in self.old (x +ℤ pos k) y) }
-        ensures others { (z w : ℤ) → IsBeside x y count z w
-            → cell_in self.new z w ≡ cell_in self.old z w }
-        ensures marks { count_by (λ c. c.dirty) self.new.cells
-            ≡ count_by (λ c. c.dirty) self.old.cells }
-    {
-        let cells = &mut self.cells;
-        let first = cell_at(span.rect, span.start, x, y);
-        fill_part(cells, first, count, rgb);
-    }
-
-    /// Paints those of the `count` pixels from (x, y) on to the right, all of them in this span,
-    /// whose bit of the mask is set. Each caller has a loop of its own, for its mode.
-    #[inline(always)]
-    pub(crate) fn paint_marked(
-        &mut self,
-        span: Span,
-        x: i32,
-        y: i32,
-        count: usize,
-        brush: Brush,
-        source: Rgb,
-        mask: u64,
-    )
-        requires span { IsSpanOf self.old.rects span }
-        requires left { span.rect.left ≤ℤ x }
-        requires right { (x +ℤ pos count) ≤ℤ (span.rect.right +ℤ pos 1) }
-        requires top { span.rect.top ≤ℤ y }
-        requires bottom { y ≤ℤ span.rect.bottom }
-        ensures region { self.new.rects ≡ self.old.rects }
-        ensures painted { (k : ℕ) → k < count → cell_in self.new (x +ℤ pos k) y
-            ≡ option_map (painted brush (if mask_bit mask k then Solid source else Clear))
+            ≡ option_map (changed (P.rule paint.now) (P.at paint.now) (x +ℤ pos k) y)
             (cell_in self.old (x +ℤ pos k) y) }
         ensures others { (z w : ℤ) → IsBeside x y count z w
             → cell_in self.new z w ≡ cell_in self.old z w }
@@ -436,40 +287,7 @@ impl SpanBuf {
             ≡ count_by (λ c. c.dirty) self.old.cells }
     {
         let cells = &mut self.cells;
-        let first = cell_at(span.rect, span.start, x, y);
-        paint_marked_part(cells, first, count, brush, source, mask);
-    }
-
-    /// Gives those of the `count` pixels from (x, y) on to the right, all of them in this span,
-    /// whose bit of the mask is set a colour, where no pixel is dirty. No cell is read.
-    #[inline(always)]
-    pub(crate) fn fill_marked(
-        &mut self,
-        span: Span,
-        x: i32,
-        y: i32,
-        count: usize,
-        rgb: Rgb,
-        mask: u64,
-    )
-        requires span { IsSpanOf self.old.rects span }
-        requires left { span.rect.left ≤ℤ x }
-        requires right { (x +ℤ pos count) ≤ℤ (span.rect.right +ℤ pos 1) }
-        requires top { span.rect.top ≤ℤ y }
-        requires bottom { y ≤ℤ span.rect.bottom }
-        requires clean { count_by (λ c. c.dirty) self.old.cells ≡ 0 }
-        ensures region { self.new.rects ≡ self.old.rects }
-        ensures painted { (k : ℕ) → k < count → cell_in self.new (x +ℤ pos k) y
-            ≡ option_map (painted plain (if mask_bit mask k then Solid rgb else Clear))
-            (cell_in self.old (x +ℤ pos k) y) }
-        ensures others { (z w : ℤ) → IsBeside x y count z w
-            → cell_in self.new z w ≡ cell_in self.old z w }
-        ensures marks { count_by (λ c. c.dirty) self.new.cells
-            ≡ count_by (λ c. c.dirty) self.old.cells }
-    {
-        let cells = &mut self.cells;
-        let first = cell_at(span.rect, span.start, x, y);
-        fill_marked_part(cells, first, count, rgb, mask);
+        paint_part(cells, start, count, x, y, paint, clean);
     }
 
     /// Exposes the `count` pixels from (x, y) on to the right: each gets the colour, or keeps its

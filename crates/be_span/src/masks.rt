@@ -1,146 +1,87 @@
-ghost use Rattle.std.specs.Prelude.{◌≡◌, ℤ, pos, ◌+ℤ◌, ◌-ℤ◌, true, false, length, count_by};
+ghost use Rattle.std.specs.Prelude.{◌≡◌, ℕ, true, false, slice_get, count_by, if◌then◌else◌};
 ghost use Rattle.std.specs.Option.{option_map};
-ghost use Rattle.be_geom.specs.Rects.{rect_has};
-ghost use Rattle.be_color.specs.declared.colors.Color.TheVariants.{Solid};
-ghost use Rattle.be_span.specs.Spans.{cell_in};
-ghost use Rattle.be_span.specs.Runs.{IsInside, IsSpanOf};
-ghost use Rattle.be_span.specs.Slices.{painted, masked_color, plain};
+ghost use Rattle.be_color.specs.declared.colors.Color.TheVariants.{Solid, Clear};
+ghost use Rattle.be_span.specs.Slices.{has_bit_from, mask_bit, painted, plain};
 
+use crate::Cell;
 use crate::brush::Brush;
-use crate::buffer::SpanBuf;
-use crate::places::width_of;
-use crate::span::Span;
-use be_color::{Color, Mode, Rgb};
-use be_geom::Rect;
+use crate::cells::painted;
+use be_color::{Color, Rgb};
 
-/// Paints those pixels of a rectangle, all of them in this span, whose bit of their row's mask is
-/// set, with the same colour.
-pub(crate) fn paint_marked_rows(
-    spans: &mut SpanBuf,
-    span: Span,
-    rect: Rect,
+/// Paints each cell whose bit of the mask is set with a colour. The highest bit is for the cell at
+/// `from`, and cells behind its 64th have none. It takes a few steps for each set bit. In Copy and
+/// in Over no cell is read where it is told that none is dirty.
+#[inline(always)]
+pub fn paint_marked(
+    cells: &mut [Cell],
+    from: usize,
     brush: Brush,
     color: Color,
-    masks: &[u64],
+    mask: u64,
+    clean: bool,
 )
-    requires span { IsSpanOf spans.old.rects span }
-    requires inside { IsInside rect span.rect }
-    requires rows { pos (length masks.now) ≡ rect.bottom -ℤ rect.top +ℤ pos 1 }
-    ensures region { spans.new.rects ≡ spans.old.rects }
-    ensures painted { (x y : ℤ) → rect_has rect x y ≡ true → cell_in spans.new x y
-        ≡ option_map (painted brush
-        (masked_color masks.now color (x -ℤ rect.left) (y -ℤ rect.top))) (cell_in spans.old x y) }
-    ensures others { (x y : ℤ) → rect_has rect x y ≡ false
-        → cell_in spans.new x y ≡ cell_in spans.old x y }
-    ensures marks { count_by (λ c. c.dirty) spans.new.cells
-        ≡ count_by (λ c. c.dirty) spans.old.cells }
+    requires { clean ≡ true → count_by (λ c. c.dirty) cells.old ≡ 0 }
+    ensures cells { (k : ℕ) → slice_get cells.new k
+        ≡ option_map (painted brush (if has_bit_from from mask k then color else Clear))
+        (slice_get cells.old k) }
+    ensures marks { count_by (λ c. c.dirty) cells.new ≡ count_by (λ c. c.dirty) cells.old }
 {
-    let source = match color {
-        Color::Solid(rgb) => rgb,
-        Color::Clear => return,
-    };
-    let Brush { mode, high, low } = brush;
-    match mode {
-        Mode::Copy | Mode::Over => recolor_marked_rows(spans, span, rect, source, masks),
-        Mode::Erase => marked_rows(spans, span, rect, Mode::Erase, source, high, low, masks),
-        Mode::Invert => marked_rows(spans, span, rect, Mode::Invert, source, high, low, masks),
-        Mode::Add => marked_rows(spans, span, rect, Mode::Add, source, high, low, masks),
-        Mode::Subtract => marked_rows(spans, span, rect, Mode::Subtract, source, high, low, masks),
-        Mode::Blend => marked_rows(spans, span, rect, Mode::Blend, source, high, low, masks),
-        Mode::Min => marked_rows(spans, span, rect, Mode::Min, source, high, low, masks),
-        Mode::Max => marked_rows(spans, span, rect, Mode::Max, source, high, low, masks),
-        Mode::Select => marked_rows(spans, span, rect, Mode::Select, source, high, low, masks),
+    if let Color::Solid(rgb) = color {
+        if from < cells.len() {
+            mark_each(&mut cells[from..], brush, rgb, mask, clean);
+        }
     }
 }
 
-/// Gives those pixels of a rectangle, all of them in this span, whose bit of their row's mask is
-/// set, a colour, whatever they had.
-fn recolor_marked_rows(spans: &mut SpanBuf, span: Span, rect: Rect, rgb: Rgb, masks: &[u64])
-    requires span { IsSpanOf spans.old.rects span }
-    requires inside { IsInside rect span.rect }
-    requires rows { pos (length masks.now) ≡ rect.bottom -ℤ rect.top +ℤ pos 1 }
-    ensures region { spans.new.rects ≡ spans.old.rects }
-    ensures painted { (x y : ℤ) → rect_has rect x y ≡ true → cell_in spans.new x y
-        ≡ option_map (painted plain
-        (masked_color masks.now (Solid rgb) (x -ℤ rect.left) (y -ℤ rect.top)))
-        (cell_in spans.old x y) }
-    ensures others { (x y : ℤ) → rect_has rect x y ≡ false
-        → cell_in spans.new x y ≡ cell_in spans.old x y }
-    ensures marks { count_by (λ c. c.dirty) spans.new.cells
-        ≡ count_by (λ c. c.dirty) spans.old.cells }
-{
-    if spans.is_clean() {
-        plain_marked_rows(spans, span, rect, rgb, masks);
-    } else {
-        marked_rows(
-            spans,
-            span,
-            rect,
-            Mode::Copy,
-            rgb,
-            Color::Clear,
-            Color::Clear,
-            masks,
-        );
-    }
-}
-
-/// The same where no pixel is dirty. No cell is read.
-fn plain_marked_rows(spans: &mut SpanBuf, span: Span, rect: Rect, rgb: Rgb, masks: &[u64])
-    requires span { IsSpanOf spans.old.rects span }
-    requires inside { IsInside rect span.rect }
-    requires rows { pos (length masks.now) ≡ rect.bottom -ℤ rect.top +ℤ pos 1 }
-    requires clean { count_by (λ c. c.dirty) spans.old.cells ≡ 0 }
-    ensures region { spans.new.rects ≡ spans.old.rects }
-    ensures painted { (x y : ℤ) → rect_has rect x y ≡ true → cell_in spans.new x y
-        ≡ option_map (painted plain
-        (masked_color masks.now (Solid rgb) (x -ℤ rect.left) (y -ℤ rect.top)))
-        (cell_in spans.old x y) }
-    ensures others { (x y : ℤ) → rect_has rect x y ≡ false
-        → cell_in spans.new x y ≡ cell_in spans.old x y }
-    ensures marks { count_by (λ c. c.dirty) spans.new.cells
-        ≡ count_by (λ c. c.dirty) spans.old.cells }
-{
-    let left = i32::from(rect.left);
-    let count = width_of(rect);
-    let mut y = i32::from(rect.top);
-    for mask in masks {
-        spans.fill_marked(span, left, y, count, rgb, *mask);
-        y += 1;
-    }
-}
-
-/// The same as `paint_marked_rows` in a mode. Each caller has a loop of its own, for its mode.
+/// The same with a colour that isn't transparent, from the first cell on.
 #[inline(always)]
-fn marked_rows(
-    spans: &mut SpanBuf,
-    span: Span,
-    rect: Rect,
-    mode: Mode,
-    source: Rgb,
-    high: Color,
-    low: Color,
-    masks: &[u64],
-)
-    requires span { IsSpanOf spans.old.rects span }
-    requires inside { IsInside rect span.rect }
-    requires rows { pos (length masks.now) ≡ rect.bottom -ℤ rect.top +ℤ pos 1 }
-    ensures region { spans.new.rects ≡ spans.old.rects }
-    ensures painted { (x y : ℤ) → rect_has rect x y ≡ true → cell_in spans.new x y
-        ≡ option_map (painted record { mode = mode; high = high; low = low }
-        (masked_color masks.now (Solid source) (x -ℤ rect.left) (y -ℤ rect.top)))
-        (cell_in spans.old x y) }
-    ensures others { (x y : ℤ) → rect_has rect x y ≡ false
-        → cell_in spans.new x y ≡ cell_in spans.old x y }
-    ensures marks { count_by (λ c. c.dirty) spans.new.cells
-        ≡ count_by (λ c. c.dirty) spans.old.cells }
+fn mark_each(cells: &mut [Cell], brush: Brush, rgb: Rgb, mask: u64, clean: bool)
+    requires { clean ≡ true → count_by (λ c. c.dirty) cells.old ≡ 0 }
+    ensures cells { (k : ℕ) → slice_get cells.new k
+        ≡ option_map (painted brush (if mask_bit mask k then Solid rgb else Clear))
+        (slice_get cells.old k) }
+    ensures marks { count_by (λ c. c.dirty) cells.new ≡ count_by (λ c. c.dirty) cells.old }
 {
-    let brush = Brush { mode, high, low };
-    let left = i32::from(rect.left);
-    let count = width_of(rect);
-    let mut y = i32::from(rect.top);
-    for mask in masks {
-        spans.paint_marked(span, left, y, count, brush, source, *mask);
-        y += 1;
+    if clean && brush.replaces() {
+        put_each(cells, mask, Cell { rgb, dirty: false });
+    } else {
+        paint_each(cells, brush, rgb, mask);
+    }
+}
+
+/// The same, from the last set bit to the first.
+fn paint_each(cells: &mut [Cell], brush: Brush, rgb: Rgb, mask: u64)
+    ensures { (k : ℕ) → slice_get cells.new k
+        ≡ option_map (painted brush (if mask_bit mask k then Solid rgb else Clear))
+        (slice_get cells.old k) }
+{
+    let Brush { mode, high, low } = brush;
+    let mut rest = mask;
+    'bits: while rest != 0 {
+        let place = 63 - rest.trailing_zeros() as usize;
+        if place < cells.len() {
+            cells[place] = painted(cells[place], mode, rgb, high, low);
+        }
+        rest &= rest - 1;
+    }
+}
+
+/// Puts a clean cell in the place of each whose bit is set, where no cell is dirty. The new one is
+/// stored as a whole.
+#[inline(always)]
+fn put_each(cells: &mut [Cell], mask: u64, cell: Cell)
+    requires new { cell.dirty ≡ false }
+    requires clean { count_by (λ c. c.dirty) cells.old ≡ 0 }
+    ensures { (k : ℕ) → slice_get cells.new k
+        ≡ option_map (painted plain (if mask_bit mask k then Solid cell.rgb else Clear))
+        (slice_get cells.old k) }
+{
+    let mut rest = mask;
+    'bits: while rest != 0 {
+        let place = 63 - rest.trailing_zeros() as usize;
+        if place < cells.len() {
+            cells[place] = cell;
+        }
+        rest &= rest - 1;
     }
 }

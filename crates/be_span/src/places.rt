@@ -1,12 +1,10 @@
 ghost use Rattle.std.specs.Prelude.{◌≡◌, ◌<◌, ◌≤ℤ◌, ◌+ℤ◌, ◌-ℤ◌, ◌+◌, pos, unsigned_abs, ℕ, ◌^◌};
-ghost use Rattle.std.specs.Prelude.{true, false, length, take, slice_index, IfNone, IfSome, IfOk};
-ghost use Rattle.be_geom.specs.Rects.{rect_has};
+ghost use Rattle.std.specs.Prelude.{false, length, take, slice_index, IfNone, IfSome, IfOk};
 ghost use Rattle.be_region.specs.Bands.{AreBands};
 ghost use Rattle.be_region.specs.Regions.{region_has};
 ghost use Rattle.be_span.specs.Spans.{pixels_of, place_in, width_of, height_of, area_of};
-ghost use Rattle.be_span.specs.Runs.{IsRunFrom, IsSpanOf};
+ghost use Rattle.be_span.specs.Runs.{IsRunFrom};
 
-use crate::span::Span;
 use be_geom::{NoMemory, Rect};
 use be_region::Region;
 use std::alloc::Global;
@@ -34,26 +32,8 @@ pub(crate) fn run_from(region: &Region, starts: &[usize], x: i32, y: i32) -> Opt
     Some(run_in(rect, starts[place], x, y))
 }
 
-/// The rectangle that has the pixel. None outside the region.
-pub(crate) fn span_from(region: &Region, starts: &[usize], x: i32, y: i32) -> Option<Span>
-    requires each { length starts.now ≡ length region.now }
-    requires before { (k : ℕ) → k < length region.now
-        → slice_index starts.now k ≡ pixels_of (take k region.now) }
-    ensures none { IfNone result (region_has region.now x y ≡ false) }
-    ensures some { IfSome result (λ span. IsSpanOf region.now span
-        × (rect_has span.rect x y ≡ true)) }
-{
-    let Some(place) = region.span_at(x, y) else {
-        return None;
-    };
-    let rect = region.rect_at(place).unwrap();
-    Some(Span {
-        rect,
-        start: starts[place],
-    })
-}
-
-/// The same in the rectangle that has the pixel, before whose cells there are `start` others.
+/// The cells from the pixel on to the end of its row of a rectangle, before whose cells there are
+/// `start` others.
 fn run_in(rect: Rect, start: usize, x: i32, y: i32) -> Run
     requires from_left { rect.left ≤ℤ x }
     requires to_right { x ≤ℤ rect.right }

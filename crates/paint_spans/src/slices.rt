@@ -1,10 +1,6 @@
-ghost use Rattle.std.specs.Prelude.{◌≡◌, ℕ, slice_get};
-ghost use Rattle.std.specs.Option.{option_map};
-ghost use Rattle.be_span.specs.Slices.{painted, source_at};
-
 use be_color::{Color, Mode, Rgb};
 use be_geom::NoMemory;
-use be_span::{Brush, Cell, Source, paint_cells};
+use be_span::{Brush, Cell, paint_alike, paint_bits};
 use std::alloc::Global;
 
 /// How many cells the slice has.
@@ -36,7 +32,7 @@ pub fn mode_rounds(alloc: Global, mode: Mode, rounds: u32) -> Result<usize, NoMe
     let mut cells = vec![in alloc; GREY; CELLS]?;
     let brush = brush_of(mode);
     for _round in 0..rounds {
-        paint(&mut cells, brush, Source::One(brush.high));
+        paint_alike(&mut cells, brush, brush.high);
     }
     Ok(cells.len())
 }
@@ -45,19 +41,8 @@ pub fn mode_rounds(alloc: Global, mode: Mode, rounds: u32) -> Result<usize, NoMe
 pub fn bit_rounds(alloc: Global, rounds: u32) -> Result<usize, NoMemory> {
     let mut cells = vec![in alloc; GREY; CELLS]?;
     let brush = brush_of(Mode::Copy);
-    let source = Source::Bits {
-        byte: 0xa5,
-        column: 3,
-    };
     for _round in 0..rounds {
-        paint(&mut cells, brush, source);
+        paint_bits(&mut cells, brush, 0xa5, 3, false);
     }
     Ok(cells.len())
-}
-
-fn paint(cells: &mut [Cell], brush: Brush, source: Source<'_>)
-    ensures { (k : ℕ) → slice_get cells.new k
-        ≡ option_map (painted brush (source_at brush source.entry k)) (slice_get cells.old k) }
-{
-    paint_cells(cells, brush, source);
 }

@@ -1,10 +1,10 @@
 ghost use Rattle.std.specs.Prelude.{◌≡◌, ℤ, ◌-ℤ◌, ◌≤ℤ◌, pos};
 ghost use Rattle.be_span.specs.Spans.{cell_in, laid};
 
-use be_color::{Color, Mode, Rgb};
+use be_color::Rgb;
 use be_geom::{NoMemory, Rect};
 use be_region::Region;
-use be_span::{Brush, Source, SpanBuf};
+use be_span::{Fill, SpanBuf};
 use std::alloc::Global;
 
 /// A window of 1,000 by 700 pixels from this column on.
@@ -23,28 +23,25 @@ fn window(alloc: Global, left: i16) -> Result<Region, NoMemory>
     )
 }
 
-/// Fills a window row by row.
+/// Fills a window.
 pub fn fill_rounds(alloc: Global, rounds: u32) -> Result<usize, NoMemory> {
     let mut whole = SpanBuf::prepare(alloc, window(alloc, 0)?)?;
     for _round in 0..rounds {
-        for y in 0..700 {
-            fill_row(&mut whole, y);
-        }
+        fill(&mut whole);
     }
     Ok(700_000)
 }
 
-/// Fills what is left of a row from column 0 on.
-fn fill_row(spans: &mut SpanBuf, y: i32)
-    ensures { spans.new.rects ≡ spans.old.rects }
-{
-    let count = spans.row_from(0, y).len();
-    let brush = Brush {
-        mode: Mode::Copy,
-        high: Color::Solid(Rgb::WHITE),
-        low: Color::Clear,
-    };
-    spans.paint_row(0, y, count, brush, Source::One(brush.high));
+/// Fills the first rectangle of a buffer.
+fn fill(spans: &mut SpanBuf) {
+    if spans.region().count() == 0 {
+        return;
+    }
+    let span = spans.span(0);
+    let rect = span.rect();
+    if rect.left <= rect.right && rect.top <= rect.bottom {
+        spans.paint(span, rect, &Fill { rgb: Rgb::WHITE });
+    }
 }
 
 /// Moves a window by a pixel, to and fro.

@@ -1,14 +1,14 @@
 use be_bitmap::Bitmap;
 use be_color::{Color, Mode, Pattern, Rgb};
 use be_descent::{
-    Coat, Fill, Image, Letters, Reach, Way, marks_stay, paint_bands, paint_image, paint_letters,
+    Coat, Image, Ink, Letters, Reach, Way, marks_stay, paint_bands, paint_image, paint_letters,
     paint_line,
 };
 use be_follow::{Across, Down, Follow};
 use be_geom::{NoMemory, Point, Rect};
 use be_region::Region;
 use be_shape::{PenSize, Raster};
-use be_span::{Brush, Cell, SpanBuf};
+use be_span::{Brush, Cell, Fill, SpanBuf};
 use be_state::{State, StateStack};
 use be_views::ViewTree;
 use std::alloc::Global;
@@ -146,7 +146,7 @@ fn a_root_draws_beside_its_children(rt: HostRuntime) -> Result<(), Fail> {
     let all = Raster::Fill(ALL);
     for picture in ["#######.../#........./#........./#.......--/#.......--/########--"] {
         let mut spans = pixels(rt.alloc())?;
-        paint_bands(&mut spans, &all, HERE, &reach, &FILL);
+        paint_bands(&mut spans, &all, HERE, &reach, &Ink { paint: &FILL });
         check(&rt, &spans, picture);
     }
     Ok(())
@@ -163,7 +163,7 @@ fn a_child_draws_in_its_frame(rt: HostRuntime) -> Result<(), Fail> {
     let all = Raster::Fill(ALL);
     for picture in ["........../........../...##...../...##...--/........--/........--"] {
         let mut spans = pixels(rt.alloc())?;
-        paint_bands(&mut spans, &all, HERE, &reach, &FILL);
+        paint_bands(&mut spans, &all, HERE, &reach, &Ink { paint: &FILL });
         check(&rt, &spans, picture);
     }
     marks_stay();
@@ -197,7 +197,7 @@ fn each_clip_holds_drawing_back(rt: HostRuntime) -> Result<(), Fail> {
     let all = Raster::Fill(ALL);
     for picture in ["........../........../..#..##.../..#..##.--/..##.##.--/........--"] {
         let mut spans = pixels(rt.alloc())?;
-        paint_bands(&mut spans, &all, HERE, &reach, &FILL);
+        paint_bands(&mut spans, &all, HERE, &reach, &Ink { paint: &FILL });
         check(&rt, &spans, picture);
     }
     Ok(())
@@ -216,7 +216,7 @@ fn an_update_is_drawn_where_it_is_open(rt: HostRuntime) -> Result<(), Fail> {
     let all = Raster::Fill(ALL);
     for picture in ["........../..####..../..#..#..../..#..#..--/......##--/........--"] {
         let mut spans = pixels(rt.alloc())?;
-        paint_bands(&mut spans, &all, HERE, &reach, &FILL);
+        paint_bands(&mut spans, &all, HERE, &reach, &Ink { paint: &FILL });
         check(&rt, &spans, picture);
     }
     Ok(())
@@ -243,7 +243,7 @@ fn a_pattern_begins_at_the_window(rt: HostRuntime) -> Result<(), Fail> {
     let all = Raster::Fill(ALL);
     for picture in ["........../.#o#o#o.../.o#..o#.../.#o..#o#--/.o#o#o#o--/........--"] {
         let mut spans = pixels(rt.alloc())?;
-        paint_bands(&mut spans, &all, HERE, &reach, &COAT);
+        paint_bands(&mut spans, &all, HERE, &reach, &Ink { paint: &COAT });
         check(&rt, &spans, picture);
     }
     Ok(())
@@ -266,7 +266,7 @@ fn letters_are_where_bits_are(rt: HostRuntime) -> Result<(), Fail> {
     };
     for picture in ["........../..#.##..../..#......./..#..###--/........--/........--"] {
         let mut spans = pixels(rt.alloc())?;
-        paint_bands(&mut spans, &all, HERE, &reach, &letters);
+        paint_bands(&mut spans, &all, HERE, &reach, &Ink { paint: &letters });
         check(&rt, &spans, picture);
         let mut spans = pixels(rt.alloc())?;
         paint_letters(&mut spans, ALL, &letters, &reach);
@@ -295,7 +295,7 @@ fn a_clear_pixel_of_a_picture_stays(rt: HostRuntime) -> Result<(), Fail> {
     };
     for picture in ["........../........../.#...#..../........--/........--/........--"] {
         let mut spans = pixels(rt.alloc())?;
-        paint_bands(&mut spans, &all, HERE, &reach, &image);
+        paint_bands(&mut spans, &all, HERE, &reach, &Ink { paint: &image });
         check(&rt, &spans, picture);
         let mut spans = pixels(rt.alloc())?;
         paint_image(&mut spans, &image, &reach);
@@ -343,7 +343,7 @@ fn shapes_are_painted_by_parts(rt: HostRuntime) -> Result<(), Fail> {
         ),
     ] {
         let mut spans = pixels(rt.alloc())?;
-        paint_bands(&mut spans, &shape, HERE, &reach, &FILL);
+        paint_bands(&mut spans, &shape, HERE, &reach, &Ink { paint: &FILL });
         check(&rt, &spans, picture);
     }
     for (ends, size, picture) in &LINES {

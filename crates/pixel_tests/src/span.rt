@@ -1,7 +1,7 @@
 use be_color::{Color, Mode, Rgb};
 use be_geom::{NoMemory, Rect};
 use be_region::Region;
-use be_span::{Brush, Cell, Source, SpanBuf, paint_cells};
+use be_span::{Brush, Cell, SpanBuf, paint_alike, paint_bits, paint_colors, paint_marked};
 use std::alloc::Global;
 use std::process::Abort;
 use std::test::Fail;
@@ -234,18 +234,6 @@ const PAINTED: [(Mode, u8, u8, u8); 10] = [
     (Mode::Select, 200, 10, 255),
 ];
 
-/// Three dirty cells of a row, of which the second and the third were painted in a mode.
-fn painted(rt: &(impl Abort + Alloc<A = Global>), mode: Mode) -> Result<SpanBuf, NoMemory> {
-    let mut spans = black_spans(rt.alloc(), &[row(0, 2, 0)])?;
-    for x in 0..3 {
-        same!(rt; spans.set(x, 0, dirty(200, 10, 255)), true);
-    }
-    let count = spans.row_from(1, 0).len();
-    let source = Source::One(Color::Solid(rgb(100, 20, 254)));
-    spans.paint_row(1, 0, count, brush_of(mode), source);
-    Ok(spans)
-}
-
 fn dirty(red: u8, green: u8, blue: u8) -> Cell {
     Cell {
         rgb: rgb(red, green, blue),
@@ -254,19 +242,22 @@ fn dirty(red: u8, green: u8, blue: u8) -> Cell {
 }
 
 #[test]
-fn each_mode_paints_a_row(rt: HostRuntime) -> Result<(), Fail> {
+fn each_mode_paints_cells(rt: HostRuntime) {
     for (mode, red, green, blue) in &PAINTED {
-        let spans = painted(&rt, *mode)?;
-        let new = Some(dirty(*red, *green, *blue));
-        same!(rt; spans.get(0, 0), Some(dirty(200, 10, 255)), *mode);
-        same!(rt; (spans.get(1, 0), spans.get(2, 0)), (new, new), *mode);
-        same!(rt; spans.dirty_count(), 3, *mode);
+        let old = dirty(200, 10, 255);
+        let mut cells = [old; 3];
+        paint_alike(
+            &mut cells[1..],
+            brush_of(*mode),
+            Color::Solid(rgb(100, 20, 254)),
+        );
+        let new = dirty(*red, *green, *blue);
+        same!(rt; cells, [old, new, new], *mode);
     }
-    Ok(())
 }
 
 #[test]
-fn bits_pick_the_colors_of_a_row(rt: HostRuntime) {
+fn bits_pick_the_colors_of_cells(rt: HostRuntime) {
     for (mode, byte, column, due) in [
         (Mode::Copy, 0xa0, 7, [LOW, HIGH, LOW, HIGH]),
         (Mode::Copy, 0xa0, -1, [LOW, HIGH, LOW, HIGH]),
@@ -279,8 +270,46 @@ fn bits_pick_the_colors_of_a_row(rt: HostRuntime) {
         (Mode::Min, 0x0f, i32::MIN, [Rgb::WHITE; 4]),
     ] {
         let mut cells = [WHITE; 4];
-        paint_cells(&mut cells, brush_of(mode), Source::Bits { byte, column });
+        paint_bits(&mut cells, brush_of(mode), byte, column, true);
         let [a, b, c, d] = cells;
         same!(rt; [a.rgb, b.rgb, c.rgb, d.rgb], due, (byte, mode));
+        let mut cells = [WHITE; 4];
+        paint_bits(&mut cells, brush_of(mode), byte, column, false);
+        let [a, b, c, d] = cells;
+        same!(rt; [a.rgb, b.rgb, c.rgb, d.rgb], due, (byte, mode));
+    }
+}
+
+#[test]
+fn bits_come_again_behind_the_eighth_cell(rt: HostRuntime) {
+    let mut cells = [WHITE; 11];
+    paint_bits(&mut cells, brush_of(Mode::Copy), 0xa1, 2, true);
+    let [a, b, c, d, e, f, g, h, i, j, k] = cells;
+    // The bits of the byte from the left are 1 0 1 0 0 0 0 1, and the first cell has the third.
+    same!(rt; [a.rgb, b.rgb, c.rgb, d.rgb], [HIGH, LOW, LOW, LOW]);
+    same!(rt; [e.rgb, f.rgb, g.rgb, h.rgb], [LOW, HIGH, HIGH, LOW]);
+    same!(rt; [i.rgb, j.rgb, k.rgb], [HIGH, LOW, LOW]);
+}
+
+#[test]
+fn colors_and_bits_begin_at_a_cell(rt: HostRuntime) {
+    let colors = [Color::Solid(LOW), Color::Clear, Color::Solid(HIGH)];
+    let mut cells = [WHITE; 4];
+    paint_colors(&mut cells, 1, brush_of(Mode::Copy), &colors);
+    let [a, b, c, d] = cells;
+    same!(rt; [a.rgb, b.rgb, c.rgb, d.rgb], [Rgb::WHITE, LOW, Rgb::WHITE, HIGH]);
+    for clean in [true, false] {
+        let mut cells = [WHITE; 4];
+        let mask = 0xa000_0000_0000_0000;
+        paint_marked(
+            &mut cells,
+            1,
+            brush_of(Mode::Copy),
+            Color::Solid(LOW),
+            mask,
+            clean,
+        );
+        let [a, b, c, d] = cells;
+        same!(rt; [a.rgb, b.rgb, c.rgb, d.rgb], [Rgb::WHITE, LOW, Rgb::WHITE, LOW], clean);
     }
 }

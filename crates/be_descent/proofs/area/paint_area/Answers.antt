@@ -1,44 +1,27 @@
-use Rattle.std.proofs.Common.{List, ◌∙◌, SFits, w16, w32, rules, subst}
-use Rattle.std.proofs.lemmas.Int.{to_z-of_z}
+use Rattle.std.proofs.Common.{List, ◌∙◌, arith, subst}
 use Rattle.be_geom.specs.declared.rect.Rect.{Rect}
 use Rattle.be_region.specs.Bands.{AreBands}
-use Rattle.be_region.specs.Regions.{region_has}
 use Rattle.be_descent.specs.Places.{IsNext}
 use Rattle.be_descent.proofs.PaintLemmas.{all_to, next_to}
-use Rattle.be_descent.proofs.SpanLemmas.{here, first_in, on_region, part_inside, some_found}
+use Rattle.be_descent.proofs.SpanLemmas.{here, on_region, part_inside}
 use Rattle.be_descent.proofs.area.paint_area.Goals as goal
 
-pub unwrap-span-requires : goal.unwrap-span-requires
-unwrap-span-requires g c =
-    let l : SFits w16 c.in-Some.found.part.left = search rules in
-    let t : SFits w16 c.in-Some.found.part.top = search rules in
-    let sx : SFits w32 c.from-x.result = search rules in
-    let sy : SFits w32 c.from-y.result = search rules in
-    let x = simp to_z-of_z at c.from-x.ensures in
-    let y = simp to_z-of_z at c.from-y.ensures in
-    let rs = c.loop-found.spans.rects in
+pub span-span-requires : goal.span-span-requires
+span-span-requires g c =
     let next = subst (λ (rs : List Rect). IsNext rs c.loop-found.place here c.args.area
     c.in-Some.found) c.region.ensures.region c.in-Some.ensures.some in
-    let none = rw (x, y) at (simp to_z-of_z at c.span_at.ensures.none) in
-    some_found c.span_at.result (region_has rs c.in-Some.found.part.left c.in-Some.found.part.top)
-    none (first_in rs c.loop-found.place c.args.area c.in-Some.found next)
+    let ahead = next.ahead in
+    let there = next.there in
+    omega arith
 
 pub lay-requires-clause-inside : goal.lay-requires-clause-inside
 lay-requires-clause-inside g c =
-    let l : SFits w16 c.in-Some.found.part.left = search rules in
-    let t : SFits w16 c.in-Some.found.part.top = search rules in
-    let sx : SFits w32 c.from-x.result = search rules in
-    let sy : SFits w32 c.from-y.result = search rules in
-    let x = simp to_z-of_z at c.from-x.ensures in
-    let y = simp to_z-of_z at c.from-y.ensures in
     let rs = c.loop-found.spans.rects in
     let next = subst (λ (rs : List Rect). IsNext rs c.loop-found.place here c.args.area
     c.in-Some.found) c.region.ensures.region c.in-Some.ensures.some in
     let bands = subst AreBands c.region.ensures.region c.in-Some.ensures.bands in
-    let some = rw (x, y) at (simp to_z-of_z at (rw c.unwrap-span.ensures at c.span_at.ensures.some))
-    in
-    part_inside rs c.loop-found.place c.args.area c.in-Some.found c.unwrap-span.result bands next
-    some.0 some.1
+    part_inside rs c.loop-found.place c.args.area c.in-Some.found c.span-span.result bands next
+    c.span-span.ensures.span c.span-span.ensures.rect
 
 pub loop-found-preserved : goal.loop-found-preserved
 loop-found-preserved g c =

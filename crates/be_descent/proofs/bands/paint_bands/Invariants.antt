@@ -2,7 +2,7 @@ use Rattle.std.proofs.Common.{pos, ◌-ℤ◌, ◌≤ℤ◌, ◌&&◌}
 use Rattle.be_geom.specs.Points.{between}
 use Rattle.be_descent.specs.Drawing.{may_draw}
 use Rattle.be_descent.specs.Inks.{shape_has}
-use Rattle.be_descent.specs.Painting.{IsPainted}
+use Rattle.be_span.specs.Painting.{IsPainted}
 use Rattle.be_descent.proofs.RegionLemmas.{rows_left}
 use Rattle.be_descent.proofs.bands.paint_bands.Given as goal
 

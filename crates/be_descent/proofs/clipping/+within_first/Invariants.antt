@@ -1,6 +1,6 @@
 use Rattle.std.proofs.Common.{◌≤◌, ◌-◌, ◌&&◌, length}
 use Rattle.be_descent.specs.Clips.{first_hold}
-use Rattle.be_descent.specs.Painting.{IsPainted}
+use Rattle.be_span.specs.Painting.{IsPainted}
 use Rattle.be_descent.proofs.PaintLemmas.{painted_to}
 use Rattle.be_descent.proofs.clipping.+within_first.Given as goal
 

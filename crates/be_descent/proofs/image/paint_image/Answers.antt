@@ -1,4 +1,4 @@
-use Rattle.std.proofs.Common.{◌≡◌, ℤ, Bool, false, ◌&&◌, List, refl, subst}
+use Rattle.std.proofs.Common.{◌≡◌, ℤ, Bool, true, false, ◌&&◌, List, refl, subst}
 use Rattle.be_geom.specs.declared.rect.Rect.{Rect}
 use Rattle.be_geom.specs.Rects.{rect_has}
 use Rattle.be_region.specs.Frames.{IsFrame}
@@ -28,7 +28,7 @@ returns c =
     let may : ℤ → ℤ → Bool = λ x y. may_draw c.args.reach.now x y in
     let box : ℤ → ℤ → Bool = has_moved (frame_of image.bitmap.now) image.way in
     region_painted (λ x y. painted image.brush (picture_color image.bitmap.now image.way x y))
-    (λ x y. rect_has frame x y && (box x y && (may x y && box x y))) (λ x y. box x y && may x y)
+    (λ x y. rect_has frame x y && (box x y && (may x y && true))) (λ x y. box x y && may x y)
     c.args.spans.now c.paint_boxed.new.spans
     (λ x y has. image_test (rect_has frame x y) (box x y) (may x y) (whole.holds x y has))
     (rw c.frame_of.ensures at c.paint_boxed.ensures)

@@ -66,16 +66,16 @@ returns-in-Some-columns_in g c =
     let across : SFits w32 way.right = search rules in
     let part = c.in-Some-columns_in.part in
     let both = simp to_z-of_z at c.in-Some-columns_in.ensures.both in
-    let at = g.L.Lay.at c.args.ink.now in
+    let at = g.P.Paint.at c.args.paint.now in
     let may : ℤ → ℤ → Bool = λ x y. may_draw c.args.reach.now x y in
-    same_painted (g.L.Lay.rule c.args.ink.now)
+    same_painted (g.P.Paint.rule c.args.paint.now)
     (λ x y. rect_has part x y && (may x y && (shape_has line way x y && at x y)))
     (λ x y. rect_has area x y && (shape_has line way x y && (may x y && at x y))) c.args.spans.now
-    c.paint_reached.new.spans
+    c.paint_held.new.spans
     (λ x y. cut_test (rect_has part x y) (rect_has area x y)
     (span_has c.in-Some.run' (x -ℤ way.right)) (may x y) (shape_has line way x y) (at x y)
     (both x y) (hold x y))
-    c.paint_reached.ensures
+    c.paint_held.ensures
 
 pub returns-in_default-columns_in : goal.returns-in_default-columns_in
 returns-in_default-columns_in g c =
@@ -88,8 +88,8 @@ returns-in_default-columns_in g c =
     c.in-Some.ensures.some in
     let across : SFits w32 way.right = search rules in
     let none = simp to_z-of_z at c.in_default-columns_in.ensures.none in
-    let at : ℤ → ℤ → Bool = λ x y. may_draw c.args.reach.now x y && g.L.Lay.at c.args.ink.now x y in
-    none_painted (g.L.Lay.rule c.args.ink.now)
+    let at : ℤ → ℤ → Bool = λ x y. may_draw c.args.reach.now x y && g.P.Paint.at c.args.paint.now x y in
+    none_painted (g.P.Paint.rule c.args.paint.now)
     (λ x y. rect_has area x y && (shape_has line way x y && at x y)) c.args.spans.now
     (λ x y. beside_all (rect_has area x y) (shape_has line way x y)
     (span_has c.in-Some.run' (x -ℤ way.right)) (at x y)

@@ -44,15 +44,15 @@ ended g c row =
 pub returns-in_default : goal.returns-in_default
 returns-in_default g c =
     let raster = Line c.args.from c.args.to c.args.pen in
-    let at : ℤ → ℤ → Bool = λ x z. may_draw c.args.reach.now x z && g.L.Lay.at c.args.ink.now x z in
-    no_frame (g.L.Lay.rule c.args.ink.now) (λ x z. shape_has raster c.args.way x z && at x z)
+    let at : ℤ → ℤ → Bool = λ x z. may_draw c.args.reach.now x z && g.P.Paint.at c.args.paint.now x z in
+    no_frame (g.P.Paint.rule c.args.paint.now) (λ x z. shape_has raster c.args.way x z && at x z)
     c.args.spans.now c.region.result.now c.region.ensures.region (c.in_default.ensures.none.0 refl)
 
 pub returns-in_default-rows_in : goal.returns-in_default-rows_in
 returns-in_default-rows_in g c =
     let raster = Line c.args.from c.args.to c.args.pen in
-    let at : ℤ → ℤ → Bool = λ x z. may_draw c.args.reach.now x z && g.L.Lay.at c.args.ink.now x z in
-    no_shape (g.L.Lay.rule c.args.ink.now) raster c.args.way at c.args.spans.now
+    let at : ℤ → ℤ → Bool = λ x z. may_draw c.args.reach.now x z && g.P.Paint.at c.args.paint.now x z in
+    no_shape (g.P.Paint.rule c.args.paint.now) raster c.args.way at c.args.spans.now
     c.region.result.now c.in-Some.frame c.region.ensures.region c.in-Some.ensures.some
     c.in_default-rows_in.ensures.none
 
@@ -63,10 +63,10 @@ parts-init g c =
     let tb : SFits w32 c.from-y.result = search rules in
     let top : c.from-y.result ≡ rows.top = simp to_z-of_z at c.from-y.ensures in
     let raster = Line c.args.from c.args.to c.args.pen in
-    let at : ℤ → ℤ → Bool = λ x z. may_draw c.args.reach.now x z && g.L.Lay.at c.args.ink.now x z in
+    let at : ℤ → ℤ → Bool = λ x z. may_draw c.args.reach.now x z && g.P.Paint.at c.args.paint.now x z in
     simp to_z-of_z record {
       from = omega (arith, ints);
-      done = rows_begin (g.L.Lay.rule c.args.ink.now) raster c.args.way at c.args.spans.now rows.top
+      done = rows_begin (g.P.Paint.rule c.args.paint.now) raster c.args.way at c.args.spans.now rows.top
           c.from-y.result top;
     }
 
@@ -115,12 +115,12 @@ parts-preserved g c =
     let from = row.forward in
     let forward = end.forward in
     let raster = Line c.args.from c.args.to c.args.pen in
-    let at : ℤ → ℤ → Bool = λ x z. may_draw c.args.reach.now x z && g.L.Lay.at c.args.ink.now x z in
+    let at : ℤ → ℤ → Bool = λ x z. may_draw c.args.reach.now x z && g.P.Paint.at c.args.paint.now x z in
     let done = rw (to_z-of_z w16 _ l, to_z-of_z w16 _ r, to_z-of_z w16 _ row.fits)
     at c.paint_part-end.ensures.painted in
     simp (to_z-of_z w32 _ end.bits, to_z-of_z w32 _ end.next) record {
       from = omega (arith, ints);
-      done = rows_go_on (g.L.Lay.rule c.args.ink.now) raster c.args.way at c.args.spans.now
+      done = rows_go_on (g.P.Paint.rule c.args.paint.now) raster c.args.way at c.args.spans.now
           c.parts.spans c.paint_part-end.new.spans c.region.result.now c.in-Some.frame rows y
           c.paint_part-end.result (c.from-y-in-parts.result +ℤ pos 1) c.region.ensures.region
           c.in-Some.ensures.some c.in-Some-rows_in.ensures.some from (omega (arith, ints))
@@ -136,7 +136,7 @@ returns g c =
     let bottom : c.from-bottom.result ≡ rows.bottom = simp to_z-of_z at c.from-bottom.ensures in
     let test = simp to_z-of_z at c.parts-test.false in
     let raster = Line c.args.from c.args.to c.args.pen in
-    let at : ℤ → ℤ → Bool = λ x z. may_draw c.args.reach.now x z && g.L.Lay.at c.args.ink.now x z in
-    rows_end (g.L.Lay.rule c.args.ink.now) raster c.args.way at c.args.spans.now c.parts.spans
+    let at : ℤ → ℤ → Bool = λ x z. may_draw c.args.reach.now x z && g.P.Paint.at c.args.paint.now x z in
+    rows_end (g.P.Paint.rule c.args.paint.now) raster c.args.way at c.args.spans.now c.parts.spans
     c.region.result.now c.in-Some.frame rows y c.region.ensures.region c.in-Some.ensures.some
     c.in-Some-rows_in.ensures.some (omega (arith, ints)) c.parts.invariant.done

@@ -2,7 +2,7 @@ use Rattle.std.proofs.Common.{rules, SFits, w32, refl}
 use Rattle.std.proofs.lemmas.Int.{to_z-of_z}
 use Rattle.be_descent.proofs.MarkLemmas.{marks_left}
 use Rattle.be_descent.specs.Drawing.{may_draw}
-use Rattle.be_descent.specs.Painting.{IsPainted}
+use Rattle.be_span.specs.Painting.{IsPainted}
 use Rattle.be_descent.specs.declared.way.Way.{Way}
 use Rattle.be_paint.specs.Laying.{descent_of, ink_of, laid}
 use Rattle.be_paint.proofs.PaintLemmas.{laid_marks, laid_painted}

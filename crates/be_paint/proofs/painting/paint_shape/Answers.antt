@@ -1,7 +1,7 @@
 use Rattle.std.proofs.Common.{ℤ, ◌-ℤ◌, Bool, true, ◌&&◌, sym}
 use Rattle.be_descent.specs.Drawing.{may_draw}
 use Rattle.be_descent.specs.Inks.{shape_has}
-use Rattle.be_descent.specs.Painting.{Rule}
+use Rattle.be_span.specs.Painting.{Rule}
 use Rattle.be_descent.proofs.PaintLemmas.{same_painted}
 use Rattle.be_span.specs.Slices.{painted, pattern_color, recolored}
 use Rattle.be_paint.proofs.PaintLemmas.{and_true, rule_painted}

@@ -1,32 +1,46 @@
 -- A part painted.
-use Rattle.std.proofs.Common.{arith, cond, ◌+◌, ◌-◌, ◌≤◌, ◌⊎◌, ◌<◌, ap, ◌∙◌, refl}
+use Rattle.std.proofs.Common.{arith, cond, ℕ, pos, subst, sym, ◌+ℤ◌, ◌+◌, ◌-◌, ◌≤◌, ◌⊎◌, ◌<◌, ap, ◌∙◌, refl}
 use Rattle.std.specs.Option.{option_map}
+use Rattle.std.proofs.lemmas.Int.{to_z-of_z}
 use Rattle.be_span.specs.declared.Cell.{Cell}
-use Rattle.be_span.specs.Slices.{painted, source_at}
-use Rattle.be_span.proofs.CellLemmas.{put_sum, put_inside, put_others, part_get, part_length}
+use Rattle.be_span.specs.Painting.{changed, AreInRange}
+use Rattle.be_span.proofs.CellLemmas.{part_sum, put_sum, put_inside, put_others, part_get, part_length}
 use Rattle.be_span.proofs.rows.paint_part.Goals as goal
 
+pub paint-requires-clause-range : goal.paint-requires-clause-range
+paint-requires-clause-range g c =
+    let long = part_length c.args.cells.now _ c.args.start c.args.count refl c.requires.fits in
+    simp (to_z-of_z, c.ranges.x, c.ranges.y) (subst (λ (n : ℕ). AreInRange c.args.x c.args.y n) (sym long) c.requires.range)
+
+pub paint-requires-clause-clean : goal.paint-requires-clause-clean
+paint-requires-clause-clean g c told =
+    let n = c.args.start + c.args.count - c.args.start in
+    let few = part_sum (λ (x : Cell). cond x.dirty 1 0) c.args.start n c.args.cells.now in
+    let none = c.requires.clean told in
+    omega arith
+
 pub returns-clause-inside : goal.returns-clause-inside
-returns-clause-inside c k less =
-    let fits = c.requires in
+returns-clause-inside g c k less =
+    let fits = c.requires.fits in
     let long = part_length c.args.cells.now _ c.args.start c.args.count refl fits in
-    let kept = c.paint_cells.auto.cells in
-    put_inside c.args.start (c.args.start + c.args.count - c.args.start) c.args.cells.now c.paint_cells.new.cells k (omega arith) (omega arith)
-    ∙ c.paint_cells.ensures.cells k
-    ∙ ap (option_map (painted c.args.brush (source_at c.args.brush c.args.source k))) (part_get c.args.cells.now _ c.args.start c.args.count k refl less)
+    let kept = c.paint.auto.cells in
+    let cells = simp (to_z-of_z, c.ranges.x, c.ranges.y) at c.paint.ensures.cells in
+    put_inside c.args.start (c.args.start + c.args.count - c.args.start) c.args.cells.now c.paint.new.cells k (omega arith) (omega arith)
+    ∙ cells k
+    ∙ ap (option_map (changed (g.P.Paint.rule c.args.paint.now) (g.P.Paint.at c.args.paint.now) (c.args.x +ℤ pos k) c.args.y)) (part_get c.args.cells.now _ c.args.start c.args.count k refl less)
 
 pub returns-clause-others : goal.returns-clause-others
-returns-clause-others c q beside =
-    let fits = c.requires in
+returns-clause-others g c q beside =
+    let fits = c.requires.fits in
     let n = c.args.start + c.args.count - c.args.start in
     let long = part_length c.args.cells.now _ c.args.start c.args.count refl fits in
-    let kept = c.paint_cells.auto.cells in
+    let kept = c.paint.auto.cells in
     let apart : (q < c.args.start) ⊎ (c.args.start + n ≤ q) = grind arith in
-    put_others c.args.start n c.args.cells.now c.paint_cells.new.cells q (omega arith) (omega arith) apart
+    put_others c.args.start n c.args.cells.now c.paint.new.cells q (omega arith) (omega arith) apart
 
 pub returns-clause-marks : goal.returns-clause-marks
-returns-clause-marks c =
+returns-clause-marks g c =
     let n = c.args.start + c.args.count - c.args.start in
-    let put = put_sum (λ (x : Cell). cond x.dirty 1 0) c.args.start n c.args.cells.now c.paint_cells.new.cells in
-    let marks = c.paint_cells.ensures.marks in
+    let put = put_sum (λ (x : Cell). cond x.dirty 1 0) c.args.start n c.args.cells.now c.paint.new.cells in
+    let marks = c.paint.ensures.marks in
     omega arith

@@ -1,5 +1,5 @@
 use Rattle.std.proofs.Common.{◌≤◌, ◌-◌, length}
-use Rattle.be_descent.specs.Painting.{IsPainted}
+use Rattle.be_span.specs.Painting.{IsPainted}
 use Rattle.be_descent.proofs.PaintLemmas.{painted_to}
 use Rattle.be_descent.proofs.within.WithinLay.lay.Given as goal
 

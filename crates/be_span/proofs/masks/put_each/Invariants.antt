@@ -1,0 +1,10 @@
+use Rattle.be_color.specs.declared.colors.Color.TheVariants.{Solid}
+use Rattle.be_span.specs.Slices.{plain}
+use Rattle.be_span.proofs.MaskLemmas.{IsPaintedBut}
+use Rattle.be_span.proofs.masks.put_each.Given as goal
+
+abbrev pub invariant-bits : goal.invariant-bits
+invariant-bits l = record { cells : IsPaintedBut plain (Solid l.fn.cell.rgb) l.fn.mask l.rest l.fn.cells l.cells }
+
+abbrev pub decreases-bits : goal.decreases-bits
+decreases-bits l = l.rest

@@ -1,9 +1,0 @@
-use Rattle.be_color.specs.declared.colors.Color.TheVariants.{Solid}
-use Rattle.be_span.proofs.MaskLemmas.{IsPaintedBut}
-use Rattle.be_span.proofs.slices.paint_each_marked.Given as goal
-
-abbrev pub invariant-bits : goal.invariant-bits
-invariant-bits l = record { cells : IsPaintedBut record { mode = l.fn.mode; high = l.fn.high; low = l.fn.low } (Solid l.fn.source) l.fn.bits l.rest l.fn.cells l.cells }
-
-abbrev pub decreases-bits : goal.decreases-bits
-decreases-bits l = l.rest
