@@ -11,6 +11,7 @@ pub mod DeskLemmas
 pub mod PairedLemmas
 pub mod PlanLemmas
 pub mod SpansLemmas
+pub mod FreshLemmas
 pub mod StandLemmas
 mod ShownLemmas
 pub mod CarryLemmas

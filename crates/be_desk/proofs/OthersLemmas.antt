@@ -1,20 +1,24 @@
 -- What a change of one window leaves of the others.
-use Rattle.std.specs.Prelude.{◌==◌, find, slice_get, slice_set}
-use Rattle.std.proofs.Common.{◌≡◌, ℕ, zero, suc, ℤ, ◌-ℤ◌, Bool, true, false, cond, not, ◌&&◌, List, [], ◌∷◌, length, Option, Some, None, Result, Ok, eq-eqb, refl, sym, ap, ◌∙◌}
-use Rattle.std.proofs.lemmas.Bool.{eqb-true, false≢true}
+use Rattle.std.specs.Prelude.{◌↔◌, ◌⊎◌, ◌==◌, IsTrue, find, slice_get, slice_set}
+use Rattle.std.proofs.Common.{◌≡◌, ℕ, zero, suc, ℤ, ◌-ℤ◌, Bool, true, false, cond, not, ◌&&◌, inl, inr, List, [], ◌∷◌, length, Option, Some, None, Result, Ok, eq-eqb, refl, sym, ap, ◌∙◌}
+use Rattle.std.proofs.lemmas.Bool.{and_parts, eqb-true, false≢true, ne_eqb, true≢false}
 use Rattle.be_geom.specs.declared.change.Change.{Change}
 use Rattle.be_geom.specs.declared.change.Change.TheVariants.{Show, Hide, MoveTo, MoveBy, ResizeTo, Activate, Behind, Focus, Close}
 use Rattle.be_geom.specs.Numbers.{is_number}
 use Rattle.be_geom.specs.Rects.{moved_rect}
+use Rattle.be_geom.specs.declared.rect.Rect.{Rect}
+use Rattle.be_region.specs.Regions.{region_has, IsDifference}
 use Rattle.be_stack.specs.Changes.{within_range, resized_rect, windows_after}
 use Rattle.be_stack.specs.Order.{others, put_behind}
 use Rattle.be_stack.specs.Owner.{is_on_screen, covers, covers_pixel, owner_at}
+use Rattle.be_stack.specs.Visible.{IsVisible}
 use Rattle.be_stack.specs.Windows.{Windows, passes}
 use Rattle.be_stack.specs.declared.fault.ChangeFault.{ChangeFault}
 use Rattle.be_stack.specs.declared.window.Window.{Window}
 use Rattle.be_stack.proofs.LawLemmas.{Shown, by_change, as_after, with_frame}
 use Rattle.be_stack.proofs.VisibleLemmas.{missed}
-use Rattle.be_desk.specs.Affected.{OthersStay, OwnsTheSame}
+use Rattle.be_desk.specs.Affected.{CoversNone, IsZone, OthersStay, OwnsNone, OwnsTheSame}
+use Rattle.be_desk.specs.declared.zone.Zone.{Zone}
 
 -- ---- the order without a window
 
@@ -96,15 +100,22 @@ others_stay s t w change e = by_change (λ r. OthersStay s r w) s t w change (st
 
 -- ---- who owns what
 
--- the first that passes isn't window w where that doesn't pass
-found_first : (b : Bool) (p : ℕ → Bool) (w x : ℕ) (xs : List ℕ) → (x == w) ≡ b → p w ≡ false → find p xs ≡ find p (others w xs) → cond (p x) (Some x) (find p xs) ≡ find p (cond (not b) (x ∷ others w xs) (others w xs))
-found_first true p w x xs e none rest =
-    let there : p x ≡ false = ap p (eqb-true x w e) ∙ none in ap (λ c. cond c (Some x) (find p xs)) there ∙ rest
-found_first false p w x xs e none rest = ap (λ o. cond (p x) (Some x) o) rest
+-- where the first that passes isn't window w, it is the first of the others
+found_first : (b c : Bool) (w x : ℕ) (found among : Option ℕ) → (x == w) ≡ b → is_number w (cond c (Some x) found) ≡ false → (is_number w found ≡ false → found ≡ among) → cond c (Some x) found ≡ cond (not b) (cond c (Some x) among) among
+found_first true true w x found among e none rest = absurd (false≢true (sym none ∙ e))
+found_first true false w x found among e none rest = rest none
+found_first false true w x found among e none rest = refl
+found_first false false w x found among e none rest = rest none
 
-found_among : (p : ℕ → Bool) (w : ℕ) (xs : List ℕ) → p w ≡ false → find p xs ≡ find p (others w xs)
+found_in : (b : Bool) (p : ℕ → Bool) (x : ℕ) (xs : List ℕ) → find p (cond b (x ∷ xs) xs) ≡ cond b (cond (p x) (Some x) (find p xs)) (find p xs)
+found_in true p x xs = refl
+found_in false p x xs = refl
+
+found_among : (p : ℕ → Bool) (w : ℕ) (xs : List ℕ) → is_number w (find p xs) ≡ false → find p xs ≡ find p (others w xs)
 found_among p w [] none = refl
-found_among p w (x ∷ xs) none = found_first (x == w) p w x xs refl none (found_among p w xs none)
+found_among p w (x ∷ xs) none =
+    found_first (x == w) (p x) w x (find p xs) (find p (others w xs)) refl none (found_among p w xs)
+    ∙ sym (found_in (not (x == w)) p x (others w xs))
 
 alike_first : (b : Bool) (p q : ℕ → Bool) (w x : ℕ) (xs : List ℕ) → (x == w) ≡ b → ((u : ℕ) → (u ≡ w → ⊥) → p u ≡ q u) → find p (others w xs) ≡ find q (others w xs) → find p (cond (not b) (x ∷ others w xs) (others w xs)) ≡ find q (cond (not b) (x ∷ others w xs) (others w xs))
 alike_first true p q w x xs e same rest = rest
@@ -119,29 +130,105 @@ alike p q w (x ∷ xs) same = alike_first (x == w) p q w x xs refl same (alike p
 covers_alike : (s t : Windows) (w : ℕ) (x y : ℤ) → OthersStay s t w → (u : ℕ) → (u ≡ w → ⊥) → covers s.windows x y u ≡ covers t.windows x y u
 covers_alike s t w x y stay u other = ap (passes (covers_pixel x y)) (sym (stay.windows u other))
 
-number_on : (b : Bool) (u : ℕ) (o r : Option ℕ) → is_number u o ≡ is_number u r → is_number u (cond b o None) ≡ is_number u (cond b r None)
-number_on true u o r e = e
-number_on false u o r e = refl
+same_found : (b : Bool) (p q : ℕ → Bool) (w : ℕ) (xs ys : List ℕ) → others w ys ≡ others w xs → ((u : ℕ) → (u ≡ w → ⊥) → p u ≡ q u) → is_number w (cond b (find p xs) None) ≡ false → is_number w (cond b (find q ys) None) ≡ false → cond b (find p xs) None ≡ cond b (find q ys) None
+same_found true p q w xs ys order same before after =
+    found_among p w xs before ∙ alike p q w xs same ∙ ap (find q) (sym order) ∙ sym (found_among q w ys after)
+same_found false p q w xs ys order same before after = refl
 
--- where window w covers no pixel that another one covers, neither before nor after
-abbrev pub IsApart : Windows → Windows → ℕ → ℕ → Type 0
-IsApart s t w u = (x y : ℤ) → covers s.windows x y u ≡ true → (covers s.windows x y w ≡ false) × (covers t.windows x y w ≡ false)
-
-found_alike : (b : Bool) (s t : Windows) (w u : ℕ) (x y : ℤ) → OthersStay s t w → (u ≡ w → ⊥) → IsApart s t w u → covers s.windows x y u ≡ b → is_number u (find (covers s.windows x y) s.order) ≡ is_number u (find (covers t.windows x y) t.order)
-found_alike true s t w u x y stay other apart covered =
-    let none = apart x y covered in
-    let p : ℕ → Bool = covers s.windows x y in
-    let q : ℕ → Bool = covers t.windows x y in
-    ap (is_number u) (found_among p w s.order none.0 ∙ alike p q w s.order (covers_alike s t w x y stay) ∙ ap (find q) (sym stay.order) ∙ sym (found_among q w t.order none.1))
-found_alike false s t w u x y stay other apart covered =
-    missed (covers s.windows x y) u s.order covered ∙ sym (missed (covers t.windows x y) u t.order (sym (covers_alike s t w x y stay u other) ∙ covered))
-
--- that one owns the same
-pub unaltered : (s t : Windows) (w u : ℕ) → OthersStay s t w → (u ≡ w → ⊥) → IsApart s t w u → OwnsTheSame s t u
+-- a pixel that window w owns neither before nor after has the same owner
+same_owner : (s t : Windows) (w : ℕ) (x y : ℤ) → OthersStay s t w → is_number w (owner_at s x y) ≡ false → is_number w (owner_at t x y) ≡ false → owner_at s x y ≡ owner_at t x y
 unfolding owner_at
-unaltered s t w u stay other apart x y =
-    let o : Option ℕ = find (covers s.windows x y) s.order in
+same_owner s t w x y stay before after =
     let r : Option ℕ = find (covers t.windows x y) t.order in
-    number_on (is_on_screen s.width x && is_on_screen s.height y) u o r (found_alike (covers s.windows x y u) s t w u x y stay other apart refl)
-    ∙ ap (λ n. is_number u (cond (is_on_screen n x && is_on_screen s.height y) r None)) (sym stay.width)
-    ∙ ap (λ n. is_number u (cond (is_on_screen t.width x && is_on_screen n y) r None)) (sym stay.height)
+    let size : owner_at t x y ≡ cond (is_on_screen s.width x && is_on_screen s.height y) r None =
+    ap (λ n. cond (is_on_screen n x && is_on_screen t.height y) r None) stay.width
+    ∙ ap (λ n. cond (is_on_screen s.width x && is_on_screen n y) r None) stay.height in
+    same_found (is_on_screen s.width x && is_on_screen s.height y) (covers s.windows x y) (covers t.windows x y) w s.order t.order stay.order (covers_alike s t w x y stay) before (sym (ap (is_number w) size) ∙ after) ∙ sym size
+
+unfound : (b : Bool) (p : ℕ → Bool) (u : ℕ) (xs : List ℕ) → p u ≡ false → is_number u (cond b (find p xs) None) ≡ false
+unfound true p u xs none = missed p u xs none
+unfound false p u xs none = refl
+
+-- a window that doesn't cover a pixel doesn't own it
+pub unowned : (s : Windows) (u : ℕ) (x y : ℤ) → covers s.windows x y u ≡ false → is_number u (owner_at s x y) ≡ false
+unfolding owner_at
+unowned s u x y none = unfound (is_on_screen s.width x && is_on_screen s.height y) (covers s.windows x y) u s.order none
+
+same_where : (b : Bool) (s t : Windows) (w u : ℕ) (x y : ℤ) → OthersStay s t w → (u ≡ w → ⊥) → (b ≡ true → (is_number w (owner_at s x y) ≡ false) × (is_number w (owner_at t x y) ≡ false)) → covers s.windows x y u ≡ b → is_number u (owner_at s x y) ≡ is_number u (owner_at t x y)
+same_where true s t w u x y stay other beside covered =
+    let none = beside refl in ap (is_number u) (same_owner s t w x y stay none.0 none.1)
+same_where false s t w u x y stay other beside covered =
+    unowned s u x y covered ∙ sym (unowned t u x y (sym (covers_alike s t w x y stay u other) ∙ covered))
+
+-- ---- beside what window w owns
+
+free : (a b : Bool) → (a && not b) ≡ false → b ≡ false → a ≡ false
+free a true e none = cc
+free true false e none = cc
+free false false e none = refl
+
+-- window w owns no pixel that another one covers beside what it gives up and what it owns then
+beside_both : (s t : Windows) (w u : ℕ) (zone : Zone) (x y : ℤ) → IsZone s t w zone → CoversNone s u zone.given → region_has zone.new x y ≡ false → covers s.windows x y u ≡ true → (is_number w (owner_at s x y) ≡ false) × (is_number w (owner_at t x y) ≡ false)
+beside_both s t w u zone x y is given new covered =
+    let after = sym (is.new x y) ∙ new in
+    (free (is_number w (owner_at s x y)) (is_number w (owner_at t x y)) (sym (is.given x y) ∙ given x y covered) after, after)
+
+-- so a window that covers none of either owns the same
+pub unaltered : (s t : Windows) (w u : ℕ) (zone : Zone) → OthersStay s t w → IsZone s t w zone → (u ≡ w → ⊥) → CoversNone s u zone.given → CoversNone s u zone.new → OwnsTheSame s t u
+unaltered s t w u zone stay is other given new x y =
+    same_where (covers s.windows x y u) s t w u x y stay other (λ covered. beside_both s t w u zone x y is given (new x y covered) covered) refl
+
+another : (w u : ℕ) (o : Option ℕ) → is_number w o ≡ true → (u ≡ w → ⊥) → is_number u o ≡ false
+another w u (Some v) e other = ne_eqb v u (λ same. other (sym same ∙ eqb-true v w e))
+another w u None e other = cc
+
+rest_of : (b : Bool) (s t : Windows) (w u : ℕ) (zone : Zone) (owned : Bool) (x y : ℤ) → OthersStay s t w → IsZone s t w zone → (u ≡ w → ⊥) → CoversNone s u zone.given → owned ≡ is_number u (owner_at s x y) → region_has zone.new x y ≡ b → (owned && not b) ≡ is_number u (owner_at t x y)
+rest_of true s t w u zone owned x y stay is other given e new =
+    elim owned as (λ a. (a && false) ≡ false) [ true ↦ refl | false ↦ refl ] ∙ sym (another w u (owner_at t x y) (sym (is.new x y) ∙ new) other)
+rest_of false s t w u zone owned x y stay is other given e new =
+    elim owned as (λ a. (a && true) ≡ a) [ true ↦ refl | false ↦ refl ] ∙ e
+    ∙ same_where (covers s.windows x y u) s t w u x y stay other (λ covered. beside_both s t w u zone x y is given new covered) refl
+
+-- and one that covers none of what window w gives up owns what it owned beside what that one owns
+pub owned_rest : (s t : Windows) (w u : ℕ) (zone : Zone) (owned rest : List Rect) → OthersStay s t w → IsZone s t w zone → (u ≡ w → ⊥) → CoversNone s u zone.given → IsVisible owned s u → IsDifference rest owned zone.new → IsVisible rest t u
+owned_rest s t w u zone owned rest stay is other given visible beside x y =
+    beside x y ∙ rest_of (region_has zone.new x y) s t w u zone (region_has owned x y) x y stay is other given (visible x y) refl
+
+-- ---- who wins and loses
+
+by_zone : (new given : Bool) (s t : Windows) (w u : ℕ) (zone : Zone) (x y : ℤ) → OthersStay s t w → IsZone s t w zone → (u ≡ w → ⊥) → OwnsNone s u zone.new → OwnsNone t u zone.given → region_has zone.new x y ≡ new → region_has zone.given x y ≡ given → is_number u (owner_at s x y) ≡ is_number u (owner_at t x y)
+by_zone true given s t w u zone x y stay is other loses wins e g =
+    loses x y e ∙ sym (another w u (owner_at t x y) (sym (is.new x y) ∙ e) other)
+by_zone false true s t w u zone x y stay is other loses wins e g =
+    let was = and_parts (is_number w (owner_at s x y)) (not (is_number w (owner_at t x y))) (sym (is.given x y) ∙ g) in
+    another w u (owner_at s x y) was.0 other ∙ sym (wins x y g)
+by_zone false false s t w u zone x y stay is other loses wins e g =
+    let after = sym (is.new x y) ∙ e in
+    ap (is_number u) (same_owner s t w x y stay (free (is_number w (owner_at s x y)) (is_number w (owner_at t x y)) (sym (is.given x y) ∙ g) after) after)
+
+-- a window that loses none of what window w owns afterwards, and wins none of what that one gives up, owns the same
+pub kept_all : (s t : Windows) (w u : ℕ) (zone : Zone) → OthersStay s t w → IsZone s t w zone → (u ≡ w → ⊥) → OwnsNone s u zone.new → OwnsNone t u zone.given → OwnsTheSame s t u
+kept_all s t w u zone stay is other loses wins x y =
+    by_zone (region_has zone.new x y) (region_has zone.given x y) s t w u zone x y stay is other loses wins refl refl
+
+pub loses_none : (s t : Windows) (w u : ℕ) (zone : Zone) → IsZone s t w zone → (u ≡ w → ⊥) → OwnsTheSame s t u → OwnsNone s u zone.new
+loses_none s t w u zone is other same x y has = same x y ∙ another w u (owner_at t x y) (sym (is.new x y) ∙ has) other
+
+pub wins_none : (s t : Windows) (w u : ℕ) (zone : Zone) → IsZone s t w zone → (u ≡ w → ⊥) → OwnsTheSame s t u → OwnsNone t u zone.given
+wins_none s t w u zone is other same x y has =
+    let was = and_parts (is_number w (owner_at s x y)) (not (is_number w (owner_at t x y))) (sym (is.given x y) ∙ has) in
+    sym (same x y) ∙ another w u (owner_at s x y) was.0 other
+
+-- so one that loses none is altered where it wins some
+pub altered_if : (s t : Windows) (w u : ℕ) (zone : Zone) → OthersStay s t w → IsZone s t w zone → (u ≡ w → ⊥) → OwnsNone s u zone.new → (some : Bool) → (some ≡ false) ↔ OwnsNone t u zone.given → IsTrue some ↔ ((u ≡ w) ⊎ (OwnsTheSame s t u → ⊥))
+altered_if s t w u zone stay is other loses true wins = (
+  λ _. inr (λ same. true≢false (wins.1 (wins_none s t w u zone is other same))),
+  λ _. refl,
+)
+altered_if s t w u zone stay is other loses false wins = (
+  λ h. absurd (false≢true h),
+  λ altered. elim altered [
+    | inl same ↦ absurd (other same)
+    | inr differs ↦ absurd (differs (kept_all s t w u zone stay is other loses (wins.0 refl)))
+  ],
+)

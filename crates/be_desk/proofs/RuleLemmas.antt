@@ -1,11 +1,10 @@
 -- Cells changed by a rule, run by run, row by row and rectangle by rectangle.
-use Rattle.std.proofs.Common.{◌≡◌, ℕ, zero, suc, ◌+◌, ◌-◌, ◌<◌, ◌≤◌, ℤ, pos, ◌+ℤ◌, ◌-ℤ◌, ◌≤ℤ◌, ◌<ℤ◌, Bool, true, false, ◌||◌, ◌⊎◌, inl, inr, List, [], ◌∷◌, length, take, Option, Some, None, slice_get, cond, refl, sym, ap, ◌∙◌, subst, arith, add-one}
+use Rattle.std.proofs.Common.{◌≡◌, ℕ, zero, suc, ◌+◌, ◌-◌, ◌<◌, ℤ, pos, ◌+ℤ◌, ◌-ℤ◌, ◌≤ℤ◌, ◌<ℤ◌, Bool, true, false, ◌||◌, ◌⊎◌, inl, inr, List, [], ◌∷◌, take, Option, Some, None, slice_get, cond, refl, sym, ap, ◌∙◌, subst, arith, add-one}
 use borrow.Author.Differences.{up, down}
 use Rattle.std.specs.Option.{option_map}
 use Rattle.std.specs.Prelude.{unsigned_abs}
 use Rattle.std.proofs.lemmas.Int.{ints, by_lt_z}
 use Rattle.std.proofs.lemmas.Bool.{cond-true, cond-false, true≢false}
-use Rattle.std.proofs.lemmas.List.{take_all}
 use Rattle.std.proofs.lemmas.Option.{none-some, same_Some}
 use Rattle.be_geom.specs.declared.rect.Rect.{Rect}
 use Rattle.be_geom.specs.Rects.{rect_has}
@@ -14,7 +13,6 @@ use Rattle.be_span.specs.declared.Cell.{Cell}
 use Rattle.be_span.specs.Runs.{IsBeside}
 use Rattle.be_span.specs.Spans.{Spans, cell_in}
 use Rattle.be_span.proofs.GridLemmas.{either, IsIn, in_from, has_from, pos_abs}
-use Rattle.be_span.proofs.CellLemmas.{cell_none}
 use Rattle.be_desk.specs.Exposing.{Rule, IsRuledRow, IsRuledAbove}
 
 -- ---- what is left to do
@@ -181,13 +179,3 @@ pub all_more : (rule : Rule) (old now new : Spans) (rs : List Rect) (m : ℕ) (r
 all_more rule old now new rs m r twice e so_far more x y =
     step (rule x y) (twice x y) (region_has (take m rs) x y) (rect_has r x y) (cell_in old x y) (cell_in now x y) (cell_in new x y) (so_far x y) (more x y)
     ∙ ap (λ b. cond b (option_map (rule x y) (cell_in old x y)) (cell_in old x y)) (sym (rw add-one (has_more rs m r x y e)))
-
--- a pixel outside the region has no cell
-pub all_ruled : (rule : Rule) (old new : Spans) (m : ℕ) → length old.rects ≤ m → ((x y : ℤ) → cell_in new x y ≡ cond (region_has (take m old.rects) x y) (option_map (rule x y) (cell_in old x y)) (cell_in old x y)) → (x y : ℤ) → cell_in new x y ≡ option_map (rule x y) (cell_in old x y)
-all_ruled rule old new m all h x y =
-    h x y
-    ∙ ap (λ l. cond (region_has l x y) (option_map (rule x y) (cell_in old x y)) (cell_in old x y)) (take_all m old.rects all)
-    ∙ elim (either (region_has old.rects x y)) [
-      | inl e ↦ cond-true (region_has old.rects x y) (option_map (rule x y) (cell_in old x y)) (cell_in old x y) e
-      | inr e ↦ cond-false (region_has old.rects x y) (option_map (rule x y) (cell_in old x y)) (cell_in old x y) e ∙ cell_none old x y e ∙ sym (ap (option_map (rule x y)) (cell_none old x y e))
-    ]

@@ -55,6 +55,12 @@ stays_there before after w change panes pane is listed =
     let many = (others_stay before.windows after.windows w change (is_after before after w change is.taken).windows).many in
     (omega arith, of_pane.views)
 
+-- it has what its window owns
+pub owned_there : (before after : Desk) (w : ℕ) (change : Change) (panes : List Pane) (pane : Pane) → IsChange before after w change panes → Contains panes pane → IsVisible pane.spans.rects before.windows pane.window
+owned_there before after w change panes pane is listed =
+    let at = pane_at panes pane listed in
+    (is.panes_of at.0 pane at.1).pixels
+
 -- ---- a window has as many views as before
 
 same_views : (old new : List Tree) (w : ℕ) (before after : Tree) → new ≡ old → slice_get old w ≡ Some before → slice_get new w ≡ Some after → length after ≡ length before
@@ -106,12 +112,12 @@ kept_by_still r x y c still here was =
     ∙ ap (λ (o : Option Cell). or_exposed o exposed) was
 
 -- each pixel has its cell
-pub changed_spans : (before after : Desk) (w : ℕ) (change : Change) (panes : List Pane) (r : Renewal) (region : List Rect) (spans : Spans) → IsChange before after w change panes → Contains panes r.pane.now → IsRenewalIn after w change r → IsVisible region after.windows r.pane.now.window → spans.rects ≡ region → ((cells : ℤ → ℤ → Cell) → AreUnder panes region cells → (x y : ℤ) → region_has region x y ≡ true → cell_in spans x y ≡ Some (renewed_cell r x y (cells x y))) → AreChanged before after w change panes r.pane.now spans
-changed_spans before after w change panes r region spans is listed renewal visible rects renewed =
+pub changed_spans : (before after : Desk) (w : ℕ) (change : Change) (panes : List Pane) (r : Renewal) (region : List Rect) (spans : Spans) → IsChange before after w change panes → Contains panes r.pane.now → IsRenewalIn after w change r → IsVisible region after.windows r.pane.now.window → SamePixels spans.rects region → ((cells : ℤ → ℤ → Cell) → AreUnder panes region cells → (x y : ℤ) → region_has region x y ≡ true → cell_in spans x y ≡ Some (renewed_cell r x y (cells x y))) → AreChanged before after w change panes r.pane.now spans
+changed_spans before after w change panes r region spans is listed renewal visible same renewed =
     let at = pane_at panes r.pane.now listed in
     let of_pane = is.panes_of at.0 r.pane.now at.1 in
     record {
-      pixels = λ x y. ap (λ (l : List Rect). region_has l x y) rects ∙ visible x y;
+      pixels = λ x y. same x y ∙ visible x y;
       cells = λ cells colors old screen colored looks x y owned.
           renewed cells (under before after panes at.0 r.pane.now region cells is.panes_of is.named at.1 visible screen) x y (visible x y ∙ owned)
           ∙ ap (λ (c : Cell). Some c) (sym (renewed_is_changed before after w change colors r old cells x y of_pane renewal (screen.windows at.0 r.pane.now at.1) colored looks owned));

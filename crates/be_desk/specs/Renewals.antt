@@ -85,6 +85,18 @@ exposure r x y = if is_kept_at r x y then None else color_at r x y
 abbrev pub exposed_by : Renewal → ℤ → ℤ → Cell → Cell
 exposed_by r x y c = exposed_as (exposure r x y) c
 
+-- of a region the pixels that may be newly exposed: the window keeps what it shows at all others
+pub record IsFresh (r : Renewal) (region fresh : List Rect) : Type 0 where
+  pub within : (x y : ℤ) → region_has fresh x y ≡ true → region_has region x y ≡ true
+  pub kept : (x y : ℤ) → region_has region x y ≡ true → region_has fresh x y ≡ false
+      → is_kept_at r x y ≡ true
+
+-- some pixels of a region, and all of it that another one doesn't have so much further left and up
+pub record IsBesideMoved (rest region other : List Rect) (dx dy : ℤ) : Type 0 where
+  pub within : (x y : ℤ) → region_has rest x y ≡ true → region_has region x y ≡ true
+  pub beside : (x y : ℤ) → region_has region x y ≡ true → region_has rest x y ≡ false
+      → region_has other (x -ℤ dx) (y -ℤ dy) ≡ true
+
 -- ---- what is known before
 
 -- a way on the screen, where the window moves

@@ -3,11 +3,13 @@ ghost use Rattle.std.specs.Prelude.{IsTrue, length, slice_get, option_and_then};
 ghost use Rattle.be_stack.specs.Limits.{is_within_limits};
 ghost use Rattle.be_stack.specs.Windows as windows;
 ghost use Rattle.be_views.specs.Resizing.{resized};
+ghost use Rattle.be_desk.specs.Affected.{IsZone};
 ghost use Rattle.be_desk.specs.Changes.{desk_after, desk_with};
 ghost use Rattle.be_desk.specs.Desks.{desk_of, desk_with_both, IsAsked, IsRefusedFor};
 
 use crate::desk::Desk;
 use crate::fault::PlanFault;
+use crate::zone::{Zone, zone_of};
 use be_geom::Change;
 use be_stack::{ChangeFault, Stack};
 use be_views::ViewTree;
@@ -18,6 +20,7 @@ pub(crate) struct Next {
     pub stack: Stack,
     /// The views of the changed window, where it is resized.
     pub tree: Option<ViewTree>,
+    pub zone: Zone,
 }
 
 /// What a change of window `w` makes of the desk, or why it is refused.
@@ -25,6 +28,7 @@ pub(crate) fn next_of(desk: &Desk, w: u16, change: &Change) -> Result<Next, Plan
     requires { IsAsked (desk_of desk.now) w change.now }
     ensures next { IfOk result (λ next. desk_after (desk_of desk.now) w change.now
         ≡ Ok (desk_with_both (desk_of desk.now) w change.now next.stack next.tree)) }
+    ensures zone { IfOk result (λ next. IsZone desk.now.stack next.stack w next.zone) }
     ensures refused { IfErr result (IsRefusedFor (desk_after (desk_of desk.now) w change.now)) }
 {
     let mut stack = desk.stack.copy()?;
@@ -32,7 +36,8 @@ pub(crate) fn next_of(desk: &Desk, w: u16, change: &Change) -> Result<Next, Plan
         return Err(fault_of(fault));
     }
     let tree = new_tree(desk, w, *change)?;
-    Ok(Next { stack, tree })
+    let zone = zone_of(&desk.stack, &stack, w)?;
+    Ok(Next { stack, tree, zone })
 }
 
 fn fault_of(fault: ChangeFault) -> PlanFault

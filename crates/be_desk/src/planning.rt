@@ -2,8 +2,9 @@ ghost use Rattle.std.specs.Prelude.{◌≡◌, ◌<◌, ◌-ℤ◌, true, List, 
 ghost use Rattle.std.specs.Prelude.{length, map, slice_get};
 ghost use Rattle.be_input.specs.Pointing.{corner_of};
 ghost use Rattle.be_span.specs.Laid.{IsShift};
+ghost use Rattle.be_stack.specs.Visible.{IsVisible};
 ghost use Rattle.be_views.specs.Trees.{Tree};
-ghost use Rattle.be_desk.specs.Affected.{HasAltered};
+ghost use Rattle.be_desk.specs.Affected.{HasAltered, IsZone, OthersStay};
 ghost use Rattle.be_desk.specs.Changes as machine;
 ghost use Rattle.be_desk.specs.Changes.{desk_after};
 ghost use Rattle.be_desk.specs.Desks.{desk_of, desk_with_both, trees_with, IsAsked, IsRefusedFor};
@@ -13,14 +14,16 @@ ghost use Rattle.be_desk.specs.Renewed.{AreChangedTo, IsChange, IsRenewalIn, mot
 ghost use Rattle.be_desk.specs.Renewals.{IsNearBy};
 ghost use Rattle.be_desk.specs.declared.renewal.Motion.TheVariants.{Still, Moving};
 
-use crate::altered::{has_same_pixels, is_apart};
+use crate::altered::has_same_pixels;
 use crate::desk::Desk;
 use crate::fault::PlanFault;
 use crate::next::{Next, next_of};
 use crate::planned::Plan;
-use crate::renewal::{Motion, Renewal, renewed};
+use crate::renewal::{Motion, Renewal, is_still, renewed};
+use crate::zone::{is_apart, owned_after};
 use be_geom::{Change, NoMemory, Point};
 use be_pane::Pane;
+use be_region::Region;
 use be_span::SpanBuf;
 use be_stack::Stack;
 use be_views::ViewTree;
@@ -29,8 +32,9 @@ use std::alloc::Global;
 /// Makes ready a change of window `w`. The panes are those of the windows that `affected` names,
 /// and more may be among them, each of another window, in order of number.
 ///
-/// It costs the rectangles of those whose frames meet `w`'s, and the pixels of those that win or
-/// lose some, are moved or resized.
+/// It costs the rectangles of `w` before and after, those of the windows whose frames have a pixel
+/// of them, and the pixels of those that win or lose some, are moved or resized. What is in front
+/// of a window is asked only where `w` gives up pixels of its frame.
 pub fn plan(
     alloc: Global,
     desk: &Desk,
@@ -68,9 +72,10 @@ fn all_spans(
     w: u16,
     change: &Change,
 ) -> Result<Vec<Option<SpanBuf>>, NoMemory>
-    requires { IsChange (desk_of desk.now)
+    requires change { IsChange (desk_of desk.now)
         (desk_with_both (desk_of desk.now) w change.now next.now.stack next.now.tree)
         w change.now (lent panes.now) }
+    requires zone { IsZone desk.now.stack next.now.stack w next.now.zone }
     ensures { IfOk result (λ all. AreChangedTo (desk_of desk.now)
         (desk_with_both (desk_of desk.now) w change.now next.now.stack next.now.tree)
         w change.now (lent panes.now) all.items (length panes.now)) }
@@ -96,30 +101,35 @@ fn new_spans(
     requires change { IsChange (desk_of desk.now)
         (desk_with_both (desk_of desk.now) w change.now next.now.stack next.now.tree)
         w change.now (lent panes.now) }
+    requires zone { IsZone desk.now.stack next.now.stack w next.now.zone }
     requires listed { Contains (lent panes.now) pane.now }
     ensures { IfOk result (λ spans. AreChanged (desk_of desk.now)
         (desk_with_both (desk_of desk.now) w change.now next.now.stack next.now.tree)
         w change.now (lent panes.now) pane.now (then_spans spans pane.now)) }
 {
     let renewal = renewal_of(desk, next, pane, w, change);
-    if is_apart(&desk.stack, &next.stack, w, pane.window) {
+    if is_apart(&desk.stack, &next.zone, w, pane.window) {
         return Ok(None);
     }
-    let region = next.stack.visible(pane.window)?;
+    let region = region_of(desk, next, pane, w)?;
     if is_still(renewal.motion) && has_same_pixels(&region, pane.spans.region()) {
         return Ok(None);
     }
     Ok(Some(renewed(alloc, &renewal, panes, region)?))
 }
 
-/// Whether the pixels that a window keeps stay where they are.
-fn is_still(motion: Motion) -> bool
-    ensures { result ≡ true → motion ≡ Still }
+/// What a pane's window owns afterwards.
+fn region_of(desk: &Desk, next: &Next, pane: &Pane, w: u16) -> Result<Region, NoMemory>
+    requires zone { IsZone desk.now.stack next.now.stack w next.now.zone }
+    requires others { OthersStay desk.now.stack next.now.stack w }
+    requires owned { IsVisible pane.now.spans.rects desk.now.stack pane.now.window }
+    ensures { IfOk result (λ region. IsVisible region next.now.stack pane.now.window) }
 {
-    match motion {
-        Motion::Still => true,
-        Motion::Moving { .. } | Motion::Resizing => false,
+    if pane.window == w {
+        return next.zone.new.copy();
     }
+    let owned = pane.spans.region();
+    owned_after(&desk.stack, &next.stack, &next.zone, pane.window, owned)
 }
 
 /// What becomes of a pane's window.

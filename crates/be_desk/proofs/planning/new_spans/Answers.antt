@@ -7,7 +7,7 @@ use Rattle.be_stack.specs.Visible.{IsVisible}
 use Rattle.be_desk.specs.Affected.{OwnsTheSame}
 use Rattle.be_desk.specs.Desks.{desk_of, desk_with_both}
 use Rattle.be_desk.specs.Plans.{AreChanged, lent}
-use Rattle.be_desk.proofs.SpansLemmas.{apart_spans, others_of, changed_spans, colored_spans, kept_spans, stays_there}
+use Rattle.be_desk.proofs.SpansLemmas.{apart_spans, others_of, owned_there, changed_spans, colored_spans, kept_spans, stays_there}
 use Rattle.be_desk.proofs.planning.new_spans.Goals as goal
 
 pub renewal_of-renewal-requires-clause-there : goal.renewal_of-renewal-requires-clause-there
@@ -58,12 +58,6 @@ returns c =
     subst (λ (p : Pane). AreChanged before after c.args.w c.args.change.now (lent c.args.panes.now) p c.in_ok-renewed.field-0) same
     (changed_spans before after c.args.w c.args.change.now (lent c.args.panes.now) r region c.in_ok-renewed.field-0 c.requires.change listed c.renewal_of-renewal.ensures.renewal visible c.in_ok-renewed.ensures.region c.in_ok-renewed.ensures.cells)
 
-pub is_apart-requires : goal.is_apart-requires
-is_apart-requires c =
-    let before = desk_of c.args.desk.now in
-    let after = desk_with_both before c.args.w c.args.change.now c.args.next.now.stack c.args.next.now.tree in
-    others_of before after c.args.w c.args.change.now (lent c.args.panes.now) c.requires.change
-
 pub returns-then-is_apart : goal.returns-then-is_apart
 returns-then-is_apart c =
     let before = desk_of c.args.desk.now in
@@ -72,6 +66,19 @@ returns-then-is_apart c =
     let same = c.renewal_of-renewal.ensures.pane in
     let listed = subst (λ (p : Pane). Contains (lent c.args.panes.now) p) (sym same) c.requires.listed in
     let other = subst (λ (p : Pane). p.window ≡ c.args.w → ⊥) (sym same) (c.is_apart.ensures.other c.if-is_apart.true) in
-    let owns = subst (λ (p : Pane). OwnsTheSame before.windows after.windows p.window) (sym same) (c.is_apart.ensures.same c.if-is_apart.true) in
+    let stay = others_of before after c.args.w c.args.change.now (lent c.args.panes.now) c.requires.change in
+    let owns = subst (λ (p : Pane). OwnsTheSame before.windows after.windows p.window) (sym same) (c.is_apart.ensures.same c.if-is_apart.true after.windows stay c.requires.zone) in
     subst (λ (p : Pane). AreChanged before after c.args.w c.args.change.now (lent c.args.panes.now) p p.spans) same
     (apart_spans before after c.args.w c.args.change.now (lent c.args.panes.now) r c.requires.change listed c.renewal_of-renewal.ensures.renewal other owns)
+
+pub region_of-requires-clause-others : goal.region_of-requires-clause-others
+region_of-requires-clause-others c =
+    let before = desk_of c.args.desk.now in
+    let after = desk_with_both before c.args.w c.args.change.now c.args.next.now.stack c.args.next.now.tree in
+    others_of before after c.args.w c.args.change.now (lent c.args.panes.now) c.requires.change
+
+pub region_of-requires-clause-owned : goal.region_of-requires-clause-owned
+region_of-requires-clause-owned c =
+    let before = desk_of c.args.desk.now in
+    let after = desk_with_both before c.args.w c.args.change.now c.args.next.now.stack c.args.next.now.tree in
+    owned_there before after c.args.w c.args.change.now (lent c.args.panes.now) c.args.pane.now c.requires.change c.requires.listed

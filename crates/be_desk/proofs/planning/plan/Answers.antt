@@ -6,8 +6,8 @@ use Rattle.be_desk.specs.Renewed.{AreChangedTo}
 use Rattle.be_desk.proofs.SpansLemmas.{is_plan}
 use Rattle.be_desk.proofs.planning.plan.Goals as goal
 
-pub all_spans-requires : goal.all_spans-requires
-all_spans-requires c =
+pub all_spans-requires-clause-change : goal.all_spans-requires-clause-change
+all_spans-requires-clause-change c =
     let after = desk_with_both (desk_of c.args.desk.now) c.args.w c.args.change.now c.in_ok-next.next.stack c.in_ok-next.next.tree in
     record {
       paired = c.requires.asked.paired;
