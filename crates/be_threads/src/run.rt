@@ -1,5 +1,5 @@
 //! A run of a script.
-ghost use Rattle.std.specs.Prelude.{◌<◌, IfOk};
+ghost use Rattle.std.specs.Prelude.{IfOk};
 ghost use Rattle.be_runs.specs.Runs.{Leaves};
 
 use crate::crew::work_all;
@@ -10,7 +10,7 @@ use be_noted::Noting;
 use be_outside::Gate;
 use be_runs::Finished;
 use be_turns::Turns;
-use be_workers::{finish, hire};
+use be_workers::{Spread, finish, hire};
 use be_world::World;
 use std::alloc::Global;
 use std::sync::Wait;
@@ -26,8 +26,7 @@ pub fn run_on_threads<R: Threads + Wait + Sync, G: Gate + Sync>(
 ) -> Result<Finished, NoMemory>
     ensures { IfOk result (Leaves world) }
 {
-    let activities = world.activities();
-    run(rt, alloc, world, gate, activities as usize)
+    run(rt, alloc, world, gate, Spread::Apart)
 }
 
 /// The same run on this thread alone: one worker begins where the one before it has ended. Each
@@ -40,18 +39,17 @@ pub fn run_on_one_thread<R: Threads + Wait + Sync, G: Gate + Sync>(
 ) -> Result<Finished, NoMemory>
     ensures { IfOk result (Leaves world) }
 {
-    run(rt, alloc, world, gate, 1)
+    run(rt, alloc, world, gate, Spread::InTurn)
 }
 
-// A run on so many threads at most.
+// A run on these threads.
 fn run<R: Threads + Wait + Sync, G: Gate + Sync>(
     rt: &R,
     alloc: Global,
     world: World,
     gate: &G,
-    threads: usize,
+    spread: Spread,
 ) -> Result<Finished, NoMemory>
-    requires { 0 < threads }
     ensures { IfOk result (Leaves world) }
 {
     let noting = Noting::new(world);
@@ -61,7 +59,7 @@ fn run<R: Threads + Wait + Sync, G: Gate + Sync>(
     let (hall, mut pass) = Hall::open(alloc, noting, parts, 1 << 62)?;
     let mut workers = hire(alloc, &hall, &mut pass)?;
     let bells = Bells::new(alloc, activities, places)?;
-    work_all(rt, gate, &hall, &bells, workers.as_mut_slice(), threads);
+    work_all(rt, gate, &hall, &bells, workers.as_mut_slice(), spread);
     let closed = finish(rt, alloc, hall, pass, workers)?;
     Ok(Finished {
         world: closed.rules.into_world(),

@@ -2,3 +2,4 @@ mod Some
 mod Wanted
 mod Turned
 mod Ending
+mod Places

@@ -1,3 +1,4 @@
 pub mod Wanted
 pub mod Turned
 pub mod Workers
+pub mod Fork

@@ -7,6 +7,7 @@
 
 mod close;
 mod crew;
+mod fork;
 mod tools;
 mod turn;
 mod wants;
@@ -14,5 +15,6 @@ mod worker;
 
 pub use close::finish;
 pub use crew::{hire, work};
+pub use fork::{Spread, for_each};
 pub use wants::Wants;
 pub use worker::{End, Worker};

@@ -1,5 +1,5 @@
 //! A run of the small world.
-ghost use Rattle.std.specs.Prelude.{◌≡◌, ◌^◌, ◌<◌, ◌≤◌, [], All, IfOk, map};
+ghost use Rattle.std.specs.Prelude.{◌≡◌, ◌^◌, ◌≤◌, [], All, IfOk, map};
 ghost use Rattle.be_hall.specs.Numbers.{total};
 ghost use Rattle.be_hall.specs.Machine.{AllFit};
 ghost use Rattle.be_turns.specs.Turning.{IsFinished};
@@ -11,7 +11,7 @@ use be_bells::Bells;
 use be_geom::NoMemory;
 use be_hall::{Closed, Hall};
 use be_outside::Gate;
-use be_workers::{finish, hire};
+use be_workers::{Spread, finish, hire};
 use small_world::{Counter, World};
 use std::alloc::Global;
 use std::sync::Wait;
@@ -34,8 +34,7 @@ pub fn run_on_threads<R: Threads + Wait + Sync, G: Gate + Sync>(
     ensures finished { IfOk result (λ c. IsFinished (passing world) (λ step. is_close step)
         (map count_of parts.items) c.history.items (map count_of c.parts.items)) }
 {
-    let activities = world.closing() + 1;
-    run(rt, alloc, world, parts, gate, activities as usize)
+    run(rt, alloc, world, parts, gate, Spread::Apart)
 }
 
 /// The same run on this thread alone: one worker begins where the one before it has ended. Each
@@ -55,19 +54,18 @@ pub fn run_on_one_thread<R: Threads + Wait + Sync, G: Gate + Sync>(
     ensures finished { IfOk result (λ c. IsFinished (passing world) (λ step. is_close step)
         (map count_of parts.items) c.history.items (map count_of c.parts.items)) }
 {
-    run(rt, alloc, world, parts, gate, 1)
+    run(rt, alloc, world, parts, gate, Spread::InTurn)
 }
 
-// A run on so many threads at most.
+// A run on these threads.
 fn run<R: Threads + Wait + Sync, G: Gate + Sync>(
     rt: &R,
     alloc: Global,
     world: World,
     parts: Vec<Counter>,
     gate: &G,
-    threads: usize,
+    spread: Spread,
 ) -> Result<Closed<World>, NoMemory>
-    requires threads { 0 < threads }
     requires sound { IsSound world (map count_of parts.items) }
     requires budgets { total (passing world).budget (map count_of parts.items) ≤ 2 ^ 62 }
     requires fits { AllFit (passing world).fits 0 (map count_of parts.items) }
@@ -80,6 +78,6 @@ fn run<R: Threads + Wait + Sync, G: Gate + Sync>(
     let (hall, mut pass) = Hall::open(alloc, world, parts, 1 << 62)?;
     let mut workers = hire(alloc, &hall, &mut pass)?;
     let bells = Bells::new(alloc, places, places)?;
-    work_all(rt, gate, &hall, &bells, workers.as_mut_slice(), threads);
+    work_all(rt, gate, &hall, &bells, workers.as_mut_slice(), spread);
     finish(rt, alloc, hall, pass, workers)
 }
