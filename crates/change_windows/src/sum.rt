@@ -1,8 +1,7 @@
-use be_span::{Cell, SpanBuf};
+use cell_sums::sum_of_spans;
 use desk_screen::Screen;
 
-/// A sum over all pixels that the windows own, which another cell at a pixel changes. It goes down
-/// the windows' rectangles, and looks at each cell once.
+/// A sum over all pixels that the windows own, which another cell at a pixel changes.
 pub fn sum_of(screen: &Screen, windows: u8) -> u64 {
     let mut sum = 0u64;
     for w in 0..windows {
@@ -11,46 +10,4 @@ pub fn sum_of(screen: &Screen, windows: u8) -> u64 {
         }
     }
     sum
-}
-
-fn sum_of_spans(spans: &SpanBuf) -> u64 {
-    let mut sum = 0u64;
-    for place in 0..spans.region().count() {
-        if let Some(rect) = spans.region().rect_at(place) {
-            for y in rect.top..=rect.bottom {
-                sum = sum.wrapping_add(sum_of_row(spans, rect.left, y));
-            }
-        }
-    }
-    sum
-}
-
-/// The same from a column on to the end of its span.
-fn sum_of_row(spans: &SpanBuf, left: i16, y: i16) -> u64 {
-    let mut sum = 0u64;
-    let mut x = left;
-    for cell in spans.row_from(i32::from(left), i32::from(y)) {
-        sum = sum.wrapping_add(weight_of(x, y, *cell));
-        x = x.wrapping_add(1);
-    }
-    sum
-}
-
-/// What a cell at a pixel adds: its column, row, colour and mark side by side, stirred.
-fn weight_of(x: i16, y: i16, cell: Cell) -> u64 {
-    let [left, right] = x.to_be_bytes();
-    let [upper, lower] = y.to_be_bytes();
-    let mark = u8::from(cell.dirty);
-    let all = [
-        left,
-        right,
-        upper,
-        lower,
-        cell.rgb.red,
-        cell.rgb.green,
-        cell.rgb.blue,
-        mark,
-    ];
-    let once = u64::from_be_bytes(all).wrapping_mul(0x9e37_79b9_7f4a_7c15);
-    (once ^ (once >> 32)).wrapping_mul(0xbf58_476d_1ce4_e5b9)
 }

@@ -1,5 +1,6 @@
 //! Draws on a view of a window over and over, as the words on the command line say, and writes how
-//! many of the window's pixels the drawing paints. `bench/paint` times it.
+//! many of the window's cells differ from a white one that doesn't wait, and a sum over all cells.
+//! `bench/paint` times it.
 #![tactic(auto)]
 
 mod grid;
@@ -9,14 +10,14 @@ mod subject;
 
 use be_geom::NoMemory;
 use place::Setting;
-use rounds::painted_pixels;
+use rounds::{Outcome, drawn};
 use std::alloc::Global;
 use std::process::ExitCode;
 use std::{env, io};
 use subject::Kind;
 
-const USAGE: &str = "usage: draw_views fill|pattern|frame|line|text|image|photo SIDE \
-    alone|small|clip|views|session ROUNDS";
+const USAGE: &str = "usage: draw_views fill|pattern|frame|line|text|image|photo|scroll|invalidate \
+    SIDE alone|small|clip|views|session ROUNDS";
 
 /// SIDE is 1 to 1000, and ROUNDS a number of 32 bits. Other words end with status 2, and want of
 /// memory with 1.
@@ -36,9 +37,9 @@ fn main(rt: HostRuntime) -> io::Result<ExitCode> {
     ) else {
         return usage(&rt);
     };
-    match painted_pixels(rt.alloc(), kind, side, setting, rounds) {
-        Ok(pixels) => {
-            println!(rt; "{pixels}")?;
+    match drawn(rt.alloc(), kind, side, setting, rounds) {
+        Ok(Outcome { changed, sum }) => {
+            println!(rt; "{changed} {sum}")?;
             Ok(ExitCode::SUCCESS)
         }
         Err(fault) => {
@@ -69,6 +70,8 @@ fn kind_of(word: &str) -> Option<Kind> {
         "text" => Some(Kind::Text),
         "image" => Some(Kind::Image),
         "photo" => Some(Kind::Photo),
+        "scroll" => Some(Kind::Scroll),
+        "invalidate" => Some(Kind::Invalidate),
         _ => None,
     }
 }

@@ -9,7 +9,7 @@ use std::alloc::Global;
 pub enum Kind {
     /// The square, in one colour.
     Fill,
-    /// The same, in two.
+    /// The square, in two.
     Pattern,
     /// Its four sides.
     Frame,
@@ -21,17 +21,23 @@ pub enum Kind {
     Image,
     /// A picture none of whose pixels has the colour of the next.
     Photo,
+    /// The same picture, which then goes a row up and a row down again.
+    Scroll,
+    /// Nothing: the square is invalidated.
+    Invalidate,
 }
 
 /// The side of the largest picture.
 pub const TILE: i16 = 250;
 
-/// The same with what it needs.
+/// A kind with what it needs.
 #[derive(Drop)]
 pub enum Subject {
     Shape(Raster, Pattern),
     Letters(Vec<u8>),
     Picture(Bitmap),
+    Moving(Bitmap, Rect),
+    Waiting(Rect),
 }
 
 /// What is drawn in a square of this side. None where there is no such picture.
@@ -45,6 +51,10 @@ pub fn subject_of(alloc: Global, kind: Kind, side: i16) -> Result<Option<Subject
         Kind::Text => Some(Subject::Letters(letters(alloc, side)?)),
         Kind::Image => picture(alloc, side, 8)?.map(Subject::Picture),
         Kind::Photo => picture(alloc, side, 1)?.map(Subject::Picture),
+        Kind::Scroll => {
+            picture(alloc, side, 1)?.map(|bitmap| Subject::Moving(bitmap, rows_of(side)))
+        }
+        Kind::Invalidate => Some(Subject::Waiting(square_of(side))),
     })
 }
 
@@ -55,6 +65,15 @@ fn square_of(side: i16) -> Rect {
         top: 0,
         right: last,
         bottom: last,
+    }
+}
+
+/// The rows of a square that a window of 700 rows has.
+fn rows_of(side: i16) -> Rect {
+    let square = square_of(side);
+    Rect {
+        bottom: square.bottom.min(699),
+        ..square
     }
 }
 

@@ -1,3 +1,6 @@
+ghost use Rattle.std.specs.Prelude.{◌<◌, length};
+ghost use Rattle.be_geom.specs.Places.{IsNear};
+
 use be_bitmap::Bitmap;
 use be_color::{Color, Mode, Pattern, Rgb};
 use be_descent::{
@@ -264,15 +267,30 @@ fn letters_are_where_bits_are(rt: HostRuntime) -> Result<(), Fail> {
         masks: &MASKS,
         way: Way { right: 4, down: 2 },
     };
+    let ink = Ink { paint: &letters };
     for picture in ["........../..#.##..../..#......./..#..###--/........--/........--"] {
         let mut spans = pixels(rt.alloc())?;
-        paint_bands(&mut spans, &all, HERE, &reach, &Ink { paint: &letters });
+        paint_bands(&mut spans, &all, HERE, &reach, &ink);
         check(&rt, &spans, picture);
         let mut spans = pixels(rt.alloc())?;
         paint_letters(&mut spans, ALL, &letters, &reach);
         check(&rt, &spans, picture);
     }
     Ok(())
+}
+
+/// Paints a picture as the ink of a filled rectangle.
+fn paint_as_ink(spans: &mut SpanBuf, image: &Image<'_>, reach: &Reach<'_>)
+    requires view { reach.now.view < length reach.now.tree.now }
+    requires corner { IsNear 64 reach.now.corner.right × IsNear 64 reach.now.corner.down }
+{
+    paint_bands(
+        spans,
+        &Raster::Fill(ALL),
+        HERE,
+        reach,
+        &Ink { paint: image },
+    );
 }
 
 #[test]
@@ -283,7 +301,6 @@ fn a_clear_pixel_of_a_picture_stays(rt: HostRuntime) -> Result<(), Fail> {
     if tree.len() <= 1 {
         panic!(rt; "the views are there");
     }
-    let all = Raster::Fill(ALL);
     let row = vec![in rt.alloc(); BRUSH.high, Color::Clear, BRUSH.low, BRUSH.low, BRUSH.high]?;
     let Ok(bitmap) = Bitmap::new(5, 1, row) else {
         panic!(rt; "five pixels are five by one");
@@ -295,7 +312,7 @@ fn a_clear_pixel_of_a_picture_stays(rt: HostRuntime) -> Result<(), Fail> {
     };
     for picture in ["........../........../.#...#..../........--/........--/........--"] {
         let mut spans = pixels(rt.alloc())?;
-        paint_bands(&mut spans, &all, HERE, &reach, &Ink { paint: &image });
+        paint_as_ink(&mut spans, &image, &reach);
         check(&rt, &spans, picture);
         let mut spans = pixels(rt.alloc())?;
         paint_image(&mut spans, &image, &reach);
