@@ -3,7 +3,7 @@ use Rattle.std.proofs.Common.{◌≡◌, ℤ, ◌+ℤ◌, ◌-ℤ◌, ◌≤ℤ�
 use Rattle.std.proofs.lemmas.Int.{ints}
 use Rattle.be_region.specs.Runs.{IsRun}
 use Rattle.be_span.specs.Laid.{IsShift}
-use Rattle.be_desk.specs.Exposing.{IsCoordinate, IsStretch}
+use Rattle.be_geom.specs.Stretches.{IsCoordinate, IsStretch}
 
 -- ---- numbers
 

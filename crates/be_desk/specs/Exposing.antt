@@ -1,19 +1,9 @@
 -- Cells changed by a rule along rows and rectangles (this project's own).
-use Rattle.std.specs.Prelude.{◌≡◌, ℤ, ◌≤ℤ◌, ◌<ℤ◌, ◌⊎◌, negsuc, pos}
+use Rattle.std.specs.Prelude.{◌≡◌, ℤ, ◌≤ℤ◌, ◌<ℤ◌, ◌⊎◌}
 use Rattle.std.specs.Option.{option_map}
 use Rattle.be_geom.specs.declared.rect.Rect.{Rect}
 use Rattle.be_span.specs.declared.Cell.{Cell}
 use Rattle.be_span.specs.Spans.{Spans, cell_in}
-
--- a column or a row in the range
-abbrev pub IsCoordinate : ℤ → Type 0
-IsCoordinate z = (negsuc 32767 ≤ℤ z) × (z ≤ℤ pos 32767)
-
--- from column x on the answer is the same up to the last column, which isn't behind the end
-pub record IsStretch {A : Type 0} (answer : ℤ → A) (x end last : ℤ) : Type 0 where
-  pub forward : x ≤ℤ last
-  pub within : last ≤ℤ end
-  pub same : (z : ℤ) → x ≤ℤ z → z ≤ℤ last → answer z ≡ answer x
 
 -- what a rule makes of each pixel's cell
 abbrev pub Rule : Type 0

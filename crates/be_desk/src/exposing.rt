@@ -5,7 +5,8 @@ ghost use Rattle.be_geom.specs.Rects.{rect_has};
 ghost use Rattle.be_region.specs.Regions.{IsNotEmpty, region_has};
 ghost use Rattle.be_span.specs.Cells.{exposed_as};
 ghost use Rattle.be_span.specs.Spans.{cell_in};
-ghost use Rattle.be_desk.specs.Exposing.{IsCoordinate, IsRuledRow, IsStretch};
+ghost use Rattle.be_geom.specs.Stretches.{IsCoordinate, IsStretch};
+ghost use Rattle.be_desk.specs.Exposing.{IsRuledRow};
 ghost use Rattle.be_desk.specs.Renewals.{IsFresh, IsNearBy, color_at, exposed_by, exposure};
 
 use crate::kept::view_run;

@@ -4,7 +4,7 @@ ghost use Rattle.be_geom.specs.declared.point.Point as points;
 ghost use Rattle.be_span.specs.Laid.{IsShift};
 ghost use Rattle.be_views.specs.Places.{pair_of};
 ghost use Rattle.be_desk.specs.Changes as changes;
-ghost use Rattle.be_desk.specs.Exposing.{IsCoordinate, IsStretch};
+ghost use Rattle.be_geom.specs.Stretches.{IsCoordinate, IsStretch};
 ghost use Rattle.be_desk.specs.Renewals.{IsNearBy, is_kept_at, is_kept_view, owned};
 ghost use Rattle.be_desk.specs.Renewals.{shows_same_spot, view_from};
 

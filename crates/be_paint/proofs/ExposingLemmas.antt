@@ -17,7 +17,7 @@ use Rattle.be_paint.specs.Copies.{invalidated_in, invalidated_cell}
 use Rattle.be_paint.specs.Exposing.{color_below, exposed_color}
 use Rattle.be_paint.specs.Reach as reach
 use Rattle.be_paint.specs.Seen.{IsSeenAs, IsSite, view_on}
-use Rattle.be_paint.specs.Stretches.{IsStretch}
+use Rattle.be_geom.specs.Stretches.{IsStretch}
 use Rattle.be_paint.specs.declared.reach.Reach.{Reach}
 use Rattle.be_paint.specs.declared.reach.Site.{Site}
 use Rattle.be_paint.proofs.AreaLemmas.{moved_has, less_three}

@@ -21,7 +21,7 @@ use Rattle.be_paint.specs.Reach as reach
 use Rattle.be_paint.specs.Reach.{is_reached, in_drawing}
 use Rattle.be_region.specs.Sessions.{SameSession}
 use Rattle.be_paint.specs.Seen.{IsSeenAs, IsSite, is_own, is_allowed, may_draw, view_on}
-use Rattle.be_paint.specs.Stretches.{IsStretch}
+use Rattle.be_geom.specs.Stretches.{IsStretch}
 use Rattle.be_paint.specs.declared.copying.Change.{Change}
 use Rattle.be_paint.specs.declared.copying.Change.TheVariants.{Stay, Expose, Copy}
 use Rattle.be_paint.specs.declared.copying.Copying.{Copying}

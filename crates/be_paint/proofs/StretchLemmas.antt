@@ -5,7 +5,7 @@ use Rattle.std.specs.Prelude.{if◌then◌else◌}
 use Rattle.std.specs.Int.{int_min}
 use Rattle.be_region.specs.Runs.{IsRun}
 use Rattle.be_geom.specs.Places.{IsNear}
-use Rattle.be_paint.specs.Stretches.{IsStretch, IsCoordinate}
+use Rattle.be_geom.specs.Stretches.{IsStretch, IsCoordinate}
 
 -- ---- numbers
 

@@ -8,7 +8,7 @@ ghost use Rattle.be_paint.specs.Copies.{copied_cell};
 ghost use Rattle.be_paint.specs.Moving.{moved_cell, changed_by, IsMovable};
 ghost use Rattle.be_paint.specs.Reach as reaches;
 ghost use Rattle.be_paint.specs.Seen.{IsSeenAs, IsPlace};
-ghost use Rattle.be_paint.specs.Stretches.{IsCoordinate};
+ghost use Rattle.be_geom.specs.Stretches.{IsCoordinate};
 ghost use Rattle.be_paint.specs.declared.copying.Change.TheVariants.{Stay, Copy};
 
 use crate::area::part_within;

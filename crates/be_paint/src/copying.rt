@@ -2,7 +2,7 @@ ghost use Rattle.std.specs.Prelude.{◌≡◌, ℤ, ◌-ℤ◌, ◌≤ℤ◌};
 ghost use Rattle.be_geom.specs.Places.{IsNear};
 ghost use Rattle.be_paint.specs.Moving.{change_at, IsMovable};
 ghost use Rattle.be_paint.specs.Seen.{is_own};
-ghost use Rattle.be_paint.specs.Stretches.{IsStretch, IsCoordinate};
+ghost use Rattle.be_geom.specs.Stretches.{IsStretch, IsCoordinate};
 
 use crate::pixel::Pixel;
 use crate::reach::Reach;

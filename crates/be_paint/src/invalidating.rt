@@ -8,7 +8,7 @@ ghost use Rattle.be_paint.specs.Copies.{invalidated_cell};
 ghost use Rattle.be_paint.specs.Exposing.{color_below, exposed_color};
 ghost use Rattle.be_paint.specs.Reach as reaches;
 ghost use Rattle.be_paint.specs.Seen.{IsSeenAs};
-ghost use Rattle.be_paint.specs.Stretches.{IsStretch, IsCoordinate};
+ghost use Rattle.be_geom.specs.Stretches.{IsStretch, IsCoordinate};
 
 use crate::area::part_within;
 use crate::kin::is_at_or_below;

@@ -7,7 +7,7 @@ ghost use Rattle.be_views.specs.Trees.{place_of};
 ghost use Rattle.be_paint.specs.Seen.{view_on, is_own, is_allowed, is_open, may_draw};
 ghost use Rattle.be_paint.specs.Seen.{IsPlace, IsOrigin, IsSite};
 ghost use Rattle.be_region.specs.Regions.{region_has};
-ghost use Rattle.be_paint.specs.Stretches.{IsStretch, IsCoordinate};
+ghost use Rattle.be_geom.specs.Stretches.{IsStretch, IsCoordinate};
 
 use crate::pixel::{Pixel, last_column};
 use be_geom::Point;

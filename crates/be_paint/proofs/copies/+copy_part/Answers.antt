@@ -2,7 +2,7 @@ use Rattle.std.proofs.Common.{◌≡◌, ℤ, pos, ◌+ℤ◌, ◌-ℤ◌, rules
 use Rattle.std.proofs.lemmas.Int.{to_z-of_z, ints}
 use Rattle.be_geom.specs.declared.rect.Rect.{Rect}
 use Rattle.be_paint.specs.Moving.{change_at}
-use Rattle.be_paint.specs.Stretches.{IsStretch}
+use Rattle.be_geom.specs.Stretches.{IsStretch}
 use Rattle.be_paint.proofs.MovingLemmas.{copied_owned, moved_run, left_first, right_first}
 use Rattle.be_paint.proofs.RowLemmas.{abs_less}
 use Rattle.be_paint.proofs.copies.+copy_part.Goals as goal

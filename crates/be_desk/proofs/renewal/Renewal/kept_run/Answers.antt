@@ -2,7 +2,7 @@
 use Rattle.std.proofs.Common.{rules, SFits, w32, subst, sym}
 use Rattle.std.proofs.lemmas.Int.{to_z-of_z}
 use Rattle.be_desk.specs.declared.renewal.Motion.{Motion}
-use Rattle.be_desk.specs.Exposing.{IsStretch}
+use Rattle.be_geom.specs.Stretches.{IsStretch}
 use Rattle.be_desk.specs.Renewals.{is_kept_by}
 use Rattle.be_desk.proofs.renewal.Renewal.kept_run.Goals as goal
 

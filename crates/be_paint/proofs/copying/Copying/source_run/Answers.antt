@@ -1,7 +1,7 @@
 use Rattle.std.proofs.Common.{◌≡◌, ℤ, ◌+ℤ◌, ◌-ℤ◌, rules, arith, SFits, w32, refl, subst}
 use Rattle.std.proofs.lemmas.Int.{to_z-of_z, ints}
 use Rattle.be_paint.specs.Seen.{is_own}
-use Rattle.be_paint.specs.Stretches.{IsStretch}
+use Rattle.be_geom.specs.Stretches.{IsStretch}
 use Rattle.be_paint.proofs.StretchLemmas.{moved_stretch, way_fits, back_fits}
 use Rattle.be_paint.proofs.copying.Copying.source_run.Goals as goal
 
