@@ -5,8 +5,8 @@ use Rattle.std.proofs.Common.{arith, Option, Some, None, Result, Ok, Err}
 use Rattle.std.specs.List.{position_or_len}
 use Rattle.std.specs.Prelude.{if◌then◌else◌}
 use Rattle.std.proofs.lemmas.Bool.{ne_eqb}
-use Rattle.std.proofs.lemmas.Bool.Decides.{nat_tests}
 use Rattle.std.proofs.lemmas.List.{length-append, take-append-drop}
+use Rattle.be_facts.proofs.Numbers.{nat_lt_from}
 use Rattle.app_server.specs.Inputs.{told_in}
 use Rattle.be_command.specs.declared.fault.Reason.TheVariants.{TooLong}
 use Rattle.be_lex.proofs.Cuts.{split_cut}
@@ -18,12 +18,9 @@ use Rattle.be_report.specs.Told.{before_entries, begins_traces, entries_in, entr
 use Rattle.be_report.specs.Told.{entry_then, history_in, promised, promised_in}
 use Rattle.be_script.specs.Script.{Declared}
 
-more_is : (a b : ℕ) → a < b → nat_lt a b ≡ true
-more_is a b h = grind (arith, nat_tests, h)
-
 pub too_long : (bytes : List ℕ) → 67108864 < length bytes → told_in bytes ≡ fault 0 TooLong
 unfolding told_in
-too_long bytes more = rw (more_is 67108864 (length bytes) more) refl
+too_long bytes more = rw (nat_lt_from 67108864 (length bytes) more) refl
 
 -- ---- how many lines a text has
 

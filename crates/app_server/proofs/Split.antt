@@ -5,24 +5,18 @@ use Rattle.std.proofs.Common.{inl, inr, arith, cond}
 use Rattle.std.specs.Prelude.{flat_map, not}
 use Rattle.std.specs.List.{position_or_len, list_all}
 use Rattle.std.proofs.lemmas.Bool.{and_parts, ne_eqb}
-use Rattle.std.proofs.lemmas.Bool.Decides.{nat_tests}
 use Rattle.std.proofs.lemmas.List.{append_assoc, append-nil, length-append, take-append-drop}
 use Rattle.std.proofs.lemmas.List.Concat.{flat_map-append}
 use Rattle.be_lex.proofs.Cuts.{split_cut}
-use Rattle.be_lex.proofs.LineLemmas.{lines_of-first, lines_of-last, lines_of-none}
+use Rattle.be_lex.proofs.LineLemmas.{lines_of-first, lines_of-last, lines_of-none, is_ten}
 use Rattle.be_lex.specs.Lines.{Line, lines_of}
+use Rattle.be_lex.proofs.LineLemmas.{is_line_end}
 use Rattle.app_server.specs.Inputs.{begins_history, line_bytes}
 use Rattle.app_server.specs.Inputs.{report_part, script_lines, script_part}
 use Rattle.app_server.specs.Parts.{IsScriptLine, Stops}
 
 abbrev pub joined : List Line → List ℕ
 joined lines = flat_map line_bytes lines
-
-abbrev is_line_end : ℕ → Bool
-is_line_end b = eqb b 10
-
-is_ten : (x : ℕ) → is_line_end x ≡ true → x ≡ 10
-is_ten x e = grind (arith, nat_tests, e)
 
 module _ {X : Type 0} where
   front_taken : (front back : List X) → take (length front) (front ++ back) ≡ front

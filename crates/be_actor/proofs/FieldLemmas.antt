@@ -2,14 +2,12 @@
 use Rattle.std.proofs.Common.{◌≡◌, ℕ, ◌+◌, ◌≤◌, true, false, cond, List, [], ◌∷◌, ◌++◌, length, Option, Some, None, inl, inr, refl, sym, ap, ◌∙◌, arith}
 use Rattle.std.specs.List.{list_any}
 use Rattle.std.specs.Str.{bytes_eq}
-use Rattle.std.proofs.lemmas.Bool.{or_from, or_parts, cond-true, cond-false, cases_Bool}
+use Rattle.std.proofs.lemmas.Bool.{or_from, cond-true, cond-false, cases_Bool}
 use Rattle.std.proofs.lemmas.Slice.Eq.{bytes_eq-Decides}
 use Rattle.std.proofs.lemmas.List.{length-map, length_push}
 use Rattle.be_message.specs.Messages.{Datum, Field}
 use Rattle.be_message.specs.Fields.{has_name, field_named, changed_at, with_one_more, new_field, with_value_in}
-
-name_is : (name : List ℕ) (f : Field) → has_name name f ≡ true → f.name ≡ name
-name_is name f h = (bytes_eq-Decides f.name name).0 h
+use Rattle.be_message.proofs.PlaceLemmas.{named_none, name_is}
 
 -- ---- found or missing
 
@@ -20,12 +18,6 @@ any_none name (f ∷ fs) h =
       | inl t ↦ let e : Some f ≡ None = sym (cond-true _ _ _ t) ∙ h in absurd (cc)
       | inr t ↦ or_from _ _ t (any_none name fs (sym (cond-false _ _ _ t) ∙ h))
     ]
-
-named_none : (name : List ℕ) (fs : List Field) → list_any (has_name name) fs ≡ false → field_named name fs ≡ None
-named_none name [] h = refl
-named_none name (f ∷ fs) h =
-    let p = or_parts (has_name name f) (list_any (has_name name) fs) h in
-    cond-false _ _ _ p.0 ∙ named_none name fs p.1
 
 pub found_name : (name : List ℕ) (fs : List Field) (f : Field) → field_named name fs ≡ Some f → f.name ≡ name
 found_name name [] f h = absurd (cc)

@@ -1,5 +1,5 @@
 -- The words of a draft are put into its message one after the other, and none is refused.
-use Rattle.std.proofs.Common.{◌≡◌, ℕ, ◌+◌, ◌<◌, ◌≤◌, Bool, true, false, not, ◌&&◌, ◌||◌, List, [], ◌∷◌, ◌++◌, length, Option, Some, None, inl, inr, refl, sym, ap, ◌∙◌, arith, append-nil, get_or, drop}
+use Rattle.std.proofs.Common.{◌≡◌, ℕ, ◌+◌, ◌<◌, ◌≤◌, true, false, not, ◌&&◌, ◌||◌, List, [], ◌∷◌, ◌++◌, length, Option, Some, None, inl, inr, refl, sym, ap, ◌∙◌, arith, append-nil, get_or, drop}
 use Rattle.std.specs.List.{list_any, list_all, fold}
 use Rattle.std.specs.Option.{IsSomeAnd, option_to_list}
 use Rattle.std.specs.Prelude.{nat_le}
@@ -7,6 +7,7 @@ use Rattle.std.specs.Str.{bytes_eq}
 use Rattle.std.proofs.lemmas.Bool.{and_parts, cases_Bool, not-true, leb-true, le-leb, lt-leb}
 use Rattle.std.proofs.lemmas.List.{length_push, drop_more, drop_all}
 use Rattle.std.proofs.lemmas.Slice.Eq.{bytes_eq-Decides}
+use Rattle.std.proofs.lemmas.Bool.{or_right}
 use Rattle.be_message.specs.Depths.{depth_of}
 use Rattle.be_message.specs.Fields.{has_name, field_named, is_allowed, add_refusal, with_one_more, new_field, with_value_in}
 use Rattle.be_message.specs.Kinds.{is_kind}
@@ -147,10 +148,6 @@ ready_first now draft kept given =
       current = given;
     }
 
-or_behind : (a b : Bool) → b ≡ true → (a || b) ≡ true
-or_behind true b h = refl
-or_behind false b h = h
-
 pub ready_after : (now : Option Message) (n : ℕ) (m : Message) (w : Word) (ws : List Word) → IsReady now n m (w ∷ ws) → IsReady now (n + 1) (with_word now m w) ws
 ready_after now n m w ws r =
     let p = and_parts (is_word true w) (list_all (is_word true) ws) r.words in
@@ -161,7 +158,7 @@ ready_after now n m w ws r =
       words = p.1;
       together = g.1;
       suit = all_suit_after now n m w ws g.0 r.suit.1;
-      current = λ h. r.current (or_behind (takes_current w) (list_any takes_current ws) h);
+      current = λ h. r.current (or_right (takes_current w) (list_any takes_current ws) h);
     }
 
 -- ---- no word is refused

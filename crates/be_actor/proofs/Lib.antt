@@ -1,4 +1,3 @@
 pub mod FieldLemmas
 pub mod FillingLemmas
-pub mod NameLemmas
 pub mod ConditionLemmas

@@ -1,15 +1,17 @@
 -- A tree comes back from its archive.
 use Rattle.std.proofs.Common.{◌≡◌, ℕ, zero, suc, ℤ, pos, ◌+◌, ◌<◌, ◌≤◌, ◌≤ℤ◌, ◌==◌, Bool, true}
 use Rattle.std.proofs.Common.{false}
-use Rattle.std.proofs.Common.{nat_lt, cond, ◌&&◌, ◌||◌, List, [], ◌∷◌, ◌++◌, map, length, Option}
+use Rattle.std.proofs.Common.{nat_lt, cond, ◌&&◌, List, [], ◌∷◌, ◌++◌, map, length, Option}
 use Rattle.std.proofs.Common.{Some, None, Result, Ok, Err, refl, sym, ap, ◌∙◌, subst, append-nil}
 use Rattle.std.proofs.Common.{inl, inr, arith}
 use Rattle.std.specs.Prelude.{int_lt, option_map, option_and_then, slice_get, unwrap_or}
 use Rattle.std.specs.Option.{option_map_or}
-use Rattle.std.proofs.lemmas.Bool.{cases_order}
+use Rattle.std.proofs.lemmas.Bool.{cases_order, or_from, and_from}
 use Rattle.std.proofs.lemmas.Bool.Decides.{nat_tests}
 use Rattle.std.proofs.lemmas.List.{append_assoc, length-append, length-map}
 use Rattle.std.proofs.lemmas.Option.{none-some, slice_get-map, slice_get_past}
+use Rattle.be_facts.proofs.Numbers.{suc_is_not_zero, nat_lt_from}
+use Rattle.be_facts.proofs.Truths.{false_is_not_true}
 use Rattle.be_follow.specs.declared.mode.Across.{Across}
 use Rattle.be_follow.specs.declared.mode.Across.TheVariants as across
 use Rattle.be_follow.specs.declared.mode.Down.{Down}
@@ -22,6 +24,7 @@ use Rattle.be_views.specs.Trees.{View, Tree, parent_of}
 use Rattle.be_views.specs.Whole.{AreParentsFirst, IsTree, depth_above, depth_in, depth_from}
 use Rattle.be_views.specs.Whole.{depth_of}
 use Rattle.be_views.specs.Whole.{root_view}
+use Rattle.be_views.proofs.TreeLemmas.{depth_more, depth_same}
 use Rattle.be_archive.specs.Archives.{across_number, across_value, archived, down_number}
 use Rattle.be_archive.specs.Archives.{down_value}
 use Rattle.be_archive.specs.Archives.{frame_value, parent_value, view_word}
@@ -32,11 +35,7 @@ use Rattle.be_archive.specs.Reading.{mode_at, row_at, size_in, size_of, tree_in,
 use Rattle.be_archive.specs.Reading.{values_at}
 use Rattle.be_archive.specs.Reading.{view_count, views_behind, views_from}
 use Rattle.be_archive.specs.Values.{across_of, down_of, number_in, point_in, rect_in}
-use Rattle.be_archive.proofs.Depths.{depth_more, depth_same}
 use Rattle.be_archive.proofs.Read.{goes_on}
-
-no_false : false ≡ true → ⊥
-no_false h = cc
 
 -- ---- the views in front
 
@@ -73,7 +72,7 @@ first_front tree rest first = record {
   below = λ v p at. elim (cases_order v (length tree)) [
     | inl same ↦ absurd (no_parent tree v p (omega (arith, same)) at)
     | inr other ↦ elim other [
-      | inl less ↦ first.below v p (parent_front tree rest v less ∙ at)
+      | inl nat_lt_from ↦ first.below v p (parent_front tree rest v nat_lt_from ∙ at)
       | inr more ↦ absurd (no_parent tree v p (omega (arith, more)) at)
     ]
   ];
@@ -165,15 +164,8 @@ row_back fs vs k p w h at is =
     ∙ ap (λ (o : Option ℕ). Some (record { parent = o; frame = w.frame; mode = w.mode }))
     (ap (λ (o : Option ℕ). Some (unwrap_or o 0)) is ∙ sym is)))
 
-both_true : (a b : Bool) → a ≡ true → b ≡ true → (a && b) ≡ true
-both_true true b h k = k
-both_true false b h k = absurd (no_false h)
-
-less : (a b : ℕ) → a < b → nat_lt a b ≡ true
-less a b h = grind (arith, nat_tests)
-
 both_less : (a b c : ℕ) → a < b → c < 8 → (nat_lt a b && nat_lt c 8) ≡ true
-both_less a b c h k = both_true (nat_lt a b) (nat_lt c 8) (less a b h) (less c 8 k)
+both_less a b c h k = and_from (nat_lt a b) (nat_lt c 8) (nat_lt_from a b h) (nat_lt_from c 8 k)
 
 follow_back : (tree : Tree) (w : View) (p : ℕ) → w.parent ≡ Some p → p < length tree
     → depth_of tree p < 8 → can_follow tree w ≡ true
@@ -221,17 +213,14 @@ views_back fs root vs before (w ∷ rest) k h t all long =
 equal : (a b : ℕ) → a ≡ b → (a == b) ≡ true
 equal a b h = grind (arith, nat_tests, h)
 
-not_zero : (n : ℕ) → (suc n == 0) ≡ false
-not_zero n = grind (arith, nat_tests)
-
 all_true : (b c d : Bool) → b ≡ true → c ≡ true → d ≡ true
     → ((((((true && true) && b) && true) && c) && true) && d) ≡ true
 all_true true true d x y z = z
-all_true true false d x y z = absurd (no_false y)
-all_true false c d x y z = absurd (no_false x)
+all_true true false d x y z = absurd (false_is_not_true y)
+all_true false c d x y z = absurd (false_is_not_true x)
 
 by_some : (c a b : Bool) → c ≡ false → b ≡ true → (true && cond c a b) ≡ true
-by_some true a b h k = absurd (no_false (sym h))
+by_some true a b h k = absurd (false_is_not_true (sym h))
 by_some false a b h k = k
 
 form_back : (root : View) (vs : List View) → have_form (archived (root ∷ vs)).fields ≡ true
@@ -241,7 +230,7 @@ form_back root (v ∷ vs) =
     let many = λ (f : View → Datum). length-map (v ∷ vs) f ∙ sym (length-map (v ∷ vs) parent_value) in
     by_some (view_count (archived (root ∷ v ∷ vs)).fields == 0) _
     (true && has_columns (archived (root ∷ v ∷ vs)).fields)
-    (not_zero (length (map parent_value vs)))
+    (suc_is_not_zero (length (map parent_value vs)))
     (all_true _ _ _ (equal _ _ (many frame_value)) (equal _ _ (many across_value))
     (equal _ _ (many down_value)))
 
@@ -271,19 +260,15 @@ not_negative z h = grind (arith, nat_tests, h)
 not_more : (n : ℕ) → n ≤ 31 → nat_lt 31 n ≡ false
 not_more n h = grind (arith, nat_tests)
 
-neither : (a b : Bool) → a ≡ false → b ≡ false → (a || b) ≡ false
-neither true b h k = absurd (no_false (sym h))
-neither false b h k = k
-
 by_tests : (b c : Bool) (size : Point) → b ≡ false → c ≡ false
     → cond b (Err bad_size) (cond c (Err too_many) (Ok size)) ≡ Ok size
-by_tests true c size h k = absurd (no_false (sym h))
-by_tests false true size h k = absurd (no_false (sym k))
+by_tests true c size h k = absurd (false_is_not_true (sym h))
+by_tests false true size h k = absurd (false_is_not_true (sym k))
 by_tests false false size h k = refl
 
 by_archive : (b : Bool) (r : Result Point Refusal) → b ≡ true → cond b r (Err not_archive) ≡ r
 by_archive true r h = refl
-by_archive false r h = absurd (no_false h)
+by_archive false r h = absurd (false_is_not_true h)
 
 what_back : (root : View) (vs : List View) → ((archived (root ∷ vs)).what == view_word) ≡ true
 unfolding archived
@@ -297,10 +282,10 @@ size_back root vs wide high few =
     let size : Point = record { x = root.frame.right; y = root.frame.bottom } in
     let count = count_back root vs in
     by_archive (is_archive m) (size_of m.fields (value_of point_in 0 0 m.fields))
-    (both_true (m.what == view_word) (have_form m.fields) (what_back root vs) (form_back root vs))
+    (and_from (m.what == view_word) (have_form m.fields) (what_back root vs) (form_back root vs))
     ∙ (ap (size_of m.fields) (size_at root vs)
     ∙ by_tests (is_negative size) (nat_lt 31 (view_count m.fields)) size
-    (neither (int_lt size.x (pos 0)) (int_lt size.y (pos 0)) (not_negative size.x wide)
+    (or_from (int_lt size.x (pos 0)) (int_lt size.y (pos 0)) (not_negative size.x wide)
     (not_negative size.y high))
     (not_more (view_count m.fields) (omega (arith, count, few))))
 

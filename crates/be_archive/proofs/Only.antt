@@ -35,9 +35,8 @@ use Rattle.be_archive.proofs.Read.{can, goes_on, not_ok, some_row}
 use Rattle.be_archive.proofs.Written.{same_message}
 use Rattle.be_message.specs.Codes.{kind_again, numbered_kind}
 use Rattle.std.proofs.lemmas.List.{append_assoc}
-
-no_false : false ≡ true → ⊥
-no_false h = cc
+use Rattle.be_facts.proofs.Numbers.{eq_tells}
+use Rattle.be_facts.proofs.Truths.{and_both, false_is_not_true}
 
 -- ---- values
 
@@ -233,21 +232,14 @@ read fs (suc n) k before tree ok =
 
 -- ---- fields
 
-and_split : (a b : Bool) → (a && b) ≡ true → (a ≡ true) × (b ≡ true)
-and_split true b h = (refl, h)
-and_split false b h = absurd (no_false h)
-
-equal : (a b : ℕ) → (a == b) ≡ true → a ≡ b
-equal a b h = grind (arith, nat_tests)
-
 kind_same : (a b : Kind) → is_kind a b ≡ true → a ≡ b
 kind_same a b h =
-    sym (kind_again a) ∙ (ap numbered_kind (equal (kind_number a) (kind_number b) h) ∙ kind_again b)
+    sym (kind_again a) ∙ (ap numbered_kind (eq_tells (kind_number a) (kind_number b) h) ∙ kind_again b)
 
 field_is : (f : Field) (name : List ℕ) (k : Kind)
     → (bytes_eq f.name name && is_kind f.kind k) ≡ true → f ≡ field_of name k f.values
 field_is f name k h =
-    let both = and_split (bytes_eq f.name name) (is_kind f.kind k) h in
+    let both = and_both (bytes_eq f.name name) (is_kind f.kind k) h in
     ap (λ (n : List ℕ). field_of n f.kind f.values) ((bytes_eq-Decides f.name name).0 both.0)
     ∙ ap (λ (q : Kind). field_of name q f.values) (kind_same f.kind k both.1)
 
@@ -266,7 +258,7 @@ size_is : (f : Field) (size : Point)
 size_is f size form one is =
     field_is f (codes "size") kind.Point form
     ∙ ap (field_of (codes "size") kind.Point)
-    (one_value f.values size (equal (length f.values) 1 one) is)
+    (one_value f.values size (eq_tells (length f.values) 1 one) is)
 
 -- a field of the further views
 column_is : (f : Field) (name : List ℕ) (k : Kind) (value : View → Datum) (vs : List View)
@@ -281,7 +273,7 @@ alone : (fs : List Field) (size : Point) → has_size fs ≡ true → length fs 
     → fs ≡ field_of (codes "size") kind.Point (point size ∷ []) ∷ []
 alone [] size form long is = absurd (let n : 0 ≡ 1 = long in omega (arith, n))
 alone (f ∷ []) size form long is =
-    let both = and_split _ (length f.values == 1) form in
+    let both = and_both _ (length f.values == 1) form in
     ap (λ (g : Field). g ∷ []) (size_is f size both.0 both.1 is)
 alone (f ∷ g ∷ fs) size form long is =
     absurd (let n : suc (suc (length fs)) ≡ 1 = long in omega (arith, n))
@@ -298,21 +290,21 @@ record Columns (fs : List Field) : Type 0 where
 
 columns : (fs : List Field) → has_columns fs ≡ true → Columns fs
 columns fs h =
-    let g = and_split _ (value_count 4 fs == view_count fs) h in
-    let f = and_split _ (is_field_at 4 (codes "down") kind.Int fs) g.0 in
-    let e = and_split _ (value_count 3 fs == view_count fs) f.0 in
-    let d = and_split _ (is_field_at 3 (codes "across") kind.Int fs) e.0 in
-    let c = and_split _ (value_count 2 fs == view_count fs) d.0 in
-    let b = and_split (is_field_at 1 (codes "parent") kind.Int fs)
+    let g = and_both _ (value_count 4 fs == view_count fs) h in
+    let f = and_both _ (is_field_at 4 (codes "down") kind.Int fs) g.0 in
+    let e = and_both _ (value_count 3 fs == view_count fs) f.0 in
+    let d = and_both _ (is_field_at 3 (codes "across") kind.Int fs) e.0 in
+    let c = and_both _ (value_count 2 fs == view_count fs) d.0 in
+    let b = and_both (is_field_at 1 (codes "parent") kind.Int fs)
     (is_field_at 2 (codes "frame") kind.Rect fs) c.0 in
     record {
       parents = b.0;
       frames = b.1;
-      frames_long = equal (value_count 2 fs) (view_count fs) c.1;
+      frames_long = eq_tells (value_count 2 fs) (view_count fs) c.1;
       across = d.1;
-      across_long = equal (value_count 3 fs) (view_count fs) e.1;
+      across_long = eq_tells (value_count 3 fs) (view_count fs) e.1;
       down = f.1;
-      down_long = equal (value_count 4 fs) (view_count fs) g.1;
+      down_long = eq_tells (value_count 4 fs) (view_count fs) g.1;
     }
 
 all_five : (fs : List Field) (size : Point) (vs : List View) → has_size fs ≡ true → length fs ≡ 5
@@ -325,7 +317,7 @@ all_five : (fs : List Field) (size : Point) (vs : List View) → has_size fs ≡
     ∷ field_of (codes "across") kind.Int (map across_value vs)
     ∷ field_of (codes "down") kind.Int (map down_value vs) ∷ []
 all_five (f ∷ g ∷ h ∷ i ∷ j ∷ []) size vs form long is c many ps fr ac dn =
-    let both = and_split _ (length f.values == 1) form in
+    let both = and_both _ (length f.values == 1) form in
     let first = field_of (codes "size") kind.Point (point size ∷ []) in
     ap (λ (x : Field). x ∷ g ∷ h ∷ i ∷ j ∷ []) (size_is f size both.0 both.1 is)
     ∙ (ap (λ (x : Field). first ∷ x ∷ h ∷ i ∷ j ∷ [])
@@ -380,9 +372,9 @@ by_form false r size h = absurd (not_ok not_archive size h)
 begun : (m : Message) (size : Point) → size_in m ≡ Ok size → Begun m size
 begun m size h =
     let both = by_form (is_archive m) (size_of m.fields (value_of point_in 0 0 m.fields)) size h in
-    let parts = and_split (m.what == view_word) (have_form m.fields) both.0 in
+    let parts = and_both (m.what == view_word) (have_form m.fields) both.0 in
     record {
-      what = equal m.what view_word parts.0;
+      what = eq_tells m.what view_word parts.0;
       form = parts.1;
       size_is = sized m.fields (value_of point_in 0 0 m.fields) size both.1;
     }
@@ -391,7 +383,7 @@ by_count : (n : ℕ) (a b : Bool) → n ≡ 0 → cond (n == 0) a b ≡ true →
 by_count n a b is h = subst (λ k. cond (k == 0) a b ≡ true) is h
 
 by_no : (c a b : Bool) → c ≡ false → cond c a b ≡ true → b ≡ true
-by_no true a b is h = absurd (no_false (sym is))
+by_no true a b is h = absurd (false_is_not_true (sym is))
 by_no false a b is h = h
 
 by_some : (n k : ℕ) (a b : Bool) → n ≡ suc k → cond (n == 0) a b ≡ true → b ≡ true
@@ -405,14 +397,14 @@ fields_are : (m : Message) (size : Point) (vs : List View) → Begun m size
     → m.fields ≡ (archived (root_view size.x size.y ∷ vs)).fields
 unfolding archived
 fields_are m size [] b many ps fr ac dn =
-    let both = and_split (has_size m.fields) _ b.form in
+    let both = and_both (has_size m.fields) _ b.form in
     let long = by_count (view_count m.fields) (length m.fields == 1) _ many both.1 in
-    alone m.fields size both.0 (equal (length m.fields) 1 long) b.size_is
+    alone m.fields size both.0 (eq_tells (length m.fields) 1 long) b.size_is
 fields_are m size (v ∷ vs) b many ps fr ac dn =
-    let both = and_split (has_size m.fields) _ b.form in
-    let more = and_split (length m.fields == 5) (has_columns m.fields)
+    let both = and_both (has_size m.fields) _ b.form in
+    let more = and_both (length m.fields == 5) (has_columns m.fields)
     (by_some (view_count m.fields) (length vs) (length m.fields == 1) _ many both.1) in
-    all_five m.fields size (v ∷ vs) both.0 (equal (length m.fields) 5 more.0) b.size_is
+    all_five m.fields size (v ∷ vs) both.0 (eq_tells (length m.fields) 5 more.0) b.size_is
     (columns m.fields more.1) many ps fr ac dn
 
 what_is : (tree : Tree) → (archived tree).what ≡ view_word

@@ -5,7 +5,8 @@ use Rattle.std.proofs.Common.{refl, sym, ap, ◌∙◌, arith}
 use Rattle.std.specs.Prelude.{unwrap_or}
 use Rattle.std.specs.Option.{option_map_or}
 use Rattle.std.proofs.lemmas.Option.{none-some, same_Some}
-use Rattle.std.proofs.lemmas.Bool.Decides.{nat_tests}
+use Rattle.be_facts.proofs.Numbers.{nat_lt_tells}
+use Rattle.be_facts.proofs.Truths.{and_both, false_is_not_true}
 use Rattle.be_message.specs.Messages.{Field, Message}
 use Rattle.be_views.specs.Trees.{View, Tree}
 use Rattle.be_views.specs.Whole.{depth_of}
@@ -17,13 +18,6 @@ use Rattle.be_archive.specs.declared.fault.ArchiveFault.TheVariants as fault
 use Rattle.be_geom.specs.declared.point.Point.{Point}
 use Rattle.be_archive.specs.Rows.{depth_behind}
 
-no_false : false ≡ true → ⊥
-no_false h = cc
-
-and_split : (a b : Bool) → (a && b) ≡ true → (a ≡ true) × (b ≡ true)
-and_split true b h = (refl, h)
-and_split false b h = absurd (no_false h)
-
 pub not_ok : {A E : Type 0} (e : E) (x : A) → Err e ≡ Ok x → ⊥
 not_ok e x h = cc
 
@@ -34,20 +28,17 @@ pub record Follows (tree : Tree) (view : View) : Type 0 where
   pub before : parent < length tree
   pub above : depth_of tree parent < 8
 
-less_than : (a b : ℕ) → nat_lt a b ≡ true → a < b
-less_than a b h = grind (arith, nat_tests)
-
 by_parent : (tree : Tree) (view : View) (o : Option ℕ) → view.parent ≡ o
     → option_map_or (λ p. nat_lt p (length tree) && nat_lt (depth_of tree p) 8) o false ≡ true
     → Follows tree view
-by_parent tree view None is h = absurd (no_false h)
+by_parent tree view None is h = absurd (false_is_not_true h)
 by_parent tree view (Some p) is h =
-    let both = and_split (nat_lt p (length tree)) (nat_lt (depth_of tree p) 8) h in
+    let both = and_both (nat_lt p (length tree)) (nat_lt (depth_of tree p) 8) h in
     record {
       parent = p;
       is = is;
-      before = less_than p (length tree) both.0;
-      above = less_than (depth_of tree p) 8 both.1;
+      before = nat_lt_tells p (length tree) both.0;
+      above = nat_lt_tells (depth_of tree p) 8 both.1;
     }
 
 pub follows : (tree : Tree) (view : View) → can_follow tree view ≡ true → Follows tree view

@@ -1,10 +1,10 @@
 -- Fields that are written value by value.
-use Rattle.std.proofs.Common.{◌≡◌, ℕ, zero, suc, pos, ◌+◌, ◌-◌, ◌<◌, Some, Result, Ok, Err, OnOk}
-use Rattle.std.proofs.Common.{length, take, get_or, arith}
+use Rattle.std.proofs.Common.{◌≡◌, ℕ, zero, suc, ◌+◌, ◌-◌, ◌<◌, Some, Result, Ok, Err, OnOk}
+use Rattle.std.proofs.Common.{length, take, arith}
 use Rattle.std.specs.Prelude.{codes, option_map, slice_get}
 use Rattle.std.proofs.Math.Seq.{take-length}
 use Rattle.std.proofs.lemmas.List.{take_more}
-use Rattle.std.proofs.lemmas.Option.{none-some, same_Some, slice_get_within, slice_get-get_or}
+use Rattle.std.proofs.lemmas.Option.{none-some, same_Some, slice_get_within}
 use Rattle.std.proofs.lemmas.Option.{get_or_from_slice_get}
 use Rattle.be_geom.specs.declared.rect.Rect.{Rect}
 use Rattle.std.proofs.Common.{Bool, true, false, cond, ◌||◌, List, [], ◌∷◌, ◌++◌, map, append-nil}
@@ -14,76 +14,50 @@ use Rattle.std.specs.List.{list_any}
 use Rattle.std.specs.Str.{bytes_eq}
 use Rattle.std.proofs.lemmas.List.{map-append}
 use Rattle.std.proofs.lemmas.List.Folds.{list_any-append}
-use Rattle.std.proofs.lemmas.Slice.Eq.{bytes_eq-Decides}
+use Rattle.be_facts.proofs.Truths.{or_middle, false_is_not_true}
+use Rattle.be_facts.proofs.Bytes.{bytes_eq_self}
 use Rattle.be_message.specs.declared.kind.Kind.{Kind}
 use Rattle.be_message.specs.declared.kind.Kind.TheVariants as kind
 use Rattle.be_message.specs.Fields.{changed_at, has_name, new_field, with_one_more, with_value_in}
 use Rattle.be_message.specs.Messages.{Datum, Field, Message}
 use Rattle.be_message.specs.Sound.{kind_of}
+use Rattle.be_message.proofs.PlaceLemmas.{changed_none}
 use Rattle.be_views.specs.Trees.{View, Tree}
-use Rattle.be_views.specs.Whole.{root_view}
 use Rattle.be_archive.specs.Archives.{column, field_of, further, size_fields, size_value}
 use Rattle.be_archive.specs.Columns.{column_kind, column_of, column_value}
 use Rattle.be_archive.specs.declared.columns.Column.{Column}
 use Rattle.be_archive.specs.declared.columns.Column.TheVariants as columns
 
-no_false : false ≡ true → ⊥
-no_false h = cc
-
-pub same_name : (name : List ℕ) → bytes_eq name name ≡ true
-same_name name = (bytes_eq-Decides name name).1 refl
-
 -- fields of other names stay
 kept : (b : Bool) (f g : Field) (fs gs : List Field) → b ≡ false → gs ≡ fs
     → cond b g f ∷ gs ≡ f ∷ fs
-kept true f g fs gs h is = absurd (no_false (sym h))
+kept true f g fs gs h is = absurd (false_is_not_true (sym h))
 kept false f g fs gs h is = ap (λ (l : List Field). f ∷ l) is
 
-or_first : (a b : Bool) → (a || b) ≡ false → a ≡ false
-or_first true b h = h
-or_first false b h = refl
-
-or_second : (a b : Bool) → (a || b) ≡ false → b ≡ false
-or_second true b h = absurd (no_false (sym h))
-or_second false b h = h
-
-others_stay : (name : List ℕ) (change : Field → Field) (fs : List Field)
-    → list_any (has_name name) fs ≡ false → changed_at name change fs ≡ fs
-others_stay name change [] h = refl
-others_stay name change (f ∷ fs) h =
-    kept (has_name name f) f (change f) fs (changed_at name change fs)
-    (or_first (has_name name f) _ h)
-    (others_stay name change fs (or_second (has_name name f) _ h))
-
 by_none : (b : Bool) (gs hs : List Field) → b ≡ false → cond b gs hs ≡ hs
-by_none true gs hs h = absurd (no_false (sym h))
+by_none true gs hs h = absurd (false_is_not_true (sym h))
 by_none false gs hs h = refl
 
 by_some : (b : Bool) (gs hs : List Field) → b ≡ true → cond b gs hs ≡ gs
 by_some true gs hs h = refl
-by_some false gs hs h = absurd (no_false h)
+by_some false gs hs h = absurd (false_is_not_true h)
 
 one_changed : (b : Bool) (f g : Field) → b ≡ true → cond b g f ∷ [] ≡ g ∷ []
 one_changed true f g h = refl
-one_changed false f g h = absurd (no_false h)
-
-or_true : (a b : Bool) → b ≡ true → (a || (b || false)) ≡ true
-or_true true b h = refl
-or_true false true h = refl
-or_true false false h = absurd (no_false h)
+one_changed false f g h = absurd (false_is_not_true h)
 
 module _ (name : List ℕ) (k : Kind) (value : View → Datum) (fs : List Field)
     (none : list_any (has_name name) fs ≡ false) where
   there : (f : Field) → has_name name f ≡ true → list_any (has_name name) (fs ++ f ∷ []) ≡ true
   there f is = list_any-append (has_name name) fs (f ∷ [])
-      ∙ or_true (list_any (has_name name) fs) (has_name name f) is
+      ∙ or_middle (list_any (has_name name) fs) (has_name name f) is
 
   changed_last : (change : Field → Field) (f : Field) → has_name name f ≡ true
       → changed_at name change (fs ++ f ∷ []) ≡ fs ++ change f ∷ []
   changed_last change f is =
       map-append (λ (g : Field). cond (has_name name g) (change g) g) fs (f ∷ [])
       ∙ (ap (λ (l : List Field). l ++ cond (has_name name f) (change f) f ∷ [])
-      (others_stay name change fs none)
+      (changed_none name change fs none)
       ∙ ap (λ (l : List Field). fs ++ l) (one_changed (has_name name f) f (change f) is))
 
   -- the field has one value more
@@ -99,8 +73,8 @@ module _ (name : List ℕ) (k : Kind) (value : View → Datum) (fs : List Field)
       let f = field_of name k (map value (w ∷ ws)) in
       by_some (list_any (has_name name) (fs ++ f ∷ []))
       (changed_at name (with_one_more d) (fs ++ f ∷ []))
-      ((fs ++ f ∷ []) ++ new_field name d ∷ []) (there f (same_name name))
-      ∙ (changed_last (with_one_more d) f (same_name name)
+      ((fs ++ f ∷ []) ++ new_field name d ∷ []) (there f (bytes_eq_self name))
+      ∙ (changed_last (with_one_more d) f (bytes_eq_self name)
       ∙ (ap (λ (e : Datum). fs ++ field_of name k (map value (w ∷ ws) ++ e ∷ []) ∷ []) is
       ∙ ap (λ (l : List Datum). fs ++ field_of name k l ∷ [])
       (sym (map-append value (w ∷ ws) (v ∷ [])))))
@@ -123,10 +97,6 @@ kind_is columns.Across v = refl
 kind_is columns.Down v = refl
 
 -- ---- views by number
-
-pub view_there : (tree : Tree) (n : ℕ) → n < length tree → (v : View) × (slice_get tree n ≡ Some v)
-view_there tree n below =
-    (get_or tree n (root_view (pos 0) (pos 0)), slice_get-get_or tree n (root_view (pos 0) (pos 0)) below)
 
 -- one view more of those behind the root
 pub one_further : (tree : Tree) (n : ℕ) (v : View) → 0 < n → slice_get tree n ≡ Some v

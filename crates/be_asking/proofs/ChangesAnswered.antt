@@ -1,8 +1,10 @@
 -- A twin whose oldest command changes its window: the desk decides, and which panes are needed.
-use Rattle.std.proofs.Common.{◌≡◌, ℕ, ◌<◌, true, List, [], ◌∷◌, ◌++◌, length, map, Option, Some, None, Result, Ok, Err, ◌⊎◌, inl, inr, refl, sym, ap, ◌∙◌, subst}
+use Rattle.std.proofs.Common.{◌≡◌, ℕ, ◌<◌, true, List, [], ◌∷◌, ◌++◌, length, map, Some, None, Result, Ok, ◌⊎◌, inl, inr, refl, sym, ap, ◌∙◌, subst}
 use Rattle.std.specs.Prelude.{ℤ, ◌&&◌, nat_lt, option_and_then}
 use Rattle.std.specs.Option.{option_map_or}
 use Rattle.std.proofs.lemmas.Option.{same_Some}
+use Rattle.be_facts.proofs.Lists.{element}
+use Rattle.be_facts.proofs.Truths.{and_first, and_second}
 use Rattle.be_command.specs.declared.Command.TheVariants as command
 use Rattle.be_command.specs.Effects.{changes}
 use Rattle.be_command.specs.Limits.{change_names, is_change, is_command, names_what_is}
@@ -13,6 +15,7 @@ use Rattle.be_desk.specs.Desks.{IsPaired, IsTaken}
 use Rattle.be_geom.specs.Numbers.{is_number}
 use Rattle.be_geom.specs.declared.change.Change.{Change}
 use Rattle.be_geom.specs.declared.change.Change.TheVariants.{Show, Hide, MoveTo, MoveBy, ResizeTo, Activate, Behind, Focus, Close}
+use Rattle.be_geom.proofs.Numbered.{differs}
 use Rattle.be_hall.specs.Hands.{meant, part_at}
 use Rattle.be_hall.specs.Machine.{IsHeld}
 use Rattle.be_link.specs.Queues.{numbered}
@@ -28,10 +31,8 @@ use Rattle.be_machine.specs.Step.{met, step}
 use Rattle.be_machine.specs.Touched as part
 use Rattle.be_machine.specs.Wants as wants
 use Rattle.be_machine.specs.Wants.{want_of}
-use Rattle.be_machine.specs.Windows.{changed, changed_to, outcome_by}
-use Rattle.be_machine.proofs.Lists.{both_first, both_second, is_same_number}
-use Rattle.be_machine.proofs.ReadsDirt.{number_is}
-use Rattle.be_machine.proofs.Sizes.{IsAsLarge, KeepsCounts, desk_sizes}
+use Rattle.be_machine.specs.Windows.{outcome_by}
+use Rattle.be_machine.proofs.Sizes.{IsAsLarge}
 use Rattle.be_parts.specs.Kept.{Kept}
 use Rattle.be_parts.specs.Parts.{meaning_of}
 use Rattle.be_parts.specs.declared.part.Part as parts
@@ -43,7 +44,7 @@ use Rattle.be_rules.specs.Rules.{IsSound}
 use Rattle.be_rules.specs.Slices.{Slice, desk, desk_in}
 use Rattle.be_rules.specs.Sure.{IsAmong, Seen, effect_parts, in_hand, parts_by, port_for, seen_in}
 use Rattle.be_rules.proofs.Cut.{owner_there}
-use Rattle.be_rules.proofs.Far.{needs_altered}
+use Rattle.be_rules.proofs.Far.{needs_altered, as_large, windows_changed}
 use Rattle.be_rules.proofs.Lawfully.{whole}
 use Rattle.be_rules.proofs.Spots.{changes_hands}
 use Rattle.be_script.specs.Programs.{view_count}
@@ -54,6 +55,7 @@ use Rattle.be_stack.specs.Owner.{owner_at}
 use Rattle.be_stack.specs.Windows.{Windows}
 use Rattle.be_twin.specs.declared.Outcome.{Outcome}
 use Rattle.be_twin.specs.declared.Outcome.TheVariants.{Done}
+use Rattle.be_desk.proofs.TakenLemmas.{taken_as}
 use Rattle.be_asking.specs.Changing.{IsRefusedWith, first_missing}
 use Rattle.be_asking.specs.Deeds.{IsAsked, MayAct}
 use Rattle.be_asking.specs.Executing.{IsOldest}
@@ -63,8 +65,8 @@ use Rattle.be_asking.specs.declared.want.Want.TheVariants as want
 use Rattle.be_asking.proofs.Asked.{fits, here, may, missing, own, reach, s, sound, wanted}
 use Rattle.be_asking.proofs.ExecutesAnswered.{acts_by, front_now, link_held, oldest_in_hand, oldest_now, on_its_way}
 use Rattle.be_asking.proofs.InHand.{desk_read, not_held}
-use Rattle.be_asking.proofs.LooperWants.{element}
 use Rattle.be_asking.proofs.Missing.{among_named, has_all, lacks, named_among}
+use Rattle.be_asking.proofs.UsesAnswered.{in_front}
 
 -- ---- limits
 
@@ -92,11 +94,6 @@ change_named windows count views Close many is = refl
 
 -- ---- lists of parts
 
-in_front : (p : part.Part) (xs ys : List part.Part) → IsAmong p xs → IsAmong p (xs ++ ys)
-in_front p [] ys among = absurd among
-in_front p (x ∷ xs) ys (inl is) = inl is
-in_front p (x ∷ xs) ys (inr later) = inr (in_front p xs ys later)
-
 at_end : (p : part.Part) (xs : List part.Part) → IsAmong p (xs ++ p ∷ [])
 at_end p [] = inl refl
 at_end p (x ∷ xs) = inr (at_end p xs)
@@ -109,40 +106,16 @@ split P (x ∷ xs) y p front last (inr later) = split P xs y p (λ z among. fron
 
 -- ---- desks after a change
 
-taken_as : (r : Result Desk ChangeFault) → IsTaken r → (after : Desk) × (r ≡ Ok after)
-taken_as (Ok after) taken = (after, refl)
-taken_as (Err fault) taken = absurd taken
-
-windows_changed : (t : State) (w : ℕ) (change : Change) → (changed t w change).desk.windows ≡ windows_behind t.desk w change
-unfolding changed
-windows_changed t w change = by_result (desk_after t.desk w change)
-  where
-    by_result : (r : Result Desk ChangeFault) → (changed_to t w change r).desk.windows ≡ windows_or t.desk.windows r
-    by_result (Ok after) = refl
-    by_result (Err fault) = refl
-
-as_large : (before : Desk) (w : ℕ) (change : Change) → IsAsLarge before.windows (windows_behind before w change)
-as_large before w change = by_result (desk_after before w change) (desk_sizes before w change)
-  where
-    by_result : (r : Result Desk ChangeFault) → KeepsCounts before r → IsAsLarge before.windows (windows_or before.windows r)
-    by_result (Ok after) keeps = keeps.sizes
-    by_result (Err fault) keeps = record { windows = refl; width = refl; height = refl }
-
 -- a window that owns a pixel before or after is there
 owner_known : (before after : Windows) (u : ℕ) (x y : ℤ) → length after.windows ≡ length before.windows → (owner_at before x y ≡ Some u) ⊎ (owner_at after x y ≡ Some u) → u < length before.windows
 owner_known before after u x y many (inl is) = owner_there before x y u is
 owner_known before after u x y many (inr is) = subst (λ (k : ℕ). u < k) many (owner_there after x y u is)
 
-altered_there : (before : Desk) (w : ℕ) (change : Change) (u : ℕ) → IsAltered before w change u → u < length before.windows.windows
+pub altered_there : (before : Desk) (w : ℕ) (change : Change) (u : ℕ) → IsAltered before w change u → u < length before.windows.windows
 altered_there before w change u other =
     let large : IsAsLarge before.windows (windows_behind before w change) = as_large before w change in
     let at = changes_hands before.windows (windows_behind before w change) large.width large.height u other in
     owner_known before.windows (windows_behind before w change) u at.0 at.1 large.windows at.2
-
--- a pixel that changes hands is one of which its old owner, or its new one, is another window's
-differs : (u : ℕ) (o p : Option ℕ) → (o ≡ Some u) ⊎ (p ≡ Some u) → (p ≡ o → ⊥) → is_number u o ≡ is_number u p → ⊥
-differs u o p (inl is) other same = other (number_is u p (sym same ∙ ap (is_number u) is ∙ is_same_number u) ∙ sym is)
-differs u o p (inr is) other same = other (is ∙ sym (number_is u o (same ∙ ap (is_number u) is ∙ is_same_number u)))
 
 -- ---- a change at the front of the link
 
@@ -224,8 +197,8 @@ module _ (d : Declared) (inhand : List (ℕ × parts.Part)) (a w : ℕ) (asked :
         by_way (inl said) = record {
           paired = paired;
           there = subst (λ (k : ℕ). w < k) (sym many) reach_pane.there;
-          named_there = change_named now.desk.windows (length d.windows) (view_count d w) change many (both_second (is_change change) _ said);
-          within_limits = change_within change (both_first (is_change change) _ said);
+          named_there = change_named now.desk.windows (length d.windows) (view_count d w) change many (and_second (is_change change) _ said);
+          within_limits = change_within change (and_first (is_change change) _ said);
         }
         by_way (inr ends) = absurd (cc)
 

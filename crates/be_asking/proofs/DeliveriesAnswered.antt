@@ -3,6 +3,7 @@ use Rattle.std.proofs.Common.{◌≡◌, ℕ, ◌*◌, ◌≤◌, true, false, L
 use Rattle.std.specs.Prelude.{◌==◌, option_map, option_and_then, slice_get}
 use Rattle.std.specs.Option.{option_map_or}
 use Rattle.std.proofs.lemmas.Option.{same_Some}
+use Rattle.be_facts.proofs.Numbers.{eq_false_tells, eq_tells}
 use Rattle.be_hall.specs.Hands.{meant, part_at}
 use Rattle.be_hall.specs.Machine.{Fits}
 use Rattle.be_input.specs.declared.Delivery as code
@@ -20,7 +21,7 @@ use Rattle.be_machine.specs.Input.{input_letter, outcome_in, ports_with}
 use Rattle.be_machine.specs.Lists.{at}
 use Rattle.be_machine.specs.State.{State}
 use Rattle.be_machine.specs.Touched as part
-use Rattle.be_machine.proofs.Lists.{at_here, at_elsewhere, other_number, same_number}
+use Rattle.be_machine.proofs.Lists.{at_here, at_elsewhere}
 use Rattle.be_parts.specs.Parts.{meaning_of}
 use Rattle.be_parts.specs.Stands.{PortIs}
 use Rattle.be_parts.specs.declared.part.Part as parts
@@ -108,7 +109,7 @@ module _ (d : Declared) (inhand : List (ℕ × parts.Part)) (delivery : code.Del
   second_behind post x e same answers = second_by post x e (λ all sound fits. by (state_of d all).ports delivery.first same (answers all sound fits))
     where
       by : (ports : List (Port Message)) (o : Option sent.Post) → option_map_or (λ (p : sent.Post). p.window == post.window) o false ≡ true → ((first : Post) → first.window ≡ post.window → option_map (λ (p : Port Message). judged p 0) (slice_get (ports_with ports (Some first)) post.window) ≡ Some x) → option_map (λ (p : Port Message). judged p 0) (slice_get (ports_then ports o) post.window) ≡ Some x
-      by ports (Some first) is told = told (seen_post first) (same_number first.window post.window is)
+      by ports (Some first) is told = told (seen_post first) (eq_tells first.window post.window is)
       by ports None is told = absurd (cc)
 
   -- to another
@@ -116,5 +117,5 @@ module _ (d : Declared) (inhand : List (ℕ × parts.Part)) (delivery : code.Del
   second_beside post x e other answers = second_by post x e (λ all sound fits. ap (option_map (λ (p : Port Message). judged p 0)) (by (state_of d all).ports delivery.first other) ∙ answers all sound fits)
     where
       by : (ports : List (Port Message)) (o : Option sent.Post) → option_map_or (λ (p : sent.Post). p.window == post.window) o false ≡ false → slice_get (ports_then ports o) post.window ≡ slice_get ports post.window
-      by ports (Some first) apart = at_elsewhere ports first.window post.window (posted (input_letter (seen_post first))) (other_number first.window post.window apart)
+      by ports (Some first) apart = at_elsewhere ports first.window post.window (posted (input_letter (seen_post first))) (eq_false_tells first.window post.window apart)
       by ports None apart = refl

@@ -1,7 +1,9 @@
 -- A twin that wants to execute the oldest command of its window.
 use Rattle.std.proofs.Common.{◌≡◌, ℕ, Bool, true, false, List, [], ◌∷◌, length, Option, Some, None, ◌⊎◌, inl, inr, refl, sym, ap, ◌∙◌, subst, arith}
-use Rattle.std.specs.Prelude.{ℤ, ◌&&◌, nat_lt, slice_get, option_map, option_and_then, unwrap_or, if◌then◌else◌}
+use Rattle.std.specs.Prelude.{ℤ, nat_lt, slice_get, option_map, option_and_then, unwrap_or, if◌then◌else◌}
 use Rattle.std.proofs.lemmas.Bool.Decides.{nat_tests}
+use Rattle.be_facts.proofs.Truths.{and_second}
+use Rattle.be_facts.proofs.Lists.{element}
 use Rattle.be_bitmap.specs.Pictures.{Picture}
 use Rattle.be_command.specs.declared.Command.{Command}
 use Rattle.be_command.specs.declared.Command.TheVariants as command
@@ -53,7 +55,6 @@ use Rattle.be_asking.specs.declared.activity.Activity.TheVariants as who
 use Rattle.be_asking.specs.declared.want.Want.TheVariants as want
 use Rattle.be_asking.proofs.Asked.{fits, here, link_is, may, missing, reach, s, sound, waits}
 use Rattle.be_asking.proofs.InHand.{pane_read}
-use Rattle.be_asking.proofs.LooperWants.{element}
 use Rattle.be_asking.proofs.SeenInHand.{link_found}
 
 -- ---- outcomes without the pictures
@@ -111,16 +112,12 @@ module _ (pictures : List Picture) (corner : Point) (kept : machine.Pane) (tree 
 
 -- ---- commands
 
-both : (b c : Bool) → (b && c) ≡ true → c ≡ true
-both true c is = is
-both false c is = absurd (cc)
-
 -- a command on its way draws a bitmap of the script
 pictured_there : (d : Declared) (w : ℕ) (c : Command) → (is_command_for d w c ≡ true) ⊎ (c ≡ command.EndUpdate) → HasPicture d.pictures (effect_of c)
 unfolding names_what_is
 pictured_there d w c (inl is) v b at what =
-    let named : effect_names (length d.windows) (view_count d w) (length d.pictures) (effect_of c) ≡ true = both (is_command c) _ is in
-    let lt : nat_lt b (length d.pictures) ≡ true = both (nat_lt v (view_count d w)) _ (ap (effect_names (length d.windows) (view_count d w) (length d.pictures)) (sym what) ∙ named) in
+    let named : effect_names (length d.windows) (view_count d w) (length d.pictures) (effect_of c) ≡ true = and_second (is_command c) _ is in
+    let lt : nat_lt b (length d.pictures) ≡ true = and_second (nat_lt v (view_count d w)) _ (ap (effect_names (length d.windows) (view_count d w) (length d.pictures)) (sym what) ∙ named) in
     element d.pictures b (grind (arith, nat_tests))
 pictured_there d w c (inr ends) v b at what = let never : ends_update ≡ at_view v (draws (pictured b at)) = ap effect_of (sym ends) ∙ what in absurd (cc)
 
@@ -130,11 +127,11 @@ no_front : {X Y Z : Type 0} (f : X → Y → Option Z) (o : Option X) → with_b
 no_front f (Some x) = refl
 no_front f None = refl
 
-linked_by : (o : Option (List Numbered)) (c : Numbered) → slice_get (unwrap_or o []) 0 ≡ Some c → (l : List Numbered) × (o ≡ Some l) × (slice_get l 0 ≡ Some c)
+pub linked_by : (o : Option (List Numbered)) (c : Numbered) → slice_get (unwrap_or o []) 0 ≡ Some c → (l : List Numbered) × (o ≡ Some l) × (slice_get l 0 ≡ Some c)
 linked_by (Some l) c is = (l, refl, is)
 linked_by None c is = absurd (cc)
 
-a_pane : (w : ℕ) (effect : Effect) → IsNoChange effect → effect_parts w (Some effect) ≡ part.pane w ∷ []
+pub a_pane : (w : ℕ) (effect : Effect) → IsNoChange effect → effect_parts w (Some effect) ≡ part.pane w ∷ []
 a_pane w (at_view v deed) plain = refl
 a_pane w (changes change) plain = absurd plain
 a_pane w ends_update plain = refl

@@ -2,30 +2,29 @@
 use Rattle.std.proofs.Common.{◌≡◌, ℕ, Option, Some, None, Result, Ok, Err, ◌⊎◌, inl, inr, refl, sym, ap, subst, ◌∙◌}
 use Rattle.std.specs.Option.{option_map_or}
 use Rattle.std.proofs.lemmas.Option.{same_Some}
+use Rattle.be_facts.proofs.Numbers.{eq_self}
 use Rattle.be_desk.specs.Affected.{OwnsTheSame}
-use Rattle.be_desk.specs.Changes.{Desk, desk_after, desk_unless}
+use Rattle.be_desk.specs.Changes.{Desk, desk_after}
 use Rattle.be_geom.specs.Numbers.{is_number}
 use Rattle.be_geom.specs.declared.change.Change.TheVariants.{Activate}
-use Rattle.be_input.specs.Deliveries.{Delivery}
+use Rattle.be_geom.proofs.Numbered.{number_is}
 use Rattle.be_input.specs.declared.Event.{Event}
 use Rattle.be_input.specs.declared.Event.TheVariants as event
 use Rattle.be_script.specs.declared.InputLine.{InputLine}
 use Rattle.be_script.specs.declared.InputLine.TheVariants as line
 use Rattle.be_script.specs.Script.{Declared}
-use Rattle.be_stack.specs.Changes.{windows_after}
 use Rattle.be_stack.specs.Windows.{Windows}
 use Rattle.be_stack.specs.declared.fault.ChangeFault.{ChangeFault}
 use Rattle.be_machine.specs.declared.Entry.{Entry}
-use Rattle.be_machine.specs.Input.{activated, delivery_of, ports_with, used, with_delivery, with_event, with_under}
+use Rattle.be_machine.specs.Input.{delivery_of, with_delivery, with_event}
 use Rattle.be_machine.specs.Laws.{IsWantOf}
 use Rattle.be_machine.specs.State.{State}
 use Rattle.be_machine.specs.Step.{met, step}
 use Rattle.be_machine.specs.Touched.{Part, pane}
 use Rattle.be_machine.specs.Wants.{uses}
 use Rattle.be_machine.specs.Windows.{changed, changed_to}
-use Rattle.be_machine.proofs.Lists.{is_same_number}
-use Rattle.be_machine.proofs.ReadsDirt.{number_is}
 use Rattle.be_rules.specs.Far.{FarActive, FarEvent, IsAltered, IsFar, event_in, windows_behind, windows_or}
+use Rattle.be_rules.proofs.Far.{activates}
 
 -- ---- the windows behind an activation
 
@@ -37,23 +36,9 @@ windows_changed s w = by_result (desk_after s.desk w Activate)
     by_result (Ok new) = refl
     by_result (Err f) = refl
 
--- what is remembered of the pointer changes no windows
-under_same : (x : Delivery) (desk : Desk) (w : ℕ) → windows_behind (with_under x desk) w Activate ≡ windows_behind desk w Activate
-unfolding desk_after
-under_same x desk w = by_result (windows_after desk.windows w Activate)
-  where
-    by_result : (r : Result Windows ChangeFault) → windows_or desk.windows (desk_unless (with_under x desk) w Activate r) ≡ windows_or desk.windows (desk_unless desk w Activate r)
-    by_result (Ok windows) = refl
-    by_result (Err f) = refl
-
-activates : (s : State) (x : Delivery) (w : ℕ) → x.activate ≡ Some w → (with_delivery s x).desk.windows ≡ windows_behind s.desk w Activate
-activates s x w is =
-    let posted : State = record (used s) { ports = ports_with (ports_with s.ports x.first) x.second; desk = with_under x s.desk } in
-    ap (λ o. (activated posted o).desk.windows) is ∙ windows_changed posted w ∙ under_same x s.desk w
-
 -- ---- by the event
 
-delivered_with : (s : State) (it : InputLine) (ev : Event) → event_in it ≡ Some ev → with_event s it ≡ with_delivery s (delivery_of s ev)
+pub delivered_with : (s : State) (it : InputLine) (ev : Event) → event_in it ≡ Some ev → with_event s it ≡ with_delivery s (delivery_of s ev)
 delivered_with s (line.Press at) ev e = ap (λ v. with_delivery s (delivery_of s v)) (same_Some (event.Press at) ev e)
 delivered_with s (line.Release at) ev e = ap (λ v. with_delivery s (delivery_of s v)) (same_Some (event.Release at) ev e)
 delivered_with s (line.Move at) ev e = ap (λ v. with_delivery s (delivery_of s v)) (same_Some (event.Move at) ev e)
@@ -69,8 +54,8 @@ far_active s r (line.After m) ev p e h = absurd (cc)
 
 -- one of the two owners is the window, and the other isn't
 other_owner : (u : ℕ) (before after : Option ℕ) → is_number u before ≡ is_number u after → (before ≡ Some u) ⊎ (after ≡ Some u) → (after ≡ before → ⊥) → ⊥
-other_owner u before after same (inl is) other = other (number_is u after (sym same ∙ ap (is_number u) is ∙ is_same_number u) ∙ sym is)
-other_owner u before after same (inr is) other = other (is ∙ sym (number_is u before (same ∙ ap (is_number u) is ∙ is_same_number u)))
+other_owner u before after same (inl is) other = other (number_is u after (sym same ∙ ap (is_number u) is ∙ eq_self u) ∙ sym is)
+other_owner u before after same (inr is) other = other (is ∙ sym (number_is u before (same ∙ ap (is_number u) is ∙ eq_self u)))
 
 -- the pane of a window that is altered by the activation
 pub record IsStirredPane (s : State) (ev : Event) (p : Part) : Type 0 where

@@ -4,9 +4,9 @@ use Rattle.std.specs.Prelude.{◌==◌, slice_get, if◌then◌else◌}
 use Rattle.std.proofs.lemmas.Option.{same_Some}
 use mathlib.Core.Option.{some}
 use lib.ListN.{get_elem?}
+use Rattle.be_facts.proofs.Numbers.{eq_false_tells, eq_tells}
 use Rattle.be_hall.specs.Hands.{meant, part_at}
 use Rattle.be_hall.specs.Machine.{Fits, IsHeld}
-use Rattle.be_machine.proofs.Lists.{same_number, is_same_number}
 use Rattle.be_machine.specs.Touched as part
 use Rattle.be_parts.specs.declared.part.Part.{Part}
 use Rattle.be_parts.specs.Parts.{meaning_of}
@@ -21,7 +21,7 @@ use Rattle.be_script.specs.Script.{Declared}
 -- ---- among the parts in hand
 
 at_by : (q p : ℕ) (b : Bool) (x y : Part) (rest : Option Part) (P : Type 0) → (q == p) ≡ b → (if b then Some x else rest) ≡ Some y → (q ≡ p → x ≡ y → P) → (rest ≡ Some y → P) → P
-at_by q p true x y rest P e is f g = f (same_number q p e) (same_Some x y is)
+at_by q p true x y rest P e is f g = f (eq_tells q p e) (same_Some x y is)
 at_by q p false x y rest P e is f g = g is
 
 -- what a part in hand means stands in the list
@@ -38,13 +38,10 @@ none_by : (b : Bool) (x : Part) (rest : Option Part) → (if b then Some x else 
 none_by true x rest e = absurd (cc)
 none_by false x rest e = (refl, e)
 
-not_same : (q p : ℕ) → (q == p) ≡ false → q ≡ p → ⊥
-not_same q p e is = let yes : true ≡ false = sym (is_same_number p) ∙ ap (λ n. n == p) (sym is) ∙ e in absurd (cc)
-
 -- and one that isn't is not
 pub not_held : (parts : List (ℕ × Part)) (p : ℕ) → part_at parts p ≡ None → IsHeld (meant meaning_of parts) p → ⊥
 not_held [] p e h = h
-not_held (x ∷ xs) p e (inl is) = let out = none_by (x.0 == p) x.1 (part_at xs p) e in not_same x.0 p out.0 is
+not_held (x ∷ xs) p e (inl is) = let out = none_by (x.0 == p) x.1 (part_at xs p) e in eq_false_tells x.0 p out.0 is
 not_held (x ∷ xs) p e (inr h) = let out = none_by (x.0 == p) x.1 (part_at xs p) e in not_held xs p out.1 h
 
 -- ---- in the state

@@ -1,7 +1,8 @@
 -- What a looper wants, by its part.
-use Rattle.std.proofs.Common.{◌≡◌, ℕ, zero, suc, ◌<◌, List, [], ◌∷◌, length, Option, Some, None, refl, sym, ap, ◌∙◌, subst, arith}
+use Rattle.std.proofs.Common.{◌≡◌, ℕ, ◌<◌, List, [], length, Option, Some, None, refl, sym, ap, ◌∙◌, subst}
 use Rattle.std.specs.Prelude.{slice_get, option_map, option_and_then, unwrap_or}
 use Rattle.std.specs.Option.{option_map_or}
+use Rattle.be_facts.proofs.Lists.{element}
 use Rattle.be_asking.proofs.InHand.{looper_read, buffer_read, is_held}
 use Rattle.be_asking.specs.declared.want.Want.{Want}
 use Rattle.be_asking.specs.declared.want.Wanted.TheVariants.{Wants}
@@ -35,11 +36,6 @@ by_count d s w free = refl
 counted : (o : Option Buffer) → option_map_or (λ (b : Buffer). length b.commands) o 0 ≡ length (unwrap_or o empty_buffer).commands
 counted (Some b) = refl
 counted None = refl
-
-pub element : {X : Type 0} (xs : List X) (i : ℕ) → i < length xs → (x : X) × (slice_get xs i ≡ Some x)
-element [] i lt = absurd (omega arith)
-element (x ∷ xs) zero lt = (x, refl)
-element (x ∷ xs) (suc i) lt = element xs i (omega arith)
 
 module _ (d : Declared) (parts : List (ℕ × Part)) (w : ℕ) (y : Part) (lt : w < length d.windows) (at : part_at parts (place_of d (part.looper w)) ≡ Some y) (want : Want) where
   wanted_by : (s : State) (l : Looper) → slice_get s.loopers w ≡ Some l → buffered s (looper w) ≡ length (buffer_of (meaning_of y)).commands → IsTold d w (Some l) (length (buffer_of (meaning_of y)).commands) want → IsWantIn d s (runner (looper w)) want

@@ -57,10 +57,10 @@ looper_hop d inhand w k hop r at same all sound fits =
     ∙ ap (λ (t : State). hop_of t (machine.looper w)) (sym (back d all sound)))
     same
 
-deep : (n : ℕ) → 8 ≤ n → nat_le 8 n ≡ true
+pub deep : (n : ℕ) → 8 ≤ n → nat_le 8 n ≡ true
 deep n le = grind (arith, nat_tests)
 
-same_answer : (p : Port Message) (h k : ℕ) → IsSameHop h k → judged p h ≡ judged p k
+pub same_answer : (p : Port Message) (h k : ℕ) → IsSameHop h k → judged p h ≡ judged p k
 unfolding judged
 same_answer p h k (inl is) = ap (judged p) is
 same_answer p h k (inr both) = rw (deep h both.0, deep k both.1) refl

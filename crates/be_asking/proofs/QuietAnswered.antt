@@ -1,13 +1,12 @@
 -- What a window's parts in hand tell of what is on its way.
-use Rattle.std.proofs.Common.{◌≡◌, ℕ, suc, Bool, true, false, List, [], ◌∷◌, length, Option, Some, None, refl, sym, ap, ◌∙◌, arith}
-use Rattle.std.specs.Prelude.{◌==◌, ◌&&◌, ◌↔◌, IsTrue, is_none, not, option_map, slice_get}
+use Rattle.std.proofs.Common.{◌≡◌, ℕ, Bool, true, false, List, [], ◌∷◌, length, Option, Some, None, refl, sym, ap, ◌∙◌}
+use Rattle.std.specs.Prelude.{◌==◌, ◌&&◌, ◌↔◌, IsTrue, is_none, not, slice_get}
 use Rattle.std.specs.Borrow.{Bor}
 use Rattle.std.specs.Option.{is_some, option_copied}
-use Rattle.std.proofs.lemmas.Bool.Decides.{nat_tests}
+use Rattle.be_facts.proofs.Numbers.{suc_is_not_zero}
 use Rattle.be_hall.specs.Hands.{meant, part_at}
 use Rattle.be_hall.specs.Machine.{Fits}
-use Rattle.be_link.specs.Queues.{Buffer, Numbered, is_flushed}
-use Rattle.be_looper.specs.declared.Owner.{Owner}
+use Rattle.be_link.specs.Queues.{is_flushed}
 use Rattle.be_looper.specs.declared.Owner.TheVariants as owners
 use Rattle.be_pane.specs.Owed.{IsOwed}
 use Rattle.be_pane.specs.declared.pane.Pane.{Pane}
@@ -17,47 +16,22 @@ use Rattle.be_port.proofs.LawLemmas.{same_length}
 use Rattle.be_port.specs.declared.letter.Letter as code
 use Rattle.be_script.specs.Script.{Declared}
 use Rattle.be_machine.specs.Closing.{is_free}
-use Rattle.be_machine.specs.State.{Looper, State, free, locked, handling}
+use Rattle.be_machine.specs.State.{Looper, State}
 use Rattle.be_machine.specs.Touched as part
 use Rattle.be_parts.specs.Kept.{Kept}
-use Rattle.be_parts.specs.Loopers.{owner_in, owner_of}
 use Rattle.be_parts.specs.Parts.{meaning_of}
 use Rattle.be_parts.specs.Stands.{PaneIs, PortIs}
 use Rattle.be_parts.specs.declared.part.Part.{Part}
 use Rattle.be_parts.specs.declared.part.Part.TheVariants as kinds
 use Rattle.be_rules.specs.Places.{place_of}
 use Rattle.be_rules.specs.Rules.{IsSound}
-use Rattle.be_rules.specs.Slices.{Slice, desk, input, cell, looper, port, link, pane, buffer_in, link_in, looper_in, state_of}
+use Rattle.be_rules.specs.Slices.{Slice, desk, input, cell, looper, port, link, pane, state_of}
 use Rattle.be_rules.proofs.Lawfully.{back}
 use Rattle.be_update.specs.Laws.{ListedAsDirty, OwedAsTheMachine}
 use Rattle.be_asking.specs.Finding.{IsMissing, IsReachable}
 use Rattle.be_asking.specs.Stopping.{IsLost, Tells, is_empty_link, is_empty_port, is_idle, is_quiet, passes}
 use Rattle.be_asking.proofs.InHand.{buffer_read, link_read, looper_read, port_read}
-use Rattle.be_asking.proofs.Takes.{idle}
 use Rattle.be_asking.proofs.TwinWants.{owes_told}
-
--- ---- a looper
-
-pub free_idle : (slice : Slice) (b : Buffer) (n : ℕ) → Some owners.Free ≡ owner_of slice → buffer_in slice ≡ Some b → n ≡ length b.commands → (n == 0) ≡ is_idle slice
-free_idle slice b n owner has count =
-    ap (λ k. k == 0) count
-    ∙ sym (ap (λ o. passes is_free o && passes is_flushed (buffer_in slice)) (idle (looper_in slice) owner) ∙ ap (passes is_flushed) has)
-
-busy_by : (o : Option Looper) (owner : Owner) → Some owner ≡ option_map owner_in o → (owner ≡ owners.Free → ⊥) → passes is_free o ≡ false
-busy_by (Some free) owner is not = absurd (not (same is))
-  where
-    owner_or : Option Owner → Owner
-    owner_or (Some x) = x
-    owner_or None = owners.Free
-
-    same : {x y : Owner} → Some x ≡ Some y → x ≡ y
-    same e = ap owner_or e
-busy_by (Some (locked m)) owner is not = refl
-busy_by (Some (handling hand stage)) owner is not = refl
-busy_by None owner is not = absurd (cc)
-
-pub busy_idle : (slice : Slice) (owner : Owner) → Some owner ≡ owner_of slice → (owner ≡ owners.Free → ⊥) → false ≡ is_idle slice
-busy_idle slice owner is not = sym (ap (λ b. b && passes is_flushed (buffer_in slice)) (busy_by (looper_in slice) owner is not))
 
 -- ---- a port
 
@@ -71,12 +45,9 @@ port_empty (looper w l b) q stands = absurd stands
 port_empty (link w l) q stands = absurd stands
 port_empty (pane w x) q stands = absurd stands
 
-not_none : (n : ℕ) → (suc n == 0) ≡ false
-not_none n = grind (arith, nat_tests)
-
 front_by : (xs : List code.Letter) (o : Option code.Letter) → o ≡ slice_get xs 0 → is_none o ≡ (length xs == 0)
 front_by [] o e = ap is_none e
-front_by (x ∷ xs) o e = ap is_none e ∙ sym (not_none (length xs))
+front_by (x ∷ xs) o e = ap is_none e ∙ sym (suc_is_not_zero (length xs))
 
 copied_none : (o : Option (Bor code.Letter)) (b : Bool) → is_some o ≡ not b → b ≡ is_none (option_copied o)
 copied_none (Some x) true e = absurd (cc)
@@ -86,11 +57,6 @@ copied_none None false e = absurd (cc)
 
 pub front_empty : (slice : Slice) (q : Queue) (o : Option (Bor code.Letter)) (b : Bool) → PortIs slice q → is_some o ≡ not b → option_copied o ≡ slice_get q.letters 0 → b ≡ is_empty_port slice
 front_empty slice q o b stands told front = copied_none o b told ∙ front_by q.letters (option_copied o) front ∙ sym (port_empty slice q stands)
-
--- ---- a link
-
-pub link_empty : (slice : Slice) (l : List Numbered) (n : ℕ) → link_in slice ≡ Some l → n ≡ length l → (n == 0) ≡ is_empty_link slice
-link_empty slice l n has count = ap (λ k. k == 0) count ∙ sym (ap (passes (λ link. length link == 0)) has)
 
 -- ---- all of a window
 

@@ -2,12 +2,12 @@
 use Rattle.std.proofs.Common.{◌≡◌, ℕ, Bool, true, false, List, [], ◌∷◌, Option, Some, None, refl, sym, ap, ◌∙◌, subst}
 use Rattle.std.specs.Prelude.{◌==◌, slice_get, if◌then◌else◌}
 use Rattle.std.proofs.lemmas.Option.{same_Some}
+use Rattle.be_facts.proofs.Numbers.{eq_self}
 use Rattle.be_desk.specs.Changes.{Desk}
 use Rattle.be_hall.specs.Hands.{meant, part_at}
 use Rattle.be_hall.specs.Machine.{Fits}
 use Rattle.be_link.specs.Queues.{Numbered}
 use Rattle.be_script.specs.Script.{Declared}
-use Rattle.be_machine.proofs.Lists.{is_same_number}
 use Rattle.be_machine.specs.State.{App, Looper, State}
 use Rattle.be_machine.specs.Touched as part
 use Rattle.be_parts.specs.Parts.{meaning_of}
@@ -56,7 +56,7 @@ module _ (d : Declared) (parts : List (ℕ × Part)) (all : List Slice) (sound :
   app_found m a there at has =
       let is : slice_of (state d all sound) (part.cell m) ≡ meaning_of y = slice_read d parts all sound fits y (part.cell m) there at in
       let read : slice_get (state d all sound).apps m ≡ Some a = ap app_in is ∙ has in
-      let own : app_of m (meaning_of y) ≡ Some a = ap (app_of m) (sym is) ∙ ap (λ (b : Bool). if b then slice_get (state d all sound).apps m else None) (is_same_number m) ∙ read in
+      let own : app_of m (meaning_of y) ≡ Some a = ap (app_of m) (sym is) ∙ ap (λ (b : Bool). if b then slice_get (state d all sound).apps m else None) (eq_self m) ∙ read in
       let found = some_found (app_of m) parts (place_of d (part.cell m)) y a at own in
       found.1 ∙ ap (λ (o : App). Some o) (found_in d (state d all sound) (app_of m) (meant meaning_of parts) found.0 (found.0 ≡ a) cut found.1 (λ x e. same_Some found.0 a (sym (app_there (state d all sound) m found.0 x e) ∙ read)))
 
@@ -65,7 +65,7 @@ module _ (d : Declared) (parts : List (ℕ × Part)) (all : List Slice) (sound :
   looper_found w l there at has =
       let is : slice_of (state d all sound) (part.looper w) ≡ meaning_of y = slice_read d parts all sound fits y (part.looper w) there at in
       let read : slice_get (state d all sound).loopers w ≡ Some l = ap looper_in is ∙ has in
-      let own : looper_of w (meaning_of y) ≡ Some l = ap (looper_of w) (sym is) ∙ ap (λ (b : Bool). if b then slice_get (state d all sound).loopers w else None) (is_same_number w) ∙ read in
+      let own : looper_of w (meaning_of y) ≡ Some l = ap (looper_of w) (sym is) ∙ ap (λ (b : Bool). if b then slice_get (state d all sound).loopers w else None) (eq_self w) ∙ read in
       let found = some_found (looper_of w) parts (place_of d (part.looper w)) y l at own in
       found.1 ∙ ap (λ (o : Looper). Some o) (found_in d (state d all sound) (looper_of w) (meant meaning_of parts) found.0 (found.0 ≡ l) cut found.1 (λ x e. same_Some found.0 l (sym (looper_there (state d all sound) w found.0 x e) ∙ read)))
 
@@ -74,7 +74,7 @@ module _ (d : Declared) (parts : List (ℕ × Part)) (all : List Slice) (sound :
   link_found w l there at has =
       let is : slice_of (state d all sound) (part.link w) ≡ meaning_of y = slice_read d parts all sound fits y (part.link w) there at in
       let read : slice_get (state d all sound).links w ≡ Some l = ap link_in is ∙ has in
-      let own : link_of w (meaning_of y) ≡ Some l = ap (link_of w) (sym is) ∙ ap (λ (b : Bool). if b then slice_get (state d all sound).links w else None) (is_same_number w) ∙ read in
+      let own : link_of w (meaning_of y) ≡ Some l = ap (link_of w) (sym is) ∙ ap (λ (b : Bool). if b then slice_get (state d all sound).links w else None) (eq_self w) ∙ read in
       let found = some_found (link_of w) parts (place_of d (part.link w)) y l at own in
       found.1 ∙ ap (λ (o : List Numbered). Some o) (found_in d (state d all sound) (link_of w) (meant meaning_of parts) found.0 (found.0 ≡ l) cut found.1 (λ x e. same_Some found.0 l (sym (link_there (state d all sound) w found.0 x e) ∙ read)))
 

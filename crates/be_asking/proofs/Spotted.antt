@@ -1,8 +1,6 @@
 -- Which part is at a place.
 use Rattle.std.proofs.Common.{◌≡◌, ℕ, zero, suc, ◌+◌, ◌<◌, List, [], ◌∷◌, ◌++◌, map, length, ◌⊎◌, inl, inr, ⊎_elim, refl, sym, ap, ◌∙◌, subst, arith}
 use Rattle.std.specs.List.{range_with_len}
-use Rattle.std.proofs.lemmas.List.{length-map}
-use Rattle.std.proofs.lemmas.List.FromFn.{length-range_with_len}
 use mathlib.Core.Option.{some}
 use lib.ListN.{get_elem?}
 use Rattle.be_script.specs.Script.{Declared}
@@ -11,15 +9,13 @@ use Rattle.be_machine.specs.Touched as part
 use Rattle.be_rules.specs.Places.{IsPart, place_of}
 use Rattle.be_rules.specs.Slices.{all_parts}
 use Rattle.be_rules.proofs.ListLemmas.{elem_range, same_elements, there_in}
+use Rattle.be_rules.proofs.Keepers.{long}
 
 -- in the front list, or behind it
 split_at : (xs ys : List Part) (i : ℕ) (x : Part) → get_elem? (xs ++ ys) i ≡ some x → (get_elem? xs i ≡ some x) ⊎ ((j : ℕ) × (i ≡ length xs + j) × (get_elem? ys j ≡ some x))
 split_at [] ys i x e = let same : i ≡ 0 + i = omega arith in inr (i, same, e)
 split_at (z ∷ xs) ys zero x e = inl e
 split_at (z ∷ xs) ys (suc i) x e = ⊎_elim (λ h. inl h) (λ h. inr (h.0, (let is : i ≡ length xs + h.0 = h.1 in let same : suc i ≡ suc (length xs) + h.0 = omega arith in same), h.2)) (split_at xs ys i x e)
-
-long : (g : ℕ → Part) (n : ℕ) → length (map g (range_with_len 0 n)) ≡ n
-long g n = length-map (range_with_len 0 n) g ∙ length-range_with_len 0 n
 
 ranged : (g : ℕ → Part) (n i : ℕ) (x : Part) → get_elem? (map g (range_with_len 0 n)) i ≡ some x → x ≡ g i
 ranged g n i x e =

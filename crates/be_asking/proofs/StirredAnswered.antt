@@ -106,10 +106,6 @@ module _ (desk : Desk) (w : ℕ) (f : ChangeFault) (refused : desk_after desk w 
   alone_named u (inl same) = let one : 0 < length (w ∷ []) = omega arith in (0, one, sym same)
   alone_named u (inr altered) = absurd (none_altered u altered)
 
-pub alone_stirred : (desk : Desk) (w u : ℕ) → Contains (w ∷ []) u → IsStirred desk w u
-alone_stirred desk w u (zero, lt, is) = inl (sym is)
-alone_stirred desk w u (suc k, lt, is) = absurd (omega (arith, lt))
-
 -- ---- all panes
 
 pub by_option : (o : Option ℕ) (P R : Type 0) (Q S : ℕ → Type 0) → (P → R) → ((n : ℕ) → Q n → S n) → MatchOption o P Q → MatchOption o R S

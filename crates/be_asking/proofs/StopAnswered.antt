@@ -3,8 +3,10 @@ use Rattle.std.proofs.Common.{◌≡◌, ℕ, ◌<◌, Bool, true, false, List, 
 use Rattle.std.specs.Prelude.{◌==◌, ◌&&◌, not, option_and_then, option_map, if◌then◌else◌}
 use Rattle.std.specs.List.{list_all, range_with_len}
 use Rattle.std.proofs.lemmas.Option.{same_Some}
+use Rattle.std.proofs.lemmas.Bool.{false_from_ne_true}
 use mathlib.Core.Option.{some}
 use lib.ListN.{get_elem?}
+use Rattle.be_facts.proofs.Truths.{and_first, and_second}
 use Rattle.be_hall.specs.Hands.{meant, part_at}
 use Rattle.be_hall.specs.Machine.{Fits, IsHeld}
 use Rattle.be_script.specs.Script.{Declared}
@@ -18,7 +20,6 @@ use Rattle.be_machine.specs.Program.{has_ended}
 use Rattle.be_machine.specs.State.{State}
 use Rattle.be_machine.specs.Touched as part
 use Rattle.be_machine.specs.Wants.{stops, want_of}
-use Rattle.be_machine.proofs.Lists.{both_first, both_second}
 use Rattle.be_parts.specs.Parts.{meaning_of}
 use Rattle.be_parts.specs.declared.part.Part.{Part}
 use Rattle.be_rules.specs.Found.{CannotAct, NeedsPart}
@@ -32,7 +33,6 @@ use Rattle.be_asking.specs.Deeds.{MayAct}
 use Rattle.be_asking.specs.Stopping.{HasAll, HasApps, HasWindows, IsLost, Tells, can_stop}
 use Rattle.be_asking.specs.Finding.{IsInHand}
 use Rattle.be_asking.proofs.InHand.{input_read, is_held, not_held}
-use Rattle.be_asking.proofs.Rests.{fails}
 use Rattle.be_asking.proofs.Spotted.{part_there, spot}
 
 -- ---- by the state
@@ -95,9 +95,9 @@ module _ (d : Declared) (parts : List (ℕ × Part)) where
   pub going_on : Tells d parts (λ s. list_all (has_ended d s) (range_with_len 0 (length s.apps))) false → Tells d parts (can_stop d) false
   going_on one all sound fits =
       let s : State = state_of d all in
-      fails (can_stop d s) (λ e.
-      let done : all_done d s ≡ true = both_second (not s.stopped) (all_done d s) (both_first (not s.stopped && all_done d s) (all_quiet s) e) in
-      let ended : list_all (has_ended d s) (range_with_len 0 (length s.apps)) ≡ true = both_first (list_all (has_ended d s) (range_with_len 0 (length s.apps))) (s.events == length d.input) done in
+      false_from_ne_true (can_stop d s) (λ e.
+      let done : all_done d s ≡ true = and_second (not s.stopped) (all_done d s) (and_first (not s.stopped && all_done d s) (all_quiet s) e) in
+      let ended : list_all (has_ended d s) (range_with_len 0 (length s.apps)) ≡ true = and_first (list_all (has_ended d s) (range_with_len 0 (length s.apps))) (s.events == length d.input) done in
       let same : true ≡ false = sym ended ∙ one all sound fits in
       absurd (cc))
 
@@ -124,9 +124,9 @@ module _ (d : Declared) (parts : List (ℕ × Part)) (y : Part) (at : part_at pa
     pub not_used : (n == length d.input) ≡ false → Tells d parts (can_stop d) false
     not_used more all sound fits =
         let s : State = state_of d all in
-        fails (can_stop d s) (λ e.
-        let done : all_done d s ≡ true = both_second (not s.stopped) (all_done d s) (both_first (not s.stopped && all_done d s) (all_quiet s) e) in
-        let used : (s.events == length d.input) ≡ true = both_second (list_all (has_ended d s) (range_with_len 0 (length s.apps))) (s.events == length d.input) done in
+        false_from_ne_true (can_stop d s) (λ e.
+        let done : all_done d s ≡ true = and_second (not s.stopped) (all_done d s) (and_first (not s.stopped && all_done d s) (all_quiet s) e) in
+        let used : (s.events == length d.input) ≡ true = and_second (list_all (has_ended d s) (range_with_len 0 (length s.apps))) (s.events == length d.input) done in
         let same : true ≡ false = sym used ∙ ap (λ k. k == length d.input) (events_are all sound fits n known) ∙ more in
         absurd (cc))
 

@@ -1,17 +1,17 @@
 -- What a twin wants, by the window's pane.
-use Rattle.std.proofs.Common.{◌≡◌, ℕ, ◌<◌, Bool, true, false, List, length, Some, None, refl, sym, ap, ◌∙◌, subst}
-use Rattle.std.specs.Prelude.{ℤ, ◌↔◌, ◌&&◌, ◌==◌, IsTrue, not, slice_get, find, if◌then◌else◌}
+use Rattle.std.proofs.Common.{◌≡◌, ℕ, ◌<◌, Bool, true, false, List, length, Some, refl, sym, ap, ◌∙◌, subst}
+use Rattle.std.specs.Prelude.{ℤ, ◌↔◌, ◌&&◌, ◌==◌, IsTrue, not, slice_get, if◌then◌else◌}
+use Rattle.std.proofs.lemmas.Bool.{false_from_ne_true}
+use Rattle.be_facts.proofs.Lists.{element}
 use Rattle.be_asking.proofs.InHand.{pane_read, is_held}
-use Rattle.be_asking.proofs.LooperWants.{element}
 use Rattle.be_asking.specs.declared.want.Want.TheVariants as want
 use Rattle.be_asking.specs.declared.want.Wanted.TheVariants.{Wants}
 use Rattle.be_asking.specs.Wants.{IsWanted}
 use Rattle.be_geom.specs.Rects.{rect_has}
+use Rattle.be_geom.proofs.Numbered.{number_is}
 use Rattle.be_hall.specs.Hands.{meant, part_at}
 use Rattle.be_hall.specs.Machine.{Fits}
-use Rattle.be_machine.proofs.Lists.{find_passes}
 use Rattle.be_machine.proofs.PixelExposed.{owned_cell_after}
-use Rattle.be_machine.proofs.ReadsDirt.{number_is}
 use Rattle.be_machine.specs.Activities.{twin}
 use Rattle.be_machine.specs.Pixels.{owner_in}
 use Rattle.be_machine.specs.State.{State}
@@ -33,10 +33,11 @@ use Rattle.be_rules.specs.Rules.{IsSound}
 use Rattle.be_rules.specs.Slices.{Slice, shown_of, state_of}
 use Rattle.be_script.specs.Script.{Declared}
 use Rattle.be_stack.specs.declared.window.Window.{Window}
-use Rattle.be_stack.specs.Owner.{covers, covers_pixel, owner_at}
+use Rattle.be_stack.specs.Owner.{covers_pixel, owner_at}
 use Rattle.be_stack.specs.Windows.{Windows, passes}
 use Rattle.be_update.specs.Laws.{ListedAsDirty, OwedAsTheMachine}
 use Rattle.be_update.specs.Sessions.{is_owed}
+use Rattle.be_machine.proofs.WorkStages.{found_if}
 
 -- ---- a closed window owns no pixel
 
@@ -44,18 +45,10 @@ shut : (closed b c : Bool) → ((not closed && b) && c) ≡ true → closed ≡ 
 shut true b c e shut_now = absurd (cc)
 shut false b c e shut_now = absurd (cc)
 
-covers_if : (b : Bool) (windows : Windows) (x y : ℤ) (w : ℕ) → (if b then find (covers windows.windows x y) windows.order else None) ≡ Some w → covers windows.windows x y w ≡ true
-covers_if true windows x y w e = find_passes (covers windows.windows x y) windows.order w e
-covers_if false windows x y w e = absurd (cc)
-
 closed_owns : (windows : Windows) (x y : ℤ) (w : ℕ) (window : Window) → slice_get windows.windows w ≡ Some window → window.closed ≡ true → owner_at windows x y ≡ Some w → ⊥
 unfolding owner_at
 closed_owns windows x y w window read over e =
-    shut window.closed (window.hides == 0) (rect_has window.frame x y) (sym (ap (passes (covers_pixel x y)) read) ∙ covers_if _ windows x y w e) over
-
-not_owned : (b : Bool) → (b ≡ true → ⊥) → b ≡ false
-not_owned true out = absurd (out refl)
-not_owned false out = refl
+    shut window.closed (window.hides == 0) (rect_has window.frame x y) (sym (ap (passes (covers_pixel x y)) read) ∙ found_if _ windows x y w e) over
 
 -- ---- the notice
 
@@ -80,7 +73,7 @@ module _ (d : Declared) (parts : List (ℕ × Part)) (w : ℕ) (y : Part) (p : P
 
     owed_as : IsOwed p ↔ (is_owed window.0.closed (dirty_of s w) shows.kept ≡ true)
     owed_as = law p w shows.corner shows.kept shows.tree (owned s w) (cells_in s) (dirty_of s w) window.0.closed (as_owned s w full p shows) (are_dirty s w full listed)
-        (λ over i j. not_owned (owned s w i j) (λ mine. closed_owns s.desk.windows i j w window.0 window.1 over (number_is w (owner_in s i j) mine)))
+        (λ over i j. false_from_ne_true (owned s w i j) (λ mine. closed_owns s.desk.windows i j w window.0 window.1 over (number_is w (owner_in s i j) mine)))
 
     wants_by : (b : Bool) → owes_notice s w ≡ b → want_of d (state_of d all) (twin w) ≡ Some (if b then notifies w else executes w)
     unfolding want_of
@@ -91,11 +84,11 @@ module _ (d : Declared) (parts : List (ℕ × Part)) (w : ℕ) (y : Part) (p : P
   owes_told true told all sound fits = ap (λ t. owes_notice t w) (back d all sound) ∙ owes_is all sound fits ∙ (owed_as all sound fits).0 (told.0 refl)
   owes_told false told all sound fits =
       ap (λ t. owes_notice t w) (back d all sound)
-      ∙ not_owned (owes_notice (s all sound fits) w) (λ e. let never : false ≡ true = told.1 ((owed_as all sound fits).1 (sym (owes_is all sound fits) ∙ e)) in absurd (cc))
+      ∙ false_from_ne_true (owes_notice (s all sound fits) w) (λ e. let never : false ≡ true = told.1 ((owed_as all sound fits).1 (sym (owes_is all sound fits) ∙ e)) in absurd (cc))
 
   pub twin_notifies : (number : ℕ) → IsOwed p → IsWanted d (meant meaning_of parts) number (twin w) (Wants (want.Notifies w))
   twin_notifies number is all sound fits = (wants_by all sound fits true (owes_is all sound fits ∙ (owed_as all sound fits).0 is), is_held parts (place_of d (part.pane w)) y at)
 
   pub twin_executes : (number : ℕ) → (IsOwed p → ⊥) → IsWanted d (meant meaning_of parts) number (twin w) (Wants (want.Executes w))
   twin_executes number out all sound fits =
-      (wants_by all sound fits false (not_owned (owes_notice (s all sound fits) w) (λ e. out ((owed_as all sound fits).1 (sym (owes_is all sound fits) ∙ e)))), is_held parts (place_of d (part.pane w)) y at)
+      (wants_by all sound fits false (false_from_ne_true (owes_notice (s all sound fits) w) (λ e. out ((owed_as all sound fits).1 (sym (owes_is all sound fits) ∙ e)))), is_held parts (place_of d (part.pane w)) y at)

@@ -23,6 +23,7 @@ use Rattle.be_asking.specs.declared.activity.Runner.TheVariants as by
 use Rattle.be_asking.specs.declared.want.Want.TheVariants as want
 use Rattle.std.specs.Prelude.{◌==◌, ◌↔◌, not, IsTrue}
 use Rattle.std.proofs.lemmas.Bool.Decides.{nat_tests}
+use Rattle.be_geom.proofs.Numbered.{number_is}
 use Rattle.be_link.specs.Queues.{Numbered}
 use Rattle.be_message.specs.Messages.{Message}
 use Rattle.be_pane.specs.Owed.{IsClean}
@@ -32,7 +33,6 @@ use Rattle.be_port.specs.Queues.{Queue}
 use Rattle.be_update.specs.Laws.{FoundAsTheMachine, ListedAsDirty}
 use Rattle.be_update.specs.Sessions.{is_any}
 use Rattle.be_machine.specs.Windows.{dirty_of, owned}
-use Rattle.be_machine.proofs.ReadsDirt.{number_is}
 use Rattle.be_machine.proofs.PixelExposed.{owned_cell_after}
 use Rattle.be_machine.specs.Pixels.{owner_in}
 use Rattle.be_parts.specs.Changed.{cells_in}

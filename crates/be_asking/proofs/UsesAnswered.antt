@@ -92,12 +92,12 @@ desk_first : (o : Option Delivery) → IsAmong part.desk (delivery_parts o)
 desk_first (Some x) = inl refl
 desk_first None = inl refl
 
-in_front : (p : part.Part) (xs ys : List part.Part) → IsAmong p xs → IsAmong p (xs ++ ys)
+pub in_front : (p : part.Part) (xs ys : List part.Part) → IsAmong p xs → IsAmong p (xs ++ ys)
 in_front p [] ys h = absurd h
 in_front p (x ∷ xs) ys (inl e) = inl e
 in_front p (x ∷ xs) ys (inr h) = inr (in_front p xs ys h)
 
-behind : (p : part.Part) (xs ys : List part.Part) → IsAmong p ys → IsAmong p (xs ++ ys)
+pub behind : (p : part.Part) (xs ys : List part.Part) → IsAmong p ys → IsAmong p (xs ++ ys)
 behind p [] ys h = h
 behind p (x ∷ xs) ys h = inr (behind p xs ys h)
 

@@ -5,9 +5,9 @@ use Rattle.std.proofs.lemmas.Option.{same_Some}
 use Rattle.be_asking.proofs.ExecutesAnswered.{front_now, oldest_now}
 use Rattle.be_asking.specs.declared.activity.Activity.TheVariants as who
 use Rattle.be_asking.specs.declared.want.Want.TheVariants as want
-use Rattle.be_changes.proofs.ChangeTold.{desk_changed, executed_is, links_executed, ports_changed, same_ok, shown_executed, windows_changed}
+use Rattle.be_changes.proofs.ChangeTold.{desk_changed, executed_is, links_executed, ports_changed, same_ok, shown_executed}
 use Rattle.be_changes.proofs.MadeLists.{all_left, both_left, one_left, others_stay}
-use Rattle.be_changes.proofs.PartLists.{among_either, among_front, among_join, no_pane, port_closes, touched_port}
+use Rattle.be_changes.proofs.PartLists.{among_either, no_pane, port_closes, touched_port}
 use Rattle.be_changes.proofs.PlannedPanes.{after_desk, desk_is as desk_known, leaves_as as leaves_known, panes_ready as panes_of_plan, stirred_made, told_later as told_known}
 use Rattle.be_changes.specs.Left.{HasLeft}
 use Rattle.be_changes.specs.Panes.{PanesAreToChange, pane_places}
@@ -44,6 +44,8 @@ use Rattle.be_rules.specs.Slices.{Slice, desk, desk_in, link, pane, port, shown_
 use Rattle.be_rules.specs.Sure.{IsAmong, effect_parts, port_for, seen_in}
 use Rattle.be_script.specs.Script.{Declared}
 use Rattle.be_span.specs.Spans.{Spans}
+use Rattle.be_rules.proofs.Far.{windows_changed}
+use Rattle.be_asking.proofs.UsesAnswered.{in_front, behind}
 use Rattle.be_steps.proofs.Making.{now, read, settled_now, then_is, there}
 use Rattle.be_steps.proofs.Moved.{at_map}
 use Rattle.be_steps.proofs.Stays.{part_held}
@@ -99,7 +101,7 @@ module _ (d : Declared) (old : Hand Part) (w : ℕ) (allowed : IsAllowed d old.p
   desk_there = told part.desk (inr (inl refl))
 
   port_there : (x : part.Part) → IsAmong x (port_for w plan.change) → IsThere d old.parts x
-  port_there x among = told x (inr (inr (among_front x (port_for w plan.change) (part.pane w ∷ []) among)))
+  port_there x among = told x (inr (inr (in_front x (port_for w plan.change) (part.pane w ∷ []) among)))
 
   desk_is : s.desk ≡ planned.known
   desk_is = desk_known d old.parts (who.Twin w) (want.Executes w) allowed planned.known planned.at_desk
@@ -274,9 +276,9 @@ module _ (d : Declared) (old : Hand Part) (w : ℕ) (allowed : IsAllowed d old.p
                   by (subst (λ o. TouchesOldest s later w o x) front oldest)
                 where
                   by : TouchesFor s later w (changes plan.change) x → IsAmong x (made_so_far ++ part.desk ∷ [])
-                  by (inl is_desk) = among_join x made_so_far (part.desk ∷ []) (inl is_desk)
-                  by (inr (inl closes)) = among_front x made_so_far (part.desk ∷ []) (among_join x (part.link w ∷ map part.pane named) (port_for w plan.change) (touched_port w plan.change x closes))
+                  by (inl is_desk) = behind x made_so_far (part.desk ∷ []) (inl is_desk)
+                  by (inr (inl closes)) = in_front x made_so_far (part.desk ∷ []) (behind x (part.link w ∷ map part.pane named) (port_for w plan.change) (touched_port w plan.change x closes))
                   by (inr (inr stirs)) =
-                      among_front x made_so_far (part.desk ∷ [])
-                      (among_front x (part.link w ∷ map part.pane named) (port_for w plan.change)
+                      in_front x made_so_far (part.desk ∷ [])
+                      (in_front x (part.link w ∷ map part.pane named) (port_for w plan.change)
                       (inr (stirred_made d old.parts (who.Twin w) (want.Executes w) allowed plan places planned windows_later named places_are x (subst (λ n. TouchesPanes s later n x) (sym window) stirs))))

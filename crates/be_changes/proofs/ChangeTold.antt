@@ -1,18 +1,14 @@
 -- What the machine makes of a change at the front of a link.
-use Rattle.std.proofs.Common.{◌≡◌, ℕ, List, Option, Some, Result, Ok, Err, ◌⊎◌, inl, inr, refl, sym, ap, ◌∙◌}
+use Rattle.std.proofs.Common.{◌≡◌, ℕ, List, Some, Result, Ok, Err, refl, sym, ap, ◌∙◌}
 use Rattle.std.specs.Prelude.{slice_get, option_and_then}
 use Rattle.std.specs.Option.{option_map_or}
 use Rattle.be_command.specs.Effects.{changes, effect_of}
 use Rattle.be_desk.specs.Changes.{Desk, desk_after}
-use Rattle.be_geom.specs.Numbers.{is_number}
 use Rattle.be_geom.specs.declared.change.Change.{Change}
 use Rattle.be_link.specs.Queues.{Numbered}
-use Rattle.be_machine.proofs.Lists.{is_same_number}
-use Rattle.be_machine.proofs.ReadsDirt.{number_is}
 use Rattle.be_machine.specs.Commands.{executed, executed_command, with_effect, without_front}
 use Rattle.be_machine.specs.State.{State}
 use Rattle.be_machine.specs.Windows.{changed, changed_to, ports_after}
-use Rattle.be_rules.specs.Far.{windows_behind, windows_or}
 use Rattle.be_rules.specs.Slices.{shown_of}
 use Rattle.be_script.specs.Script.{Declared}
 use Rattle.be_stack.specs.declared.fault.ChangeFault.{ChangeFault}
@@ -36,19 +32,6 @@ links_by t w change (Err f) = refl
 links_kept : (t : State) (w : ℕ) (change : Change) → (changed t w change).links ≡ t.links
 unfolding changed
 links_kept t w change = links_by t w change (desk_after t.desk w change)
-
--- a pixel that changes hands is one of which its old owner, or its new one, is another window's
-pub differs : (u : ℕ) (o p : Option ℕ) → (o ≡ Some u) ⊎ (p ≡ Some u) → (p ≡ o → ⊥) → is_number u o ≡ is_number u p → ⊥
-differs u o p (inl is) other same = other (number_is u p (sym same ∙ ap (is_number u) is ∙ is_same_number u) ∙ sym is)
-differs u o p (inr is) other same = other (is ∙ sym (number_is u o (same ∙ ap (is_number u) is ∙ is_same_number u)))
-
-pub windows_changed : (t : State) (w : ℕ) (change : Change) → (changed t w change).desk.windows ≡ windows_behind t.desk w change
-unfolding changed
-windows_changed t w change = by_result (desk_after t.desk w change)
-  where
-    by_result : (r : Result Desk ChangeFault) → (changed_to t w change r).desk.windows ≡ windows_or t.desk.windows r
-    by_result (Ok after) = refl
-    by_result (Err fault) = refl
 
 pub desk_changed : (t : State) (w : ℕ) (change : Change) (after : Desk) → desk_after t.desk w change ≡ Ok after → (changed t w change).desk ≡ after
 unfolding changed

@@ -8,7 +8,7 @@ use Rattle.be_asking.specs.declared.activity.Activity.TheVariants as who
 use Rattle.be_asking.specs.declared.want.Want.TheVariants as want
 use Rattle.be_changes.proofs.ChangeTold.{same_ok}
 use Rattle.be_changes.proofs.MadeLists.{all_left, both_left, none_left, one_left, others_stay}
-use Rattle.be_changes.proofs.PartLists.{among_either, among_front, among_join, no_pane}
+use Rattle.be_changes.proofs.PartLists.{among_either, no_pane}
 use Rattle.be_changes.proofs.PlannedPanes.{after_desk, desk_is as desk_known, leaves_as as leaves_known, panes_ready, stirred_made}
 use Rattle.be_changes.proofs.PortsPosted.{IsPort, OneMessage, after_post, few_after, may_post, ports_after_post, post_moves, posts_left}
 use Rattle.be_changes.proofs.Remembered.{activation_refused, desk_activated, input_activated, ports_activated, posted_state, shown_activated}
@@ -52,21 +52,16 @@ use Rattle.be_script.specs.Script.{Declared}
 use Rattle.be_script.specs.declared.InputLine.{InputLine}
 use Rattle.be_script.specs.declared.InputLine.TheVariants as line
 use Rattle.be_stack.specs.declared.fault.ChangeFault.{ChangeFault}
+use Rattle.be_asking.proofs.FarEvents.{delivered_with}
+use Rattle.be_asking.proofs.UsesAnswered.{in_front, behind}
 use Rattle.be_steps.proofs.Making.{now, read, settled_now, then_is, there}
 use Rattle.be_steps.proofs.PartsKept.{twice}
 use Rattle.be_steps.proofs.Stays.{part_held, with_itself}
 use Rattle.be_steps.specs.Steps.{IsAllowed, IsDone, LeavesAt}
 use Rattle.be_steps.specs.There.{IsThere}
+use Rattle.be_steps.proofs.InputGone.{few_by}
 
 -- ---- lines of the input
-
--- the line is the event
-event_state : (s : State) (l : InputLine) (e : Event) → event_in l ≡ Some e → with_event s l ≡ with_delivery s (delivery_of s e)
-event_state s (line.Press at) e is = ap (λ x. with_delivery s (delivery_of s x)) (same_Some _ e is)
-event_state s (line.Release at) e is = ap (λ x. with_delivery s (delivery_of s x)) (same_Some _ e is)
-event_state s (line.Move at) e is = ap (λ x. with_delivery s (delivery_of s x)) (same_Some _ e is)
-event_state s (line.Key key) e is = ap (λ x. with_delivery s (delivery_of s x)) (same_Some _ e is)
-event_state s (line.After m) e is = absurd (cc)
 
 pub event_told : (s : State) (l : InputLine) (e : Event) → event_in l ≡ Some e → event_parts (seen_in s) l ≡ delivery_parts (Some (delivery_of s e))
 event_told s (line.Press at) e is = ap (λ x. delivery_parts (Some (delivery_of s x))) (same_Some _ e is)
@@ -101,11 +96,6 @@ few_letters slice w p is fits =
     let few : length p.arrived ≤ 2 * 4611686018427387904 = subst (SliceFits 4611686018427387904) is fits in
     omega (arith, few)
 
-few_used : (slice : Slice) (s : State) → slice ≡ slice_of s part.input → SliceFits 4611686018427387904 slice → IfSome (input_in slice) (λ known. known.0 < 18446744073709551615)
-few_used slice s is fits =
-    let few : s.events ≤ 4611686018427387904 = subst (SliceFits 4611686018427387904) is fits in
-    subst (λ (x : Slice). IfSome (input_in x) (λ known. known.0 < 18446744073709551615)) (sym is) (omega (arith, few))
-
 pub input_in_hand : (d : Declared) (parts : List (ℕ × Part)) (place : ℕ) → place ≡ place_of d part.input → (k : Kept) × (part_at parts (place_of d part.input) ≡ Some (kinds.Input k)) → (k : Kept) × (part_at parts place ≡ Some (kinds.Input k))
 input_in_hand d parts place spot (k, at) = (k, ap (part_at parts) spot ∙ at)
 
@@ -132,7 +122,7 @@ module _ (d : Declared) (old : Hand Part) (event : Bor InputLine) (allowed : IsA
   event_later = refl
 
   later_is : later ≡ activated (posted_state s dv) dv.activate
-  later_is = event_later ∙ event_state s event.now is.event is.is ∙ ap (with_delivery s) delivery_is
+  later_is = event_later ∙ delivered_with s event.now is.event is.is ∙ ap (with_delivery s) delivery_is
 
   -- ---- what is in hand
 
@@ -150,8 +140,8 @@ module _ (d : Declared) (old : Hand Part) (event : Bor InputLine) (allowed : IsA
   port_there : (x : part.Part) → IsAmong x (post_parts dv.first ++ post_parts dv.second) → IsThere d old.parts x
   port_there x among =
       told x (inr (inr (⊎_elim
-      (λ first. among_front x (post_parts dv.first) (post_parts dv.second ++ maybe part.pane dv.activate) first)
-      (λ second. among_join x (post_parts dv.first) (post_parts dv.second ++ maybe part.pane dv.activate) (among_front x (post_parts dv.second) (maybe part.pane dv.activate) second))
+      (λ first. in_front x (post_parts dv.first) (post_parts dv.second ++ maybe part.pane dv.activate) first)
+      (λ second. behind x (post_parts dv.first) (post_parts dv.second ++ maybe part.pane dv.activate) (in_front x (post_parts dv.second) (maybe part.pane dv.activate) second))
       (among_either x (post_parts dv.first) (post_parts dv.second) among))))
 
   leaves_as : (x : part.Part) (v : Slice) → IsThere d old.parts x → slice_of later x ≡ v → LeavesAt d old.parts who.Input (place_of d x) v
@@ -164,7 +154,7 @@ module _ (d : Declared) (old : Hand Part) (event : Bor InputLine) (allowed : IsA
     input_was = read d old.parts who.Input (want.Uses event) allowed part.input (kinds.Input was) tt (ap (part_at old.parts) (sym spot) ∙ at)
 
     pub few_events : IfSome (input_in was.slice) (λ known. known.0 < 18446744073709551615)
-    few_events = few_used was.slice s (sym input_was) (small 4611686018427387904 old.parts place (kinds.Input was) allowed.asked.small at)
+    few_events = few_by was.slice s (sym input_was) (small 4611686018427387904 old.parts place (kinds.Input was) allowed.asked.small at)
 
     input_later : slice_of later part.input ≡ input_used (slice_of s part.input)
     input_later = ap (λ (t : State). slice_of t part.input) later_is ∙ input_activated (posted_state s dv) dv.activate
@@ -208,10 +198,10 @@ module _ (d : Declared) (old : Hand Part) (event : Bor InputLine) (allowed : IsA
           few_letters (meaning_of y.0) w (known_port w among).element (sym (read d old.parts who.Input (want.Uses event) allowed (part.port w) y.0 known.reachable.there y.1) ∙ ap (port w) (known_port w among).read) (small 4611686018427387904 old.parts (place_of d (part.port w)) y.0 allowed.asked.small y.1)
 
       first_among : (post : Post) → dv.first ≡ Some post → IsAmong (part.port post.window) (post_parts dv.first ++ post_parts dv.second)
-      first_among post said = among_front (part.port post.window) (post_parts dv.first) (post_parts dv.second) (subst (λ o. IsAmong (part.port post.window) (post_parts o)) (sym said) (inl refl))
+      first_among post said = in_front (part.port post.window) (post_parts dv.first) (post_parts dv.second) (subst (λ o. IsAmong (part.port post.window) (post_parts o)) (sym said) (inl refl))
 
       second_among : (post : Post) → dv.second ≡ Some post → IsAmong (part.port post.window) (post_parts dv.first ++ post_parts dv.second)
-      second_among post said = among_join (part.port post.window) (post_parts dv.first) (post_parts dv.second) (subst (λ o. IsAmong (part.port post.window) (post_parts o)) (sym said) (inl refl))
+      second_among post said = behind (part.port post.window) (post_parts dv.first) (post_parts dv.second) (subst (λ o. IsAmong (part.port post.window) (post_parts o)) (sym said) (inl refl))
 
       pub may_first : MayPost d begun.parts 1 made.first
       may_first =
@@ -395,7 +385,7 @@ module _ (d : Declared) (old : Hand Part) (event : Bor InputLine) (allowed : IsA
             pane_there : IsThere d old.parts (part.pane w)
             pane_there =
                 told (part.pane w)
-                (inr (inr (among_join (part.pane w) (post_parts dv.first) (post_parts dv.second ++ maybe part.pane dv.activate) (among_join (part.pane w) (post_parts dv.second) (maybe part.pane dv.activate) (subst (λ o. IsAmong (part.pane w) (maybe part.pane o)) (sym said) (inl refl))))))
+                (inr (inr (behind (part.pane w) (post_parts dv.first) (post_parts dv.second ++ maybe part.pane dv.activate) (behind (part.pane w) (post_parts dv.second) (maybe part.pane dv.activate) (subst (λ o. IsAmong (part.pane w) (maybe part.pane o)) (sym said) (inl refl))))))
 
             y : (y : Part) × (part_at old.parts (place_of d (part.pane w)) ≡ Some y)
             y = part_held old.parts (place_of d (part.pane w)) pane_there.held
@@ -460,10 +450,10 @@ module _ (d : Declared) (old : Hand Part) (event : Bor InputLine) (allowed : IsA
                 covers x (inr touched) = by (subst (λ (z : Delivery). TouchesDelivered s later z x) delivery_is (event_touched s later event.now is.event x is.is touched))
                   where
                     in_posted : IsAmong x (post_parts dv.first ++ post_parts dv.second) → IsAmong x ((posted_parts ++ the.panes) ++ part.desk ∷ [])
-                    in_posted among = among_front x (posted_parts ++ the.panes) (part.desk ∷ []) (among_front x posted_parts the.panes (inr among))
+                    in_posted among = in_front x (posted_parts ++ the.panes) (part.desk ∷ []) (in_front x posted_parts the.panes (inr among))
 
                     by : TouchesDelivered s later dv x → IsAmong x ((posted_parts ++ the.panes) ++ part.desk ∷ [])
-                    by (inl is_desk) = among_join x (posted_parts ++ the.panes) (part.desk ∷ []) (inl is_desk)
-                    by (inr (inl one)) = in_posted (among_front x (post_parts dv.first) (post_parts dv.second) (posted_among dv.first x one))
-                    by (inr (inr (inl two))) = in_posted (among_join x (post_parts dv.first) (post_parts dv.second) (posted_among dv.second x two))
-                    by (inr (inr (inr stirs))) = among_front x (posted_parts ++ the.panes) (part.desk ∷ []) (among_join x posted_parts the.panes (the.covers x stirs))
+                    by (inl is_desk) = behind x (posted_parts ++ the.panes) (part.desk ∷ []) (inl is_desk)
+                    by (inr (inl one)) = in_posted (in_front x (post_parts dv.first) (post_parts dv.second) (posted_among dv.first x one))
+                    by (inr (inr (inl two))) = in_posted (behind x (post_parts dv.first) (post_parts dv.second) (posted_among dv.second x two))
+                    by (inr (inr (inr stirs))) = in_front x (posted_parts ++ the.panes) (part.desk ∷ []) (behind x posted_parts the.panes (the.covers x stirs))

@@ -8,15 +8,6 @@ use Rattle.be_machine.specs.Touched as part
 use Rattle.be_machine.specs.Touched.{TouchesPort}
 use Rattle.be_rules.specs.Sure.{IsAmong, port_for}
 
-pub among_join : (x : part.Part) (xs ys : List part.Part) → IsAmong x ys → IsAmong x (xs ++ ys)
-among_join x [] ys among = among
-among_join x (y ∷ xs) ys among = inr (among_join x xs ys among)
-
-pub among_front : (x : part.Part) (xs ys : List part.Part) → IsAmong x xs → IsAmong x (xs ++ ys)
-among_front x [] ys among = absurd among
-among_front x (y ∷ xs) ys (inl is) = inl is
-among_front x (y ∷ xs) ys (inr later) = inr (among_front x xs ys later)
-
 pub among_panes : (windows : List ℕ) (k u : ℕ) → slice_get windows k ≡ Some u → IsAmong (part.pane u) (map part.pane windows)
 among_panes [] k u at = absurd (cc)
 among_panes (v ∷ vs) zero u at = inl (ap part.pane (sym (same_Some v u at)))

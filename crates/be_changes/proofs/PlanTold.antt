@@ -1,15 +1,14 @@
 -- What a plan of a change says of the slices of its panes.
-use Rattle.std.proofs.Common.{◌≡◌, ℕ, ◌*◌, ◌<◌, true, List, Option, Some, None, Result, Ok, Err, length, refl, sym, ap, ◌∙◌, subst}
+use Rattle.std.proofs.Common.{◌≡◌, ℕ, ◌*◌, ◌<◌, true, List, Option, Some, None, Ok, length, refl, sym, ap, ◌∙◌, subst}
 use Rattle.std.specs.Prelude.{ℤ, slice_get, unwrap_or, option_map}
 use Rattle.std.proofs.lemmas.Option.{same_Some}
+use Rattle.be_geom.proofs.Numbered.{number_is}
 use Rattle.be_desk.specs.Changes.{Desk, owns, desk_after}
-use Rattle.be_desk.specs.Desks.{IsTaken}
 use Rattle.be_desk.specs.Plans.{IsPlanOf, IsScreenOf, Planned}
 use Rattle.be_machine.proofs.HasParts.{HasParts}
 use Rattle.be_machine.proofs.PixelExposed.{cell_on}
 use Rattle.be_machine.proofs.PixelSteps.{IsDesktopAt}
 use Rattle.be_machine.proofs.PixelViews.{IsCovered, covered}
-use Rattle.be_machine.proofs.ReadsDirt.{number_is}
 use Rattle.be_machine.proofs.Sizes.{KeepsCounts, desk_sizes}
 use Rattle.be_machine.specs.Pixels.{pixel_at}
 use Rattle.be_machine.specs.State.{State}
@@ -27,12 +26,8 @@ use Rattle.be_span.specs.Spans.{Spans}
 use Rattle.be_span.specs.declared.Cell.{Cell}
 use Rattle.be_stack.specs.Owner.{is_on_screen, owner_at}
 use Rattle.be_stack.specs.Windows.{Windows}
-use Rattle.be_stack.specs.declared.fault.ChangeFault.{ChangeFault}
 use Rattle.be_stack.specs.declared.window.Window.{Window}
-
-pub taken_as : (r : Result Desk ChangeFault) → IsTaken r → (after : Desk) × (r ≡ Ok after)
-taken_as (Ok after) taken = (after, refl)
-taken_as (Err fault) taken = absurd taken
+use Rattle.be_desk.proofs.TakenLemmas.{taken_as}
 
 -- a window of which something is read is there
 window_there : {X : Type 0} (f : Window → X) (windows : List Window) (u : ℕ) (x : X) → option_map f (slice_get windows u) ≡ Some x → u < length windows

@@ -2,10 +2,10 @@
 use Rattle.std.proofs.Common.{◌≡◌, ℕ, zero, suc, ◌<◌, ℤ, List, [], ◌∷◌, map, Some, Ok, ◌⊎◌, inl, inr, refl, sym, ap, ◌∙◌, subst, ⊎_elim, arith}
 use Rattle.std.specs.Prelude.{slice_get, slice_index_or}
 use Rattle.std.proofs.lemmas.Option.{same_Some}
+use Rattle.be_facts.proofs.Lists.{get_map}
 use Rattle.be_asking.proofs.Asked.{here}
 use Rattle.be_asking.specs.declared.activity.Activity.{Activity}
 use Rattle.be_asking.specs.declared.want.Want.{Want}
-use Rattle.be_changes.proofs.ChangeTold.{differs}
 use Rattle.be_changes.proofs.PanesChanged.{map_got, pane_apart}
 use Rattle.be_changes.proofs.PartLists.{among_panes}
 use Rattle.be_changes.proofs.PlanTold.{after, pane_changed, window_of_pane}
@@ -14,6 +14,7 @@ use Rattle.be_changes.specs.Planned.{HasDesk, HasPaneOf, IsPlannedIn, places_of_
 use Rattle.be_desk.specs.Changes.{Desk, desk_after}
 use Rattle.be_desk.specs.Plans.{AreAscending, IsPlanOf, Planned}
 use Rattle.be_geom.specs.Numbers.{is_number}
+use Rattle.be_geom.proofs.Numbered.{differs}
 use Rattle.be_hall.specs.Hands.{part_at}
 use Rattle.be_machine.proofs.Lists as lists
 use Rattle.be_machine.specs.Pixels.{owner_in}
@@ -29,7 +30,7 @@ use Rattle.be_parts.specs.declared.part.Part.{Part}
 use Rattle.be_parts.specs.declared.part.Part.TheVariants as kinds
 use Rattle.be_rules.proofs.Cut.{IsWhole}
 use Rattle.be_rules.proofs.Lawfully.{whole}
-use Rattle.be_rules.proofs.ListLemmas.{get_map, there_below}
+use Rattle.be_rules.proofs.ListLemmas.{there_below}
 use Rattle.be_rules.specs.Far.{windows_behind}
 use Rattle.be_rules.specs.Places.{IsPart, place_of}
 use Rattle.be_rules.specs.Slices.{Slice, desk, desk_in, pane, shown_of, slice_of}

@@ -4,6 +4,7 @@ use Rattle.std.specs.Prelude.{◌==◌, if◌then◌else◌, option_map, slice_g
 use Rattle.std.proofs.lemmas.Option.{same_Some}
 use mathlib.Core.Logic.{dite}
 use native.Mathlib.Decide.{ℕ_discrete}
+use Rattle.be_facts.proofs.Numbers.{eq_false_tells, eq_tells}
 use Rattle.be_changes.proofs.MadeLists.{made_join, names_join, names_of}
 use Rattle.be_changes.specs.Events.{IsAddressed}
 use Rattle.be_changes.specs.Left.{AreLeft, HasLeft}
@@ -14,7 +15,7 @@ use Rattle.be_flat.specs.Grammar.{Spells}
 use Rattle.be_hall.proofs.Holding.{with_here, with_other}
 use Rattle.be_hall.specs.Hands.{Hand, part_at, with_part}
 use Rattle.be_input.specs.Deliveries.{Post}
-use Rattle.be_machine.proofs.Lists.{at_elsewhere, other_number, same_number}
+use Rattle.be_machine.proofs.Lists.{at_elsewhere}
 use Rattle.be_machine.specs.Input.{input_letter, ports_with}
 use Rattle.be_machine.specs.Lists.{at}
 use Rattle.be_machine.specs.Touched as part
@@ -22,13 +23,14 @@ use Rattle.be_message.specs.Messages.{Message}
 use Rattle.be_parts.specs.Parts.{meaning_of}
 use Rattle.be_parts.specs.declared.part.Part.{Part}
 use Rattle.be_parts.specs.declared.part.Part.TheVariants as kinds
-use Rattle.be_port.specs.Ports.{Letter, Port, is_accepted, judged, posted, with_letter}
+use Rattle.be_port.specs.Ports.{Letter, Port, posted}
 use Rattle.be_port.specs.StandsFor.{Carries}
 use Rattle.be_port.specs.declared.letter.Letter as held
 use Rattle.be_rules.specs.Places.{IsPart, place_of}
 use Rattle.be_rules.specs.Slices.{Slice, desk, input, cell, looper, port, link, pane, port_in}
 use Rattle.be_rules.specs.Sure.{post_parts}
 use Rattle.be_script.specs.Script.{Declared}
+use Rattle.be_machine.proofs.NumbersSteps.{posted_more}
 use Rattle.be_steps.proofs.Moved.{at_map}
 use Rattle.be_steps.specs.Made.{AreMade, IsMade}
 use Rattle.be_steps.specs.Steps.{LeavesAt}
@@ -66,27 +68,15 @@ ports_after_post ports None w = sym (map_same (slice_get ports w))
 ports_after_post ports (Some post) w = by (post.window == w) refl
   where
     by : (b : Bool) → (post.window == w) ≡ b → slice_get (at ports post.window (posted (input_letter post))) w ≡ option_map (λ p. if b then posted (input_letter post) p else p) (slice_get ports w)
-    by true e = ap (λ n. slice_get (at ports n (posted (input_letter post))) w) (same_number post.window w e) ∙ at_map ports w (posted (input_letter post))
-    by false e = at_elsewhere ports post.window w (posted (input_letter post)) (other_number post.window w e) ∙ sym (map_same (slice_get ports w))
-
-one_longer : (X : Type 0) (xs : List X) (x : X) → length (xs ++ x ∷ []) ≡ length xs + 1
-one_longer X [] x = refl
-one_longer X (y ∷ ys) x = let rest : length (ys ++ x ∷ []) ≡ length ys + 1 = one_longer X ys x in omega arith
-
-posted_few : (letter : Letter Message) (p : Port Message) → length (posted letter p).arrived ≤ length p.arrived + 1
-unfolding posted
-posted_few letter p = by (is_accepted (judged p letter.hop))
-  where
-    by : (b : Bool) → length (if b then with_letter letter p else p).arrived ≤ length p.arrived + 1
-    by true = let one : length (p.arrived ++ letter ∷ []) ≡ length p.arrived + 1 = one_longer (Letter Message) p.arrived letter in omega arith
-    by false = omega arith
+    by true e = ap (λ n. slice_get (at ports n (posted (input_letter post))) w) (eq_tells post.window w e) ∙ at_map ports w (posted (input_letter post))
+    by false e = at_elsewhere ports post.window w (posted (input_letter post)) (eq_false_tells post.window w e) ∙ sym (map_same (slice_get ports w))
 
 pub few_after : (o : Option Post) (w : ℕ) (p : Port Message) → length (after_post o w p).arrived ≤ length p.arrived + 1
 few_after None w p = omega arith
 few_after (Some post) w p = by (post.window == w)
   where
     by : (b : Bool) → length (if b then posted (input_letter post) p else p).arrived ≤ length p.arrived + 1
-    by true = posted_few (input_letter post) p
+    by true = posted_more (input_letter post) p
     by false = omega arith
 
 -- ---- parts
@@ -133,7 +123,7 @@ module _ (d : Declared) where
 
       by : (b : Bool) → (post.window == w) ≡ b → IsPort later w (if b then posted (input_letter post) p else p)
       by true e =
-          let same : made.window ≡ w = addressed.0 ∙ same_number post.window w e in
+          let same : made.window ≡ w = addressed.0 ∙ eq_tells post.window w e in
           let was_is : was ≡ port w (Some p) = ap meaning_of (same_Some (kinds.Port was) is.kept (sym there ∙ ap (λ n. part_at old.parts (place_of d (part.port n))) same ∙ is.there)) ∙ is.means in
           let both : port has.window (Some has.of) ≡ port w (Some p) = sym has.before ∙ was_is in
           let of_is : has.of ≡ p = same_Some has.of p (ap port_in both) in
@@ -145,7 +135,7 @@ module _ (d : Declared) where
           }
       by false e = record {
         kept = is.kept;
-        there = with_other old.parts (place_of d (part.port made.window)) (place_of d (part.port w)) (kinds.Port now) (λ same. other_number post.window w e (sym addressed.0 ∙ sym (port_apart w made.window same))) ∙ is.there;
+        there = with_other old.parts (place_of d (part.port made.window)) (place_of d (part.port w)) (kinds.Port now) (λ same. eq_false_tells post.window w e (sym addressed.0 ∙ sym (port_apart w made.window same))) ∙ is.there;
         means = is.means;
       }
 

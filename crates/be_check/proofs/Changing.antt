@@ -4,43 +4,25 @@ use Rattle.std.proofs.Common.{List, [], ◌∷◌, ◌++◌, length, take, Optio
 use Rattle.std.proofs.Common.{refl, sym, ap, subst, ◌∙◌, arith}
 use Rattle.std.specs.Prelude.{ℤ, ◌-◌, ◌==◌, ◌&&◌, if◌then◌else◌}
 use Rattle.std.specs.Option.{option_eq}
+use Rattle.be_facts.proofs.Truths.{and_regroup}
 use Rattle.be_color.specs.declared.colors.Rgb.{Rgb}
-use Rattle.be_machine.proofs.Lists.{both, both_first, both_second, is_same_number, same_number}
 use Rattle.be_machine.specs.History.{state_after, state_from}
 use Rattle.be_machine.specs.Pixels.{color_at}
 use Rattle.be_machine.specs.State.{State, opening_state}
 use Rattle.be_machine.specs.Step.{step}
 use Rattle.be_machine.specs.declared.Entry.{Entry}
 use Rattle.be_script.specs.Script.{Declared}
-use Rattle.be_written.specs.ScreenText.{same_rgb}
+use Rattle.be_written.proofs.ScreenRows.{same_is, same_itself}
 use Rattle.be_check.specs.Explaining.{if_changed, last_change, last_from, same_color}
 
 -- ---- colours
 
-rgb_itself : (a : Rgb) → same_rgb a a ≡ true
-rgb_itself a =
-    both ((a.red == a.red) && (a.green == a.green)) (a.blue == a.blue)
-    (both (a.red == a.red) (a.green == a.green) (is_same_number a.red) (is_same_number a.green))
-    (is_same_number a.blue)
-
-rgb_is : (a b : Rgb) → same_rgb a b ≡ true → a ≡ b
-rgb_is a b e =
-    let two = both_first ((a.red == b.red) && (a.green == b.green)) (a.blue == b.blue) e in
-    let red : a.red ≡ b.red =
-    same_number a.red b.red (both_first (a.red == b.red) (a.green == b.green) two) in
-    let green : a.green ≡ b.green =
-    same_number a.green b.green (both_second (a.red == b.red) (a.green == b.green) two) in
-    let blue : a.blue ≡ b.blue =
-    same_number a.blue b.blue
-    (both_second ((a.red == b.red) && (a.green == b.green)) (a.blue == b.blue) e) in
-    λ i. record { red = red i; green = green i; blue = blue i }
-
 pub color_itself : (o : Option Rgb) → same_color o o ≡ true
-color_itself (Some a) = rgb_itself a
+color_itself (Some a) = same_itself a
 color_itself None = refl
 
 pub color_is : (a b : Option Rgb) → same_color a b ≡ true → a ≡ b
-color_is (Some a) (Some b) e = ap Some (rgb_is a b e)
+color_is (Some a) (Some b) e = ap Some (same_is a b e)
 color_is None None e = refl
 color_is (Some a) None e = absurd (cc)
 color_is None (Some b) e = absurd (cc)
@@ -58,15 +40,10 @@ other_if a b apart = by (same_color a b) refl
 pub differs : (a b : Option Rgb) → same_color a b ≡ false → ¬ (b ≡ a)
 differs a b e is = let odd : true ≡ false = sym (same_if a b (sym is)) ∙ e in cc
 
--- as two colours are compared by the code
-joined : (a b c : Bool) → (a && (b && c)) ≡ ((a && b) && c)
-joined true b c = refl
-joined false b c = refl
-
 pub option_same : (a b : Option Rgb)
     → option_eq (λ (p q : Rgb). (p.red == q.red) && ((p.green == q.green) && (p.blue == q.blue)))
     a b ≡ same_color a b
-option_same (Some a) (Some b) = joined (a.red == b.red) (a.green == b.green) (a.blue == b.blue)
+option_same (Some a) (Some b) = and_regroup (a.red == b.red) (a.green == b.green) (a.blue == b.blue)
 option_same None None = refl
 option_same (Some a) None = refl
 option_same None (Some b) = refl

@@ -1,6 +1,6 @@
 -- The letters that are taken, gathered while a history is carried out.
 use Rattle.std.proofs.Common.{◌≡◌, ℕ, ◌+◌, ◌<◌, List, [], ◌∷◌, ◌++◌, length, take, get_or}
-use Rattle.std.proofs.Common.{Option, Some, None, refl, sym, ap, subst, ◌∙◌, arith}
+use Rattle.std.proofs.Common.{Option, Some, refl, sym, ap, subst, ◌∙◌, arith}
 use Rattle.std.specs.Prelude.{option_map, slice_get}
 use Rattle.std.proofs.lemmas.List.{take_all, take_more}
 use Rattle.be_asking.proofs.InHand.{looper_read, port_read}
@@ -9,7 +9,6 @@ use Rattle.be_looper.specs.declared.Owner.{Owner}
 use Rattle.be_machine.specs.State.{Looper, State, opening_state}
 use Rattle.be_machine.specs.Touched as part
 use Rattle.be_machine.specs.declared.Entry.{Entry}
-use Rattle.be_message.specs.Messages.{Message}
 use Rattle.be_check.specs.Following.{now_of, state_in}
 use Rattle.be_parts.specs.Kept.{Kept}
 use Rattle.be_parts.specs.Loopers.{owner_in, owner_of}
@@ -18,13 +17,13 @@ use Rattle.be_parts.specs.declared.part.Part.{Part}
 use Rattle.be_parts.specs.declared.part.Part.TheVariants as kinds
 use Rattle.be_port.specs.Ports.{Port}
 use Rattle.be_port.specs.Queues.{Queue}
-use Rattle.be_port.specs.StandsFor.{PortStandsFor}
 use Rattle.be_port.specs.declared.letter.Letter as held
 use Rattle.be_pressed.specs.Taken.{entry_takes, letters_from, letters_taken}
 use Rattle.be_pressed.specs.declared.letter.TakenLetter.{TakenLetter}
 use Rattle.be_rules.specs.Places.{place_of}
-use Rattle.be_rules.specs.Slices.{Slice, cell, desk, input, link, looper, pane, port, port_in}
+use Rattle.be_rules.specs.Slices.{Slice, looper, port}
 use Rattle.be_script.specs.Script.{Declared}
+use Rattle.be_ready.proofs.Fronts.{port_of}
 use Rattle.be_check.specs.Stepping.{HasAll, IsMade}
 use Rattle.be_check.specs.Taking.{IsFrontPort, TakesNow}
 use Rattle.be_check.proofs.Coming.{HasCome, come_further}
@@ -32,18 +31,6 @@ use Rattle.be_check.proofs.Looking.{fits, now_is}
 use Rattle.be_check.proofs.Takers.{letters_more}
 
 -- ---- what parts in hand tell
-
--- the machine's port
-port_of : (k : Slice) (q : Queue) → PortIs k q
-    → (p : Port Message) × (port_in k ≡ Some p) × PortStandsFor q p
-port_of (port w (Some p)) q stands = (p, refl, stands)
-port_of (port w None) q stands = absurd stands
-port_of (desk x) q stands = absurd stands
-port_of (input n b) q stands = absurd stands
-port_of (cell m a) q stands = absurd stands
-port_of (looper w l b) q stands = absurd stands
-port_of (link w l) q stands = absurd stands
-port_of (pane w x) q stands = absurd stands
 
 module _ (d : Declared) (parts : List (ℕ × Part)) (has : HasAll d parts) (w : ℕ)
     (there : w < length d.windows) where

@@ -7,13 +7,13 @@ use Rattle.std.proofs.lemmas.List.{take_all}
 use Rattle.std.proofs.lemmas.Option.{same_Some, slice_get_within}
 use mathlib.Core.Logic.{dite}
 use native.Mathlib.Decide.{dec_le}
+use Rattle.be_facts.proofs.Lists.{none_past}
 use Rattle.be_machine.specs.History.{AreLegalFrom, IsFinished, IsLegalHistory}
 use Rattle.be_machine.specs.History.{state_after, state_from}
 use Rattle.be_machine.specs.Legal.{IsLegal}
 use Rattle.be_machine.specs.State.{State, opening_state}
 use Rattle.be_machine.specs.Step.{step}
 use Rattle.be_machine.specs.declared.Entry.{Entry}
-use Rattle.be_rules.proofs.ListLemmas.{none_past}
 use Rattle.be_script.specs.Script.{Declared}
 use Rattle.be_check.specs.Checking.{IsBad, IsIllegalAt}
 

@@ -1,10 +1,11 @@
 -- A pixel's colour is that of its owner's pane, or the desktop's.
-use Rattle.std.proofs.Common.{◌≡◌, ℕ, ◌+◌, ◌*◌, ◌<◌, ◌≤◌, Bool, true, false, List, [], length}
+use Rattle.std.proofs.Common.{◌≡◌, ℕ, ◌+◌, ◌*◌, ◌<◌, ◌≤◌, false, List, [], length}
 use Rattle.std.proofs.Common.{Option, Some, None, get_or, refl, sym, ap, subst, ◌∙◌, arith}
 use Rattle.std.specs.Prelude.{pos, nat_lt, slice_get, option_map, unwrap_or}
 use Rattle.std.specs.Prelude.{if◌then◌else◌}
 use Rattle.std.proofs.lemmas.Bool.Decides.{nat_tests}
 use Rattle.std.proofs.lemmas.Option.{same_Some, slice_get-get_or, slice_get_past}
+use Rattle.be_facts.proofs.Numbers.{index_below, nat_lt_from}
 use Rattle.be_asking.proofs.InHand.{desk_read, not_held, pane_read}
 use Rattle.be_asking.specs.Finding.{IsMissing, IsReachable}
 use Rattle.be_desk.specs.Changes.{Desk}
@@ -41,22 +42,13 @@ use Rattle.be_span.specs.Screen.{cell_at}
 use Rattle.be_span.specs.Spans.{cell_in}
 use Rattle.be_span.specs.declared.Cell.{Cell}
 use Rattle.be_stack.specs.Owner.{owner_at}
+use Rattle.be_opening.proofs.Shown.{none_if}
 use Rattle.be_check.specs.Stepping.{HasAll}
 
 -- ---- cells by column and row
 
-below : (x width : ℕ) → x < width → nat_lt x width ≡ true
-below x width lt = grind (arith, nat_tests)
-
 past : (x width : ℕ) → width ≤ x → nat_lt x width ≡ false
 past x width le = grind (arith, nat_tests)
-
-none_if : (b : Bool) (o : Option Cell) → o ≡ None → (if b then o else None) ≡ None
-none_if true o e = e
-none_if false o e = refl
-
-index_below : (x y width height : ℕ) → x < width → y < height → y * width + x < width * height
-index_below x y width height a b = grind (arith)
 
 index_past : (x y width height : ℕ) → height ≤ y → width * height ≤ y * width + x
 index_past x y width height le = grind (arith)
@@ -81,7 +73,7 @@ unfolding cell_at
 cell_there width height cells x y long a b =
     let index = index_below x y width height a b in (
       get_or cells (y * width + x) desktop_cell,
-      ap (λ t. if t then slice_get cells (y * width + x) else None) (below x width a)
+      ap (λ t. if t then slice_get cells (y * width + x) else None) (nat_lt_from x width a)
           ∙ slice_get-get_or cells (y * width + x) desktop_cell (omega (arith, long, index)),
     )
 

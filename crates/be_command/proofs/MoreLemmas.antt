@@ -45,10 +45,6 @@ none_more p before = record {
   value_is = λ (xs : List Rect) (e : Ok [] ≡ Ok xs). let h : [] ≡ xs = (cc) in nothing_behind before ∙ ap (λ (ys : List Rect). before ++ ys) h;
 }
 
--- no rectangle may come
-pub more_none : (most : ℕ) (p : Progress) (before : List Rect) → most ≡ 0 → TakesMore (rects_at most p.at) (after_rects most p.at) p p before before
-more_none most p before e = subst (λ (n : ℕ). TakesMore (rects_at n p.at) (after_rects n p.at) p p before before) (sym e) (none_more p before)
-
 abbrev rest_at : ℕ → At → Result (List Rect) Fault
 rest_at less at = cond (is_some (word_at at)) (rects_at less at) (Ok [])
 
@@ -78,14 +74,6 @@ more_rest most less p q r v before after e first some rest =
     (more_cons p q r (rect_at p.at) (after_rect p.at) (rest_at less) (after_rest less) v before after first (rest_some _ less q r (before ++ v ∷ []) after some rest))
 
 -- ---- the clip itself
-
--- `none`
-pub clip_none : (p : Progress) → is_none_word (word_at p.at) ≡ true → Takes (clip_at p.at) (after_clip p.at) p (record { at = after_word p.at; fault = p.fault }) None
-clip_none p e = by (is_none_word (word_at p.at)) e
-  where
-    by : (b : Bool) → b ≡ true → Takes {A = Option (List Rect)} (cond b (Ok None) (said_as Some (rects_at 16 p.at))) (cond b (after_word p.at) (after_rects 16 p.at)) p (record { at = after_word p.at; fault = p.fault }) None
-    by true e = record { at = refl; fault = none_later p.fault; value_is = λ (x : Option (List Rect)) (e : Ok None ≡ Ok x). (cc) }
-    by false e = (cc)
 
 -- rectangles
 pub clip_rects : (p q : Progress) (rects : List Rect) → is_none_word (word_at p.at) ≡ false → TakesMore (rects_at 16 p.at) (after_rects 16 p.at) p q [] rects → Takes (clip_at p.at) (after_clip p.at) p q (Some rects)

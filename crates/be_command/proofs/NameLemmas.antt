@@ -1,10 +1,10 @@
 -- Names that are told apart, and names that are added.
-use Rattle.std.proofs.Common.{◌≡◌, ◌≢◌, ◌-◌, zero, suc, get_or, ℕ, Bool, true, false, not, ◌&&◌, ◌||◌, List, [], ◌∷◌, ◌++◌, refl, arith, cond, Option, Some, None, nat_le, leb-false, ◌<◌, length, ap, ◌∙◌, subst, sym, codes, Result, Ok, Err}
+use Rattle.std.proofs.Common.{◌≡◌, ℕ, Bool, true, false, not, ◌&&◌, ◌||◌, List, [], ◌∷◌, ◌++◌, refl, arith, cond, Option, Some, None, nat_le, leb-false, ◌<◌, length, ap, ◌∙◌, subst, sym, codes, Result, Ok, Err}
 use Rattle.std.proofs.lemmas.List.Folds.{list_any-append, list_all-append}
 use Rattle.std.proofs.Math.Dec.{leb-suc-suc}
-use Rattle.std.proofs.lemmas.Slice.Eq.{bytes_eq-Decides}
 use Rattle.std.specs.List.{list_any}
 use Rattle.std.specs.Str.{bytes_eq}
+use Rattle.be_facts.proofs.Bytes.{bytes_eq_tells}
 use Rattle.be_lex.specs.Names.{is_name, is_reserved_name}
 use Rattle.be_command.specs.declared.fault.NameFault.{NameFault}
 use Rattle.be_command.specs.declared.fault.NameFault.TheVariants.{BadName, NameTaken, TooMany, NoMemory}
@@ -59,11 +59,8 @@ has_room most names name e =
 
 -- ---- the root view beside the others
 
-equal : (xs ys : List ℕ) → bytes_eq xs ys ≡ true → xs ≡ ys
-equal xs ys e = (bytes_eq-Decides xs ys).0 e
-
 pub root_is_reserved : (name : List ℕ) → bytes_eq (codes "root") name ≡ true → is_reserved_name name ≡ true
-root_is_reserved name e = subst (λ (word : List ℕ). is_reserved_name word ≡ true) (equal (codes "root") name e) (unfold is_reserved_name in refl)
+root_is_reserved name e = subst (λ (word : List ℕ). is_reserved_name word ≡ true) (bytes_eq_tells (codes "root") name e) (unfold is_reserved_name in refl)
 
 same_fault : (bad reserved root there full less : Bool) → (root ≡ true → reserved ≡ true) → full ≡ less →
     cond (not bad) (Some BadName) (cond (reserved || (root || there)) (Some NameTaken) (cond full (Some TooMany) None)) ≡ cond (not bad) (Some BadName) (cond (reserved || there) (Some NameTaken) (cond less (Some TooMany) None))
@@ -84,8 +81,3 @@ pub beside_the_root : (result : Result ℕ NameFault) (views : List (List ℕ)) 
 beside_the_root (Ok n) views name h = (beside_root views name ∙ h.0, omega (arith, h.1))
 beside_the_root (Err fault) views name h =
     let P : Option NameFault → Type 0 = λ due. IsNameFault fault due in subst P (sym (beside_root views name)) h
-
--- a name behind the first one
-pub name_behind : (n : ℕ) (first : List ℕ) (names : List (List ℕ)) → n ≢ 0 → get_or (first ∷ names) n [] ≡ get_or names (n - 1) []
-name_behind zero first names some = absurd (some refl)
-name_behind (suc n) first names some = let e : suc n - 1 ≡ n = omega arith in ap (λ (k : ℕ). get_or names k []) (sym e)

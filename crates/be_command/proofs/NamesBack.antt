@@ -3,8 +3,10 @@ use Rattle.std.proofs.Common.{◌≡◌, ℕ, zero, suc, ◌+◌, ◌<◌, Bool,
 use Rattle.std.specs.List.{list_all, list_any, position_from}
 use Rattle.std.specs.Option.{ok_or}
 use Rattle.std.specs.Str.{bytes_eq}
-use Rattle.std.proofs.lemmas.Bool.{and_parts}
+use Rattle.std.proofs.lemmas.Bool.{and_parts, or_parts}
 use Rattle.std.proofs.lemmas.Slice.Eq.{bytes_eq-Decides}
+use Rattle.be_facts.proofs.Bytes.{bytes_eq_self}
+use Rattle.be_facts.proofs.Truths.{not_true}
 use Rattle.be_lex.specs.Words.{is_word, ends_word}
 use Rattle.be_lex.specs.Names.{is_name, is_reserved_name, is_name_within}
 use Rattle.be_lex.proofs.Spelling.{is_word-name}
@@ -31,10 +33,6 @@ pub record AreApart (names : List (List ℕ)) : Type 0 where
 
 -- ---- the names of each kind are such
 
-not_false : (b : Bool) → not b ≡ true → b ≡ false
-not_false true h = (cc)
-not_false false h = refl
-
 none_or : (none : Bool) (name : List ℕ) → bytes_eq name (codes "none") ≡ none → is_reserved_name name ≡ false → none ≡ false
 unfolding is_reserved_name
 none_or true name e h =
@@ -46,7 +44,7 @@ none_or false name e h = refl
 told_name : (name : List ℕ) → declared name ≡ true → told name ≡ true
 told_name name h =
     let here = and_parts (is_name name) (not (is_reserved_name name)) h in
-    let other = none_or (bytes_eq name (codes "none")) name refl (not_false (is_reserved_name name) here.1) in
+    let other = none_or (bytes_eq name (codes "none")) name refl (not_true (is_reserved_name name) here.1) in
     ap (λ (b : Bool). b && not (bytes_eq name (codes "none"))) here.0 ∙ ap not other
 
 told_each : (names : List (List ℕ)) → list_all declared names ≡ true → list_all told names ≡ true
@@ -68,7 +66,7 @@ no_root [] h = refl
 no_root (name ∷ names) h =
     let parts = and_parts (declared name) (list_all declared names) h in
     let here = and_parts (is_name name) (not (is_reserved_name name)) parts.0 in
-    ap (λ (b : Bool). b || list_any (λ other. bytes_eq (codes "root") other) names) (root_or (bytes_eq (codes "root") name) name refl (not_false (is_reserved_name name) here.1)) ∙ no_root names parts.1
+    ap (λ (b : Bool). b || list_any (λ other. bytes_eq (codes "root") other) names) (root_or (bytes_eq (codes "root") name) name refl (not_true (is_reserved_name name) here.1)) ∙ no_root names parts.1
 
 root_is_told : told (codes "root") ≡ true
 unfolding is_name_within
@@ -85,29 +83,22 @@ apart-views known k = subst (λ (names : List (List ℕ)). AreApart names) (sym 
 
 -- ---- a number's name has that number
 
-neither : (here behind : Bool) → (here || behind) ≡ false → (here ≡ false) × (behind ≡ false)
-neither false behind e = (refl, e)
-neither true behind e = (cc)
-
 not_among : (name : List ℕ) (names : List (List ℕ)) (n : ℕ) → list_any (λ other. bytes_eq name other) names ≡ false → n < length names → bytes_eq name (get_or names n []) ≡ false
 not_among name [] n h lt = absurd (omega arith)
 not_among name (other ∷ names) n h lt =
-    let parts = neither (bytes_eq name other) (list_any (λ o. bytes_eq name o) names) h in
+    let parts = or_parts (bytes_eq name other) (list_any (λ o. bytes_eq name o) names) h in
     elim n as (λ (i : ℕ). i < length (other ∷ names) → bytes_eq name (get_or (other ∷ names) i []) ≡ false) [
       | zero ↦ λ l. parts.0
       | suc i ↦ λ l. not_among name names i parts.1 (omega arith)
     ] lt
 
-same_bytes : (name : List ℕ) → bytes_eq name name ≡ true
-same_bytes name = (bytes_eq-Decides name name).1 refl
-
-position_at : (names : List (List ℕ)) (n first : ℕ) → are_different names ≡ true → n < length names → position_from (λ other. bytes_eq other (get_or names n [])) first names ≡ Some (first + n)
+pub position_at : (names : List (List ℕ)) (n first : ℕ) → are_different names ≡ true → n < length names → position_from (λ other. bytes_eq other (get_or names n [])) first names ≡ Some (first + n)
 position_at [] n first d lt = absurd (omega arith)
 position_at (name ∷ names) zero first d lt =
-    ap (λ (b : Bool). cond b (Some first) (position_from (λ other. bytes_eq other name) (first + 1) names)) (same_bytes name) ∙ ap Some (omega arith)
+    ap (λ (b : Bool). cond b (Some first) (position_from (λ other. bytes_eq other name) (first + 1) names)) (bytes_eq_self name) ∙ ap Some (omega arith)
 position_at (name ∷ names) (suc n) first d lt =
     let parts = and_parts (not (list_any (λ other. bytes_eq name other) names)) (are_different names) d in
-    let other_name = not_among name names n (not_false (list_any (λ other. bytes_eq name other) names) parts.0) (omega arith) in
+    let other_name = not_among name names n (not_true (list_any (λ other. bytes_eq name other) names) parts.0) (omega arith) in
     let behind = position_at names n (first + 1) parts.1 (omega arith) in
     ap (λ (b : Bool). cond b (Some first) (position_from (λ other. bytes_eq other (get_or names n [])) (first + 1) names)) other_name ∙ behind ∙ ap Some (omega arith)
 
@@ -119,7 +110,7 @@ told_at (name ∷ names) (suc n) h lt = told_at names n (and_parts (told name) (
 parts_at : (names : List (List ℕ)) (n : ℕ) → AreApart names → n < length names → (is_name (get_or names n []) ≡ true) × (bytes_eq (get_or names n []) (codes "none") ≡ false)
 parts_at names n a lt =
     let parts = and_parts (is_name (get_or names n [])) (not (bytes_eq (get_or names n []) (codes "none"))) (told_at names n a.each lt) in
-    (parts.0, not_false (bytes_eq (get_or names n []) (codes "none")) parts.1)
+    (parts.0, not_true (bytes_eq (get_or names n []) (codes "none")) parts.1)
 
 named_back : (names : List (List ℕ)) (n : ℕ) → AreApart names → n < length names → named names (get_or names n []) ≡ Ok n
 named_back names n a lt =

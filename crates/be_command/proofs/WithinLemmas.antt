@@ -30,7 +30,7 @@ said_ok : {A : Type 0} (place : ℕ) (r : Result A Reason) (x : A) → said_at p
 said_ok place (Ok y) x e = (cc)
 said_ok place (Err reason) x e = (cc)
 
-judged_ok : {A : Type 0} (read : List ℕ → Result A Reason) (word : Option (List ℕ)) (x : A) → judged read word ≡ Ok x → (w : List ℕ) × (read w ≡ Ok x)
+pub judged_ok : {A : Type 0} (read : List ℕ → Result A Reason) (word : Option (List ℕ)) (x : A) → judged read word ≡ Ok x → (w : List ℕ) × (read w ≡ Ok x)
 judged_ok read None x e = (cc)
 judged_ok read (Some w) x e = (w, e)
 
@@ -114,7 +114,7 @@ pen_size_within at n e =
 
 -- ---- colours and patterns
 
-formed_ok : {A : Type 0} (o : Option A) (x : A) → formed o ≡ Ok x → o ≡ Some x
+pub formed_ok : {A : Type 0} (o : Option A) (x : A) → formed o ≡ Ok x → o ≡ Some x
 formed_ok None x e = (cc)
 formed_ok (Some y) x e = (cc)
 

@@ -1,56 +1,24 @@
 -- Letters one by one, and the rule with two letters.
-use Rattle.std.proofs.Common.{◌≡◌, Bool, true, false, not, ◌&&◌, ◌||◌, List, [], ◌∷◌, ◌++◌, ◌⊎◌}
-use Rattle.std.proofs.Common.{inl, inr, ⊎_elim, cond, refl, sym, ap, ◌∙◌, subst}
+use Rattle.std.proofs.Common.{◌≡◌, Bool, true, false, not, ◌&&◌, ◌||◌, List, [], ◌∷◌, ◌++◌}
+use Rattle.std.proofs.Common.{⊎_elim, cond, refl, sym, ap, ◌∙◌, subst}
 use Rattle.std.specs.List.{list_any}
+use Rattle.std.proofs.lemmas.Bool.{or_right, or_left, and_from}
+use Rattle.be_facts.proofs.Truths.{or_regroup, or_false, not_true, or_either, and_both}
+use Rattle.be_facts.proofs.Truths.{false_is_not_true}
 use Rattle.be_geom.specs.declared.rect.Rect.{Rect}
 use Rattle.be_control.specs.Buttons.{Heard, breaks, invokes, is_armed, is_press, is_release}
 use Rattle.be_control.specs.Buttons.{pressed_by}
 use Rattle.be_control.specs.declared.button.Pressed.TheVariants.{Idle, Armed, Invoked}
 use Rattle.be_control.specs.Laws.{Invokes}
 
-no_false : false ≡ true → ⊥
-no_false h = cc
-
-and_split : (a b : Bool) → (a && b) ≡ true → (a ≡ true) × (b ≡ true)
-and_split true b h = (refl, h)
-and_split false b h = absurd (no_false h)
-
-and_join : (a b : Bool) → a ≡ true → b ≡ true → (a && b) ≡ true
-and_join true b h k = k
-and_join false b h k = absurd (no_false h)
-
-or_split : (a b : Bool) → (a || b) ≡ true → (a ≡ true) ⊎ (b ≡ true)
-or_split true b h = inl refl
-or_split false b h = inr h
-
-or_first : (a b : Bool) → a ≡ true → (a || b) ≡ true
-or_first true b h = refl
-or_first false b h = absurd (no_false h)
-
-or_second : (a b : Bool) → b ≡ true → (a || b) ≡ true
-or_second true b h = refl
-or_second false b h = h
-
-not_true : (b : Bool) → not b ≡ true → b ≡ false
-not_true true h = absurd (no_false h)
-not_true false h = refl
-
 -- ---- one letter more
-
-or_end : (b : Bool) → (b || false) ≡ b
-or_end true = refl
-or_end false = refl
-
-or_assoc : (a b c : Bool) → (a || (b || c)) ≡ ((a || b) || c)
-or_assoc true b c = refl
-or_assoc false b c = refl
 
 any_snoc : (hs : List Heard) (h : Heard)
     → list_any breaks (hs ++ h ∷ []) ≡ (list_any breaks hs || breaks h)
-any_snoc [] h = or_end (breaks h)
+any_snoc [] h = or_false (breaks h)
 any_snoc (g ∷ gs) h =
     ap (λ (b : Bool). breaks g || b) (any_snoc gs h)
-    ∙ or_assoc (breaks g) (list_any breaks gs) (breaks h)
+    ∙ or_regroup (breaks g) (list_any breaks gs) (breaks h)
 
 -- a press behind which one letter more comes, or that one itself
 spread : (p b x k a : Bool)
@@ -96,7 +64,7 @@ none_armed bounds = refl
 
 by_press : (k a x : Bool) → k ≡ true → true ≡ (k || (a && not x))
 by_press true a x h = refl
-by_press false a x h = absurd (no_false h)
+by_press false a x h = absurd (false_is_not_true h)
 
 pub press_arms : (bounds : Rect) (hs : List Heard) (h : Heard) → is_press bounds h ≡ true
     → true ≡ is_armed bounds (hs ++ h ∷ [])
@@ -104,10 +72,10 @@ press_arms bounds hs h k =
     by_press (is_press bounds h) (is_armed bounds hs) (breaks h) k ∙ sym (armed_snoc bounds hs h)
 
 by_break : (k a x : Bool) → k ≡ false → x ≡ true → false ≡ (k || (a && not x))
-by_break true a x k h = absurd (no_false (sym k))
+by_break true a x k h = absurd (false_is_not_true (sym k))
 by_break false true true k h = refl
 by_break false false true k h = refl
-by_break false a false k h = absurd (no_false h)
+by_break false a false k h = absurd (false_is_not_true h)
 
 pub break_ends : (bounds : Rect) (hs : List Heard) (h : Heard) → is_press bounds h ≡ false
     → breaks h ≡ true → false ≡ is_armed bounds (hs ++ h ∷ [])
@@ -116,10 +84,10 @@ break_ends bounds hs h k x =
     ∙ sym (armed_snoc bounds hs h)
 
 by_other : (k a x : Bool) → k ≡ false → x ≡ false → a ≡ (k || (a && not x))
-by_other true a x k h = absurd (no_false (sym k))
+by_other true a x k h = absurd (false_is_not_true (sym k))
 by_other false true false k h = refl
 by_other false false false k h = refl
-by_other false a true k h = absurd (no_false (sym h))
+by_other false a true k h = absurd (false_is_not_true (sym h))
 
 pub other_stays : (bounds : Rect) (hs : List Heard) (h : Heard) → is_press bounds h ≡ false
     → breaks h ≡ false → is_armed bounds hs ≡ is_armed bounds (hs ++ h ∷ [])
@@ -172,11 +140,11 @@ later bounds g gs h = record {
 
 holds : (bounds : Rect) (before : List Heard) → is_armed bounds before ≡ true → Holds bounds before
 unfolding is_armed
-holds bounds [] h = absurd (no_false h)
+holds bounds [] h = absurd (false_is_not_true h)
 holds bounds (g ∷ gs) h =
     ⊎_elim
     (λ here.
-    let parts = and_split (is_press bounds g) (not (list_any breaks gs)) here in
+    let parts = and_both (is_press bounds g) (not (list_any breaks gs)) here in
     record {
       earlier = [];
       press = g;
@@ -186,24 +154,24 @@ holds bounds (g ∷ gs) h =
       unbroken = not_true (list_any breaks gs) parts.1;
     })
     (λ there. later bounds g gs (holds bounds gs there))
-    (or_split (is_press bounds g && not (list_any breaks gs)) (is_armed bounds gs) h)
+    (or_either (is_press bounds g && not (list_any breaks gs)) (is_armed bounds gs) h)
 
 armed_by : (bounds : Rect) (earlier : List Heard) (press : Heard) (between : List Heard)
     → is_press bounds press ≡ true → list_any breaks between ≡ false
     → is_armed bounds (earlier ++ press ∷ between) ≡ true
 unfolding is_armed
 armed_by bounds [] press between k u =
-    or_first (is_press bounds press && not (list_any breaks between)) (is_armed bounds between)
-    (and_join (is_press bounds press) (not (list_any breaks between)) k (ap not u))
+    or_left (is_press bounds press && not (list_any breaks between)) (is_armed bounds between)
+    (and_from (is_press bounds press) (not (list_any breaks between)) k (ap not u))
 armed_by bounds (g ∷ gs) press between k u =
-    or_second (is_press bounds g && not (list_any breaks (gs ++ press ∷ between))) _
+    or_right (is_press bounds g && not (list_any breaks (gs ++ press ∷ between))) _
     (armed_by bounds gs press between k u)
 
 pub two_letters : (bounds : Rect) (before : List Heard) (h : Heard) → invokes bounds before h ≡ true
     → Invokes bounds before h
 unfolding invokes
 two_letters bounds before h is =
-    let parts = and_split (is_release bounds h) (is_armed bounds before) is in
+    let parts = and_both (is_release bounds h) (is_armed bounds before) is in
     let held = holds bounds before parts.1 in
     record {
       earlier = held.earlier;
@@ -219,6 +187,6 @@ pub by_two : (bounds : Rect) (before : List Heard) (h : Heard) → Invokes bound
     → invokes bounds before h ≡ true
 unfolding invokes
 by_two bounds before h i =
-    and_join (is_release bounds h) (is_armed bounds before) i.released
+    and_from (is_release bounds h) (is_armed bounds before) i.released
     (subst (λ l. is_armed bounds l ≡ true) (sym i.parts)
     (armed_by bounds i.earlier i.press i.between i.pressed i.unbroken))

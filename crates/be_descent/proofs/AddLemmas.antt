@@ -3,16 +3,18 @@ use Rattle.std.specs.Prelude.{slice_get}
 use Rattle.std.proofs.Common.{◌≡◌, ℕ, ◌+◌, ◌<◌, ◌≤◌, suc, ℤ, ◌-ℤ◌, Bool, true, false, ◌&&◌, ◌||◌}
 use Rattle.std.proofs.Common.{cond, List, Some, length, drop, arith, refl, sym, ap, ◌∙◌}
 use Rattle.std.proofs.lemmas.List.{drop_all}
+use Rattle.be_facts.proofs.Truths.{or_false}
 use Rattle.be_geom.specs.declared.rect.Rect.{Rect}
 use Rattle.be_geom.specs.Numbers.{is_number}
 use Rattle.be_geom.specs.Rects.{rect_has}
 use Rattle.be_region.specs.Regions.{region_has}
 use Rattle.be_views.specs.Clips.{covers}
 use Rattle.be_views.specs.Trees.{Tree, View, parent_of}
+use Rattle.be_views.proofs.TreeLemmas.{view_there}
 use Rattle.be_descent.specs.declared.way.Way.{Way}
 use Rattle.be_descent.specs.Fronts.{lying, IsAdded}
 use Rattle.be_descent.specs.Places.{has_moved}
-use Rattle.be_descent.proofs.CountLemmas.{some_view, view_first, lying_next, parent_is}
+use Rattle.be_descent.proofs.CountLemmas.{view_first, lying_next, parent_is}
 
 -- what views from a number on are still to add, beside what was added
 abbrev pub with_rest : List Rect → Tree → ℕ → ℕ → Way → ℤ → ℤ → Bool
@@ -41,7 +43,7 @@ pub rest_added : (old now : List Rect) (tree : Tree) (k v : ℕ) (way : Way) (ar
     → (x y : ℤ) → rect_has area x y ≡ true
     → with_rest now tree (k + 1) v way x y ≡ with_rest old tree k v way x y
 rest_added old now tree k v way area less lies added x y has =
-    let view = some_view tree k less in
+    let view = view_there tree k less in
     let w = view.0 in
     let got = view.1 in
     ap (λ b. b || covers (drop (k + 1) tree) v (x -ℤ way.right) (y -ℤ way.down))
@@ -55,7 +57,7 @@ pub rest_passed : (old : List Rect) (tree : Tree) (k v : ℕ) (way : Way) → k 
     → is_number v (parent_of tree k) ≡ false → (x y : ℤ)
     → with_rest old tree (k + 1) v way x y ≡ with_rest old tree k v way x y
 rest_passed old tree k v way less lies x y =
-    let view = some_view tree k less in
+    let view = view_there tree k less in
     let w = view.0 in
     let got = view.1 in
     none_added (region_has old x y) (has_moved w.frame way x y) (is_number v w.parent)
@@ -63,10 +65,6 @@ rest_passed old tree k v way less lies x y =
     (ap (is_number v) (sym (parent_is tree k w got)) ∙ lies)
     ∙ ap (λ b. region_has old x y || b)
     (sym (covers_next tree k v w (x -ℤ way.right) (y -ℤ way.down) got))
-
-or_false : (a : Bool) → (a || false) ≡ a
-or_false true = refl
-or_false false = refl
 
 pub rest_none : (now : List Rect) (tree : Tree) (k v : ℕ) (way : Way) (x y : ℤ) → length tree ≤ k
     → region_has now x y ≡ with_rest now tree k v way x y
@@ -77,7 +75,7 @@ rest_none now tree k v way x y end =
 lying_at : (tree : Tree) (k v : ℕ) (b : Bool) → k < length tree → is_number v (parent_of tree k) ≡ b
     → lying v (drop k tree) ≡ cond b 1 0 + lying v (drop (k + 1) tree)
 lying_at tree k v b less lies =
-    let view = some_view tree k less in
+    let view = view_there tree k less in
     lying_next tree k v view.0 view.1 ∙ ap (λ t. cond t 1 0 + lying v (drop (k + 1) tree))
     (ap (is_number v) (sym (parent_is tree k view.0 view.1)) ∙ lies)
 

@@ -5,7 +5,7 @@ use Rattle.std.specs.Prelude.{length, slice_get, slice_index}
 use Rattle.std.specs.Int.{bit_at}
 use Rattle.std.specs.Option.{option_map}
 use Rattle.std.proofs.Common.{refl, sym, ap, ap₂, ◌∙◌, cond, inl, inr, arith}
-use Rattle.std.proofs.lemmas.Bool.{and_parts, cases_lt, lt-ltb, le-ltb, true≢false}
+use Rattle.std.proofs.lemmas.Bool.{and_parts, cases_lt, lt-ltb, le-ltb, true≢false, and_right}
 use Rattle.std.proofs.lemmas.Int.{ints}
 use Rattle.std.proofs.lemmas.Option.{slice_get_past}
 use Rattle.be_bitmap.specs.Pictures.{Picture, bitmap_pixel}
@@ -14,9 +14,11 @@ use Rattle.be_color.specs.Pixel.{picked}
 use Rattle.be_color.specs.declared.colors.Color.{Color}
 use Rattle.be_color.specs.declared.colors.Color.TheVariants.{Clear}
 use Rattle.be_geom.specs.Points.{between}
+use Rattle.be_geom.proofs.Between.{is_above, is_below, is_between}
 use Rattle.be_shape.specs.Rows.{span_has}
 use Rattle.be_shape.specs.declared.row.Span.{Span}
-use Rattle.be_shape.proofs.BetweenLemmas.{is_above, is_below, is_between, not_above, not_below}
+use Rattle.be_shape.proofs.BetweenLemmas.{not_above, not_below}
+use Rattle.be_bitmap.proofs.PixelLemmas.{pixel_over, pixel_before}
 use Rattle.be_span.specs.Painting.{Rule, changed}
 use Rattle.be_span.specs.Slices.{color_from, color_or_clear, has_bit_from, mask_bit, painted}
 use Rattle.be_span.specs.Slices.{pattern_color, row_bit}
@@ -69,17 +71,6 @@ marked brush color false o = clear_stays brush o ∙ all_stay o
 
 -- ---- pictures
 
-left_of : (p : Picture) (u v : ℤ) → u <ℤ pos 0 → bitmap_pixel p u v ≡ None
-unfolding bitmap_pixel
-left_of p (pos n) v less = absurd (omega (arith, ints))
-left_of p (negsuc n) v less = refl
-
-above : (p : Picture) (u v : ℤ) → v <ℤ pos 0 → bitmap_pixel p u v ≡ None
-unfolding bitmap_pixel
-above p (pos n) (pos m) less = absurd (omega (arith, ints))
-above p (pos n) (negsuc m) less = refl
-above p (negsuc n) v less = refl
-
 -- the colour of a pixel in a row of a picture, of which some pixels may lie before it
 pub color_at : (picture : Picture) (way : Way) (colors : List Color) (column before row k : ℕ)
     (x y : ℤ) → pos column -ℤ pos before ≡ x -ℤ way.right → (column ≡ 0) ⊎ (before ≡ 0)
@@ -91,7 +82,7 @@ color_at picture way colors column before row k x y far one down each =
       | inl h ↦ ap (λ b. cond b Clear (color_or_clear (slice_get colors (k - before))))
           (lt-ltb k before h)
           ∙ sym (ap color_or_clear
-          (left_of picture (x +ℤ pos k -ℤ way.right) (y -ℤ way.down) (out h one)))
+          (pixel_before picture (x +ℤ pos k -ℤ way.right) (y -ℤ way.down) (out h one)))
       | inr h ↦
           let across : pos (column + (k - before)) ≡ x +ℤ pos k -ℤ way.right =
           omega (arith, ints) in
@@ -104,13 +95,13 @@ color_at picture way colors column before row k x y far one down each =
     out h (inl none) = omega (arith, ints)
     out h (inr none) = absurd (omega arith)
 
--- above a picture it is the transparent one
+-- pixel_over a picture it is the transparent one
 pub none_above : (brush : Brush) (picture : Picture) (way : Way) (x y : ℤ) (o : Option Cell)
     → (y -ℤ way.down) <ℤ pos 0
     → o ≡ option_map (painted brush (picture_color picture way x y)) o
 none_above brush picture way x y o less =
     sym (ap (λ (s : Color). option_map (painted brush s) o)
-    (ap color_or_clear (above picture (x -ℤ way.right) (y -ℤ way.down) less))
+    (ap color_or_clear (pixel_over picture (x -ℤ way.right) (y -ℤ way.down) less))
     ∙ clear_stays brush o)
 
 -- ---- masks
@@ -130,13 +121,9 @@ bits_below masks (pos n) (pos m) more =
 bits_below masks (pos n) (negsuc m) more = refl
 bits_below masks (negsuc n) v more = refl
 
-unset : (a b : Bool) → b ≡ false → (a && b) ≡ false
-unset true b e = e
-unset false b e = refl
-
 pub bits_behind : (masks : List ℕ) (u v : ℤ) → pos 64 ≤ℤ u → masks_bit masks u v ≡ false
 bits_behind masks (pos n) (pos m) more =
-    unset (nat_lt m 7) (mask_bit (slice_index masks m) n)
+    and_right (nat_lt m 7) (mask_bit (slice_index masks m) n)
     (ap (λ b. b && (bit_at (slice_index masks m) (63 - n) == 1)) (le-ltb n 64 (omega (arith, ints))))
 bits_behind masks (pos n) (negsuc m) more = refl
 bits_behind masks (negsuc n) v more = refl

@@ -8,6 +8,7 @@ use Rattle.std.proofs.lemmas.Int.{ints}
 use Rattle.std.proofs.lemmas.List.{take_all}
 use Rattle.std.proofs.lemmas.List.Folds.{list_all_more}
 use Rattle.std.proofs.lemmas.Option.{get_or_from_slice_get}
+use Rattle.be_facts.proofs.Truths.{and_true}
 use Rattle.be_region.specs.Regions.{region_has}
 use Rattle.be_region.proofs.MoveLemmas.{moved_region}
 use Rattle.be_state.specs.Clips.{shown_clip}
@@ -49,10 +50,6 @@ shown_lies clip corner way x y across down =
     moved_region clip.region.now clip.right clip.down (x -ℤ corner.right) (y -ℤ corner.down)
     ∙ ap₂ (region_has clip.region.now) u v
 
-no_more : (a : Bool) → (a && true) ≡ a
-no_more true = refl
-no_more false = refl
-
 -- with no state no clip is asked
 pub none_held : (stack : Stack) (count : ℕ) (corner : Way) (x y : ℤ) (a t : Bool) → count ≡ 0
     → (a && t) ≡ (a && (first_hold stack count corner x y && t))
@@ -69,7 +66,7 @@ none_more stack count corner layer x y some within is none =
     sym (one_more stack count corner layer x y some within is
     ∙ ap (λ c. first_hold stack (count - 1) corner x y
     && clip_has c (x -ℤ corner.right) (y -ℤ corner.down)) none
-    ∙ no_more (first_hold stack (count - 1) corner x y))
+    ∙ and_true (first_hold stack (count - 1) corner x y))
 
 -- a state with a clip
 pub clip_more : (stack : Stack) (count : ℕ) (corner way : Way) (layer : Layer) (clip : Placed)

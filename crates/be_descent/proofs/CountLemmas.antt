@@ -1,7 +1,7 @@
 -- How many views lie in which.
 use Rattle.std.specs.Prelude.{nat_lt, slice_get, count_by, option_and_then}
-use Rattle.std.proofs.Common.{◌≡◌, ℕ, ◌+◌, ◌<◌, ◌≤◌, zero, suc, Bool, false, cond, List, [], ◌∷◌}
-use Rattle.std.proofs.Common.{Option, Some, None, length, drop, arith, refl, ap, ◌∙◌}
+use Rattle.std.proofs.Common.{◌≡◌, ℕ, ◌+◌, ◌≤◌, zero, suc, Bool, false, cond, List, [], ◌∷◌}
+use Rattle.std.proofs.Common.{Option, Some, None, drop, arith, refl, ap, ◌∙◌}
 use Rattle.std.proofs.lemmas.Bool.Decides.{nat_tests}
 use Rattle.std.proofs.lemmas.List.Sums.{count_by-le-length, sum_by-cons}
 use Rattle.be_geom.specs.Numbers.{is_number}
@@ -79,11 +79,6 @@ pub few_lie : (tree : Tree) (v : ℕ) → IsTree tree → lying_below v tree ≤
 few_lie tree v whole = few_below tree v whole
 
 -- ---- one view after another
-
-pub some_view : (tree : Tree) (k : ℕ) → k < length tree → (w : View) × (slice_get tree k ≡ Some w)
-some_view [] k h = absurd (omega arith)
-some_view (w ∷ rest) zero h = (w, refl)
-some_view (w ∷ rest) (suc k) h = some_view rest k (omega arith)
 
 pub view_first : (tree : Tree) (k : ℕ) (w : View) → slice_get tree k ≡ Some w
     → drop k tree ≡ w ∷ drop (suc k) tree

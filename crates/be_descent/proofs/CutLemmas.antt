@@ -5,12 +5,13 @@ use Rattle.std.proofs.Common.{inl, inr, SFits, w16, List, ◌∷◌, All, suc, s
 use Rattle.std.proofs.Common.{arith}
 use Rattle.std.proofs.lemmas.Int.{ints, by_lt_z}
 use Rattle.std.proofs.lemmas.Bool.{true≢false}
+use Rattle.be_facts.proofs.Numbers.{unsigned_abs_is}
 use Rattle.be_geom.specs.declared.rect.Rect.{Rect}
 use Rattle.be_geom.specs.Rects.{rect_has, AreDisjoint}
 use Rattle.be_region.specs.Regions.{IsNotEmpty}
 use Rattle.be_region.proofs.FrameLemmas.{corners}
 use Rattle.be_span.specs.Runs.{IsInside}
-use Rattle.be_span.proofs.GridLemmas.{IsIn, in_from, has_from, pos_abs}
+use Rattle.be_span.proofs.GridLemmas.{IsIn, in_from, has_from}
 use Rattle.be_descent.specs.Cutting.{extent_of, AreHalves}
 
 -- ---- pixels of two rectangles
@@ -70,10 +71,10 @@ less_far : (a b : Rect) → IsNotEmpty a → IsNotEmpty b → (a.right -ℤ a.le
     → extent_of a < extent_of b
 less_far a b some more across down other =
     let l = some.across in let m = some.down in let n = more.across in let o = more.down in
-    let p = pos_abs (a.right -ℤ a.left) (omega (arith, ints)) in
-    let q = pos_abs (a.bottom -ℤ a.top) (omega (arith, ints)) in
-    let r = pos_abs (b.right -ℤ b.left) (omega (arith, ints)) in
-    let s = pos_abs (b.bottom -ℤ b.top) (omega (arith, ints)) in
+    let p = unsigned_abs_is (a.right -ℤ a.left) (omega (arith, ints)) in
+    let q = unsigned_abs_is (a.bottom -ℤ a.top) (omega (arith, ints)) in
+    let r = unsigned_abs_is (b.right -ℤ b.left) (omega (arith, ints)) in
+    let s = unsigned_abs_is (b.bottom -ℤ b.top) (omega (arith, ints)) in
     grind (arith, ints)
 
 -- no rectangle of the screen goes further
@@ -81,8 +82,8 @@ pub extent_small : (r : Rect) → IsNotEmpty r → SFits w16 r.left → SFits w1
     → SFits w16 r.right → SFits w16 r.bottom → extent_of r < 200000
 extent_small r some l t e b =
     let m = some.across in let n = some.down in
-    let p = pos_abs (r.right -ℤ r.left) (omega (arith, ints)) in
-    let q = pos_abs (r.bottom -ℤ r.top) (omega (arith, ints)) in
+    let p = unsigned_abs_is (r.right -ℤ r.left) (omega (arith, ints)) in
+    let q = unsigned_abs_is (r.bottom -ℤ r.top) (omega (arith, ints)) in
     grind (arith, ints)
 
 -- ---- halves

@@ -1,10 +1,8 @@
 -- Numbers that fit, and the last of some rows.
 use Rattle.std.proofs.Common.{◌≡◌, ℤ, pos, negsuc, ◌+ℤ◌, ◌≤ℤ◌, SFits, w16, w32, rules, arith}
 use Rattle.std.proofs.lemmas.Int.{ints}
+use Rattle.be_facts.proofs.Numbers.{fits_16}
 use Rattle.be_geom.specs.Places.{IsNear}
-
-pub fits_16 : (z : ℤ) → negsuc 32767 ≤ℤ z → z ≤ℤ pos 32767 → SFits w16 z
-fits_16 z low high = search rules
 
 pub fits_32 : (z : ℤ) → negsuc 2147483647 ≤ℤ z → z ≤ℤ pos 2147483647 → SFits w32 z
 fits_32 z low high = search rules

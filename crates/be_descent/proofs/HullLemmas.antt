@@ -1,13 +1,15 @@
 -- The pixels of a line between two of its rows are in columns between those of the two.
 use Rattle.std.proofs.Common.{◌≡◌, ℕ, ℤ, pos, ◌+ℤ◌, ◌-ℤ◌, ◌-◌, ◌/◌, ◌≤◌, ◌≤ℤ◌, ◌<ℤ◌}
-use Rattle.std.proofs.Common.{true, ◌⊎◌, inl, inr, unsigned_abs, Bool, false, ◌||◌, refl, subst}
+use Rattle.std.proofs.Common.{true, ◌⊎◌, inl, inr, unsigned_abs, Bool, false, ◌||◌, subst}
 use Rattle.std.proofs.Common.{◌∙◌, arith}
 use Rattle.std.specs.Int.{int_max, int_min}
-use Rattle.std.proofs.lemmas.Bool.{cases_lt}
+use Rattle.std.proofs.lemmas.Bool.{cases_lt, or_right, or_left}
 use Rattle.std.proofs.lemmas.Int.{ints, by_lt_z, clamps}
+use Rattle.be_facts.proofs.Truths.{or_either}
 use Rattle.be_geom.specs.declared.point.Point.{Point}
 use Rattle.be_geom.specs.declared.rect.Rect.{Rect}
 use Rattle.be_geom.specs.Rects.{rect_has}
+use Rattle.be_geom.proofs.Between.{is_below, is_between}
 use Rattle.be_shape.specs.Rasters.{line_at, line_has, pen_covers, raster_has, steps_of}
 use Rattle.be_shape.specs.Runs.{HasPixelOfRow}
 use Rattle.be_shape.specs.declared.Raster.{Raster}
@@ -16,7 +18,7 @@ use Rattle.be_shape.specs.Rows.{row_has, span_has, IsPair, IsRow}
 use Rattle.be_shape.specs.declared.row.Row.{Row}
 use Rattle.be_shape.specs.declared.row.Row.TheVariants.{Two}
 use Rattle.be_shape.specs.declared.row.Span.{Span}
-use Rattle.be_shape.proofs.BetweenLemmas.{is_below, is_between, not_above, not_below}
+use Rattle.be_shape.proofs.BetweenLemmas.{not_above, not_below}
 use Rattle.be_shape.proofs.LineLemmas.{covered_of_line, line_of_covered, near_across, near_down}
 use Rattle.be_shape.proofs.ShareLemmas.{share_mono}
 use Rattle.be_shape.proofs.WayLemmas.{at_down, at_up}
@@ -244,17 +246,6 @@ line_between (Line from to size) run top bottom x y is low high first last in_to
 
 -- ---- the ends of a row
 
-or_tells : (p q : Bool) → (p || q) ≡ true → (p ≡ true) ⊎ (q ≡ true)
-or_tells true q h = inl refl
-or_tells false q h = inr h
-
-pub first_of : (p q : Bool) → p ≡ true → (p || q) ≡ true
-first_of p q e = rw e refl
-
-pub second_of : (p q : Bool) → q ≡ true → (p || q) ≡ true
-second_of true q e = refl
-second_of false q e = e
-
 pub ends_hold : (row : Row) (left right : Span) (x : ℤ) → row ≡ Two left right → IsRow row
     → row_has row x ≡ true → span_has record { first = left.first; last = right.last } x ≡ true
 ends_hold row left right x is sound has =
@@ -264,7 +255,7 @@ ends_hold row left right x is sound has =
     let high = pair.right_sound.forward in
     let one : (span_has left x || span_has right x) ≡ true = subst (λ (r : Row). row_has r x ≡ true)
     is has in
-    elim (or_tells (span_has left x) (span_has right x) one) [
+    elim (or_either (span_has left x) (span_has right x) one) [
       | inl e ↦
           let a = not_below left.first x left.last e in
           let b = not_above left.first x left.last e in
@@ -288,7 +279,7 @@ pub round_holds : (a b run : Span) (p q : Bool) (x : ℤ) → run.first ≡ int_
     → run.last ≡ int_max a.last b.last → (p ≡ true → span_has a x ≡ true)
     → (q ≡ true → span_has b x ≡ true) → (p || q) ≡ true → span_has run x ≡ true
 round_holds a b run p q x first last f g has =
-    elim (or_tells p q has) [
+    elim (or_either p q has) [
       | inl e ↦
           let low = not_below a.first x a.last (f e) in
           let high = not_above a.first x a.last (f e) in
@@ -316,5 +307,5 @@ line_held line area way one other run it top bottom first last some x y has is =
     let high = i.bottom in
     line_between line run (area.top -ℤ way.down) (area.bottom -ℤ way.down) (x -ℤ way.right)
     (y -ℤ way.down) it (omega (arith, ints)) (omega (arith, ints)) top bottom
-    (λ z e. some z (first_of (row_has one z) (row_has other z) (first z ∙ e)))
-    (λ z e. some z (second_of (row_has one z) (row_has other z) (last z ∙ e))) is
+    (λ z e. some z (or_left (row_has one z) (row_has other z) (first z ∙ e)))
+    (λ z e. some z (or_right (row_has one z) (row_has other z) (last z ∙ e))) is

@@ -1,12 +1,13 @@
 -- The pixels that an area has in common with a rectangle, which lies so far right and so far down.
 use Rattle.std.proofs.Common.{◌≡◌, ℤ, ◌+ℤ◌, ◌-ℤ◌, ◌≤ℤ◌, ◌<ℤ◌, Bool, true, false, ◌&&◌, inl, inr}
-use Rattle.std.proofs.Common.{SFits, w16, rules, arith, refl, sym, ap, ◌∙◌}
+use Rattle.std.proofs.Common.{SFits, w16, arith, refl, sym, ap, ◌∙◌}
 use Rattle.std.specs.Int.{int_max, int_min}
 use Rattle.std.proofs.lemmas.Int.{ints, clamps}
+use Rattle.be_facts.proofs.Truths.{four_tests}
+use Rattle.be_facts.proofs.Numbers.{fits_between}
 use Rattle.be_geom.specs.declared.rect.Rect.{Rect}
 use Rattle.be_geom.specs.Points.{between}
-use Rattle.be_geom.proofs.Between.{between_tells}
-use Rattle.be_region.proofs.LineLemmas.{is_between, not_between_left, not_between_right}
+use Rattle.be_geom.proofs.Between.{between_tells, is_between, is_below, is_above}
 use Rattle.be_descent.specs.declared.way.Way.{Way}
 use Rattle.be_descent.specs.Places.{IsBeside, IsPartOf}
 
@@ -27,17 +28,17 @@ edges_both low high first last by least most z e f =
                 ∙ sym (rw (i.0, j.0) refl)
             | inr j ↦
                 elim j.1 [
-                  | inl less ↦ not_between_left least z most (omega (arith, ints, clamps))
+                  | inl less ↦ is_below least z most (omega (arith, ints, clamps))
                       ∙ sym (rw (i.0, j.0) refl)
-                  | inr more ↦ not_between_right least z most (omega (arith, ints, clamps))
+                  | inr more ↦ is_above least z most (omega (arith, ints, clamps))
                       ∙ sym (rw (i.0, j.0) refl)
                 ]
           ]
       | inr i ↦
           elim i.1 [
-            | inl less ↦ not_between_left least z most (omega (arith, ints, clamps))
+            | inl less ↦ is_below least z most (omega (arith, ints, clamps))
                 ∙ sym (rw i.0 refl)
-            | inr more ↦ not_between_right least z most (omega (arith, ints, clamps))
+            | inr more ↦ is_above least z most (omega (arith, ints, clamps))
                 ∙ sym (rw i.0 refl)
           ]
     ]
@@ -56,28 +57,19 @@ pub edges_none : (low high first last by least most z : ℤ) → least ≡ int_m
 edges_none low high first last by least most z e f h =
     sym (edges_both low high first last by least most z e f) ∙ none_between least most z h
 
-fits_from : (z low high : ℤ) → SFits w16 low → SFits w16 high → low ≤ℤ z → z ≤ℤ high → SFits w16 z
-fits_from z low high f g h k = search rules
-
 pub first_fits : (low high first last by least most : ℤ) → SFits w16 low → SFits w16 high
     → least ≡ int_max low (first +ℤ by) → most ≡ int_min high (last +ℤ by) → least ≤ℤ most
     → SFits w16 least
 first_fits low high first last by least most f g e k h =
-    fits_from least low high f g (omega (arith, ints, clamps)) (omega (arith, ints, clamps))
+    fits_between least low high f g (omega (arith, ints, clamps)) (omega (arith, ints, clamps))
 
 pub last_fits : (low high first last by least most : ℤ) → SFits w16 low → SFits w16 high
     → least ≡ int_max low (first +ℤ by) → most ≡ int_min high (last +ℤ by) → least ≤ℤ most
     → SFits w16 most
 last_fits low high first last by least most f g e k h =
-    fits_from most low high f g (omega (arith, ints, clamps)) (omega (arith, ints, clamps))
+    fits_between most low high f g (omega (arith, ints, clamps)) (omega (arith, ints, clamps))
 
 -- ---- columns and rows together
-
-and_turned : (a b c d : Bool) → ((a && b) && (c && d)) ≡ ((a && c) && (b && d))
-and_turned true true c d = refl
-and_turned true false true d = refl
-and_turned true false false d = refl
-and_turned false b c d = refl
 
 and_none : (a b c d : Bool) → (b && d) ≡ false → ((a && b) && (c && d)) ≡ false
 and_none true b true d h = h
@@ -86,14 +78,7 @@ and_none true false false d h = refl
 and_none false b c d h = refl
 
 and_first : (a b c d : Bool) → (a && c) ≡ false → ((a && b) && (c && d)) ≡ false
-and_first a b c d h = and_turned a b c d ∙ ap (λ e. e && (b && d)) h
-
-pub beside_across : (area r : Rect) (way : Way)
-    → ((z : ℤ) → (between area.left z area.right && between r.left (z -ℤ way.right) r.right)
-    ≡ false) → IsBeside area r way
-beside_across area r way none x y =
-    and_first (between area.left x area.right) (between area.top y area.bottom)
-    (between r.left (x -ℤ way.right) r.right) (between r.top (y -ℤ way.down) r.bottom) (none x)
+and_first a b c d h = four_tests a b c d ∙ ap (λ e. e && (b && d)) h
 
 pub beside_down : (area r : Rect) (way : Way)
     → ((z : ℤ) → (between area.top z area.bottom && between r.top (z -ℤ way.down) r.bottom) ≡ false)
@@ -112,7 +97,7 @@ part_is part area r way across down columns rows = record {
   some = record { across = across; down = down };
   both = λ x y. ap (λ b. b && between part.top y part.bottom) (columns x)
       ∙ ap (λ b. (between area.left x area.right && between r.left (x -ℤ way.right) r.right) && b)
-      (rows y) ∙ and_turned (between area.left x area.right)
+      (rows y) ∙ four_tests (between area.left x area.right)
       (between r.left (x -ℤ way.right) r.right) (between area.top y area.bottom)
       (between r.top (y -ℤ way.down) r.bottom);
 }

@@ -5,6 +5,7 @@ use Rattle.std.proofs.Common.{not, ◌&&◌, ◌||◌, List, [], ◌∷◌, Opti
 use Rattle.std.proofs.Common.{SFits, w16, w32, arith, refl, sym, ap, subst, ◌∙◌}
 use Rattle.std.proofs.lemmas.Bool.{and_parts, true≢false, false≢true}
 use Rattle.std.proofs.lemmas.Int.{ints}
+use Rattle.be_facts.proofs.Truths.{and_false, and_false_second, or_false}
 use Rattle.be_geom.specs.declared.point.Point.{Point}
 use Rattle.be_geom.specs.declared.rect.Rect.{Rect}
 use Rattle.be_geom.specs.Places.{IsNear}
@@ -14,13 +15,13 @@ use Rattle.be_views.specs.Clips.{covers, IsOutside}
 use Rattle.be_views.specs.Pixels.{view_at}
 use Rattle.be_views.specs.Trees.{Tree, View, parent_of}
 use Rattle.be_views.specs.Whole.{IsTree}
-use Rattle.be_views.proofs.ClipLemmas.{IsIn, near_less, near_more, near_sum, root_reach}
+use Rattle.be_views.proofs.ClipLemmas.{IsIn, near_less, near_more, near_sum, root_reach, not_own}
 use Rattle.be_descent.specs.declared.shown.Reached.{Reached}
 use Rattle.be_descent.specs.declared.way.Way.{Way}
 use Rattle.be_descent.specs.Fronts.{lying, shows, IsReached, IsShown, IsWay}
 use Rattle.be_descent.specs.Places.{has_moved, IsBeside, IsPartOf}
 use Rattle.be_descent.proofs.CountLemmas.{lying_more, lying_two, parent_is}
-use Rattle.be_descent.proofs.ShownLemmas.{child_way, own_way, outside_is_not}
+use Rattle.be_descent.proofs.ShownLemmas.{child_way, own_way}
 
 pub view_framed : (o : Option View) (f : Rect) → option_map (λ (v : View). v.frame) o ≡ Some f
     → (w : View) × ((o ≡ Some w) × (w.frame ≡ f))
@@ -28,10 +29,6 @@ view_framed None f e = cc
 view_framed (Some w) f e = (w, (refl, cc))
 
 -- ---- the root
-
-or_false : (a : Bool) → (a || false) ≡ a
-or_false true = refl
-or_false false = refl
 
 root_way : (tree : Tree) (root : View) (x y : ℤ) → slice_get tree 0 ≡ Some root
     → IsWay tree 0 x y (view_at tree x y) (rect_has root.frame x y)
@@ -84,10 +81,6 @@ root_reached tree view frame window area part way frames is got f g across down 
       few = omega arith;
     })
 
-and_off : (a m : Bool) → (a && m) ≡ false → a ≡ true → m ≡ false
-and_off true m e h = e
-and_off false m e h = absurd (false≢true h)
-
 pub root_outside : (tree : Tree) (view : ℕ) (frame : Rect) (window : Point) (area : Rect)
     (way : Way) → view ≡ 0 → option_map (λ (v : View). v.frame) (slice_get tree view) ≡ Some frame
     → way.right ≡ window.x → way.down ≡ window.y → IsBeside area frame way → (x y : ℤ)
@@ -100,7 +93,7 @@ root_outside tree view frame window area way is got across down beside x y has =
     rw (across, down) (ap (λ f. rect_has f u w) root.1.1) in
     subst (λ (v : ℕ). IsOutside tree v (view_at tree u w)) (sym is)
     ((root_way tree root.0 u w (ap (slice_get tree) (sym is) ∙ root.1.0)).outside
-    (same ∙ and_off (rect_has area x y) (has_moved frame way x y) (beside x y) has))
+    (same ∙ and_false_second (rect_has area x y) (has_moved frame way x y) (beside x y) has))
 
 -- ---- a view in another one
 
@@ -136,13 +129,9 @@ parent_outside tree u c w found h out =
     record { inside = λ e. absurd (false≢true e); outside = λ e. out } in
     (child_way tree u c w (pos 0) (pos 0) found false false h way refl).outside refl
 
-and_right : (a : Bool) → (a && false) ≡ false
-and_right true = refl
-and_right false = refl
-
 both_off : (ra h o c : Bool) → (ra && h) ≡ false → false ≡ ((ra && not o) && (h && not c))
 both_off true true o c e = absurd (true≢false e)
-both_off true false o c e = sym (and_right (not o))
+both_off true false o c e = sym (and_false (not o))
 both_off false h o c e = refl
 
 both_not : (o c : Bool) → not (o || c) ≡ (not o && not c)
@@ -153,7 +142,7 @@ child_test : (p ra h n o c : Bool) → p ≡ (ra && h) → (p ≡ true → n ≡
     → (p && not n) ≡ ((ra && not o) && (h && not c))
 child_test true true true n o c e f = ap not (f refl) ∙ both_not o c
 child_test false true true n o c e f = absurd (false≢true e)
-child_test p true false n o c e f = ap (λ b. b && not n) e ∙ sym (and_right (not o))
+child_test p true false n o c e f = ap (λ b. b && not n) e ∙ sym (and_false (not o))
 child_test p false h n o c e f = ap (λ b. b && not n) e
 
 pub child_outside : (tree : Tree) (u c : ℕ) (w : View) (window : Point) (area frame : Rect)
@@ -233,7 +222,7 @@ pub none_shown : (tree : Tree) (v : ℕ) (window : Point) (area : Rect)
     → (rect_has area x y && shows tree v window x y) ≡ false
 none_shown tree v window area out x y =
     guarded (rect_has area x y) (shows tree v window x y)
-    (λ e. outside_is_not tree v (view_at tree (x -ℤ window.x) (y -ℤ window.y)) (out x y e))
+    (λ e. not_own tree v (view_at tree (x -ℤ window.x) (y -ℤ window.y)) (out x y e))
   where
     guarded : (a s : Bool) → (a ≡ true → s ≡ false) → (a && s) ≡ false
     guarded true s h = h refl

@@ -6,9 +6,11 @@ use Rattle.std.proofs.Common.{Option, None, ℕ, ◌<◌, ◌<ℤ◌, unsigned_a
 use Rattle.std.proofs.Common.{refl, ap, sym, ◌∙◌, arith}
 use Rattle.std.proofs.lemmas.Bool.{true≢false}
 use Rattle.std.proofs.lemmas.Int.{ints, by_lt_z}
+use Rattle.be_facts.proofs.Truths.{and_false, and_spread}
 use Rattle.be_geom.specs.declared.rect.Rect.{Rect}
 use Rattle.be_geom.specs.Points.{between}
-use Rattle.be_shape.proofs.BetweenLemmas.{is_above, is_below, is_between, not_above, not_below}
+use Rattle.be_geom.proofs.Between.{is_above, is_below, is_between}
+use Rattle.be_shape.proofs.BetweenLemmas.{not_above}
 use Rattle.be_region.specs.Regions.{region_has}
 use Rattle.be_span.specs.declared.Cell.{Cell}
 use Rattle.be_span.specs.Spans.{Spans, cell_in}
@@ -110,13 +112,6 @@ not_other true true c d apart h = ap (λ e. e && d) (apart refl)
 not_other true false c d apart h = absurd (true≢false (sym h))
 not_other false b c d apart h = refl
 
-pub spread : (a b m : Bool) → ((a && m) || (b && m)) ≡ ((a || b) && m)
-spread true true true = refl
-spread true true false = refl
-spread true false true = refl
-spread true false false = refl
-spread false b m = refl
-
 pub and_none : (a b m : Bool) → (a ≡ true → b ≡ false) → (a && m) ≡ true → (b && m) ≡ false
 and_none true b m apart h = ap (λ c. c && m) (apart refl)
 and_none false b m apart h = absurd (true≢false (sym h))
@@ -134,7 +129,7 @@ band_painted rule number first y end next m old mid new low high is above below 
     (λ x z. (between first (number x z) (y -ℤ pos 1) && m x z)
     || (between y (number x z) end && m x z))
     (λ x z. between first (number x z) (next -ℤ pos 1) && m x z) old new
-    (λ x z. spread (between first (number x z) (y -ℤ pos 1)) (between y (number x z) end) (m x z)
+    (λ x z. and_spread (between first (number x z) (y -ℤ pos 1)) (between y (number x z) end) (m x z)
     ∙ ap (λ b. b && m x z) (rows_joined first y end (number x z) low high
     ∙ ap (λ (e : ℤ). between first (number x z) e) last))
     (both_painted rule (λ x z. between first (number x z) (y -ℤ pos 1) && m x z)
@@ -161,12 +156,6 @@ and_turned true true c = refl
 and_turned true false c = refl
 and_turned false true c = refl
 and_turned false false c = refl
-
-pub only_row : (y z : ℤ) → between y z y ≡ true → y ≡ z
-only_row y z has =
-    let low = not_below y z y has in
-    let high = not_above y z y has in
-    omega (arith, ints, low, high)
 
 pub in_columns : (c r h k t : Bool) → c ≡ true → (r ≡ true → h ≡ k)
     → ((c && r) && (h && t)) ≡ (r && (k && t))
@@ -197,15 +186,11 @@ beside_all true true r t h none = absurd (true≢false (sym (h refl refl) ∙ no
 beside_all true false r t h none = refl
 beside_all false s r t h none = refl
 
-none_and : (p : Bool) → (p && false) ≡ false
-none_and true = refl
-none_and false = refl
-
 pub cut_test : (p a r m s t : Bool) → p ≡ (a && r) → (a ≡ true → s ≡ true → r ≡ true)
     → (p && (m && (s && t))) ≡ (a && (s && (m && t)))
 cut_test p true r m true t e h = ap (λ b. b && (m && t)) (e ∙ h refl refl)
-cut_test p true r true false t e h = none_and p
-cut_test p true r false false t e h = none_and p
+cut_test p true r true false t e h = and_false p
+cut_test p true r false false t e h = and_false p
 cut_test p false r m s t e h = ap (λ b. b && (m && (s && t))) e
 
 pub none_from : (region : List Rect) (q : ℤ → ℤ → Bool)
@@ -232,13 +217,13 @@ boxed p a h m t e = ap (λ b. b && (m && t)) e ∙ and_joined a h (m && t)
 
 pub image_test : (f h m : Bool) → f ≡ true → (f && (h && (m && true))) ≡ (h && m)
 image_test f true true is = ap (λ b. b && true) is
-image_test f true false is = none_and f
-image_test f false m is = none_and f
+image_test f true false is = and_false f
+image_test f false m is = and_false f
 
 pub letter_test : (a h m t : Bool) → (t ≡ true → h ≡ true)
     → (a && (h && (m && t))) ≡ (a && (t && m))
 letter_test a h true true in_it = ap (λ b. a && (b && true)) (in_it refl)
-letter_test a h false true in_it = ap (λ b. a && b) (none_and h)
+letter_test a h false true in_it = ap (λ b. a && b) (and_false h)
 letter_test a true true false in_it = refl
 letter_test a true false false in_it = refl
 letter_test a false m false in_it = refl

@@ -6,9 +6,9 @@ use Rattle.std.proofs.lemmas.Int.{ints}
 use Rattle.be_geom.specs.declared.rect.Rect.{Rect}
 use Rattle.be_geom.specs.Points.{between}
 use Rattle.be_geom.specs.Rects.{rect_has}
+use Rattle.be_geom.proofs.Between.{is_between}
 use Rattle.be_region.specs.Frames.{IsFrame}
 use Rattle.be_region.specs.Regions.{region_has, HasNone}
-use Rattle.be_shape.proofs.BetweenLemmas.{is_between}
 use Rattle.be_shape.specs.declared.Raster.{Raster}
 use Rattle.be_span.specs.Spans.{Spans}
 use Rattle.be_descent.specs.Inks.{shape_has, AreRowsIn}

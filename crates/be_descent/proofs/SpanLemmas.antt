@@ -1,10 +1,11 @@
 -- The spans of a buffer, whose rectangles are those of its region.
 use Rattle.std.specs.Option.{option_map}
-use Rattle.std.proofs.Common.{slice_get, ◌≡◌, ℕ, ◌-◌, ℤ, pos, ◌-ℤ◌, Bool, true, false, ◌&&◌}
+use Rattle.std.proofs.Common.{slice_get, ◌≡◌, ℕ, ◌-◌, ℤ, pos, Bool, true, false, ◌&&◌}
 use Rattle.std.proofs.Common.{List, get_or, Option, Some, None, if◌then◌else◌, arith}
 use Rattle.std.proofs.Common.{refl, sym, ap, ◌∙◌}
 use Rattle.std.proofs.lemmas.Int.{ints}
 use Rattle.std.proofs.lemmas.Option.{get_or_from_slice_get}
+use Rattle.be_facts.proofs.Numbers.{minus_zero}
 use Rattle.be_geom.specs.declared.rect.Rect.{Rect}
 use Rattle.be_geom.specs.Rects.{rect_has}
 use Rattle.be_region.specs.Bands.{AreBands}
@@ -24,14 +25,11 @@ use Rattle.be_descent.proofs.CutLemmas.{inside_of}
 abbrev pub here : Way
 here = record { right = pos 0; down = pos 0 }
 
-at_zero : (z : ℤ) → z -ℤ pos 0 ≡ z
-at_zero z = omega (arith, ints)
-
 pub has_here : (r : Rect) (x y : ℤ) → has_moved r here x y ≡ rect_has r x y
-has_here r x y = rw (at_zero x, at_zero y) refl
+has_here r x y = rw (minus_zero x, minus_zero y) refl
 
 pub lies_here : (rs : List Rect) (x y : ℤ) → lies_at rs here x y ≡ region_has rs x y
-lies_here rs x y = rw (at_zero x, at_zero y) refl
+lies_here rs x y = rw (minus_zero x, minus_zero y) refl
 
 -- the rectangle at that place has the whole part
 pub part_inside : (rs : List Rect) (from : ℕ) (area : Rect) (found : Found) (span : SpanAt)

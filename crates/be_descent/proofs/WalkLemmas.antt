@@ -10,6 +10,7 @@ use Rattle.std.proofs.lemmas.Bool.{and_parts, true≢false}
 use Rattle.std.proofs.lemmas.Int.{ints, clamps}
 use Rattle.std.proofs.lemmas.List.{take_all}
 use Rattle.std.proofs.lemmas.Option.{slice_get_within, get_or_from_slice_get}
+use Rattle.be_facts.proofs.Truths.{and_false_second}
 use Rattle.be_geom.specs.declared.rect.Rect.{Rect}
 use Rattle.be_geom.specs.Rects.{rect_has}
 use Rattle.be_region.specs.Regions.{region_has, IsNotEmpty}
@@ -17,7 +18,7 @@ use Rattle.be_region.specs.Bands.{IsBefore, AreBands}
 use Rattle.be_region.specs.Places.{is_passed}
 use Rattle.be_region.proofs.CountLemmas.{has_more}
 use Rattle.be_region.proofs.LawLemmas.{same_default}
-use Rattle.be_region.proofs.PlaceLemmas.{partitioned}
+use Rattle.be_region.proofs.PlaceLemmas.{partitioned, passed_cases}
 use Rattle.be_span.proofs.GridLemmas.{IsIn, in_from}
 use Rattle.be_descent.specs.declared.way.Way.{Way}
 use Rattle.be_descent.specs.Places.{has_moved, lies_at, HasNoMore, IsBeside, IsNext, IsPartOf}
@@ -36,10 +37,6 @@ passed_to rs x y from middle r bands got e k d low less =
     (ap (λ q. is_passed q x y) (get_or_from_slice_get rs middle r d got) ∙ e)
 
 -- ---- rectangles beside an area
-
-passed_cases : (r : Rect) (x y : ℤ) → is_passed r x y ≡ true
-    → (r.bottom <ℤ y) ⊎ ((r.top ≤ℤ y) × (r.right <ℤ x))
-passed_cases r x y e = grind (arith, ints)
 
 -- what is known of the pixel from which on the walk goes, past a rectangle beside the area
 abbrev pub IsStart : Rect → Rect → Way → ℤ → ℤ → Type 0
@@ -144,10 +141,6 @@ take_skip rs from (suc j) x y h none =
     or_off true b e = refl
     or_off false b e = e
 
-and_second : (a b : Bool) → (a && b) ≡ false → a ≡ true → b ≡ false
-and_second true b e h = e
-and_second false b e h = absurd (true≢false (sym h))
-
 pub skipped : (rs : List Rect) (from place next : ℕ) (area : Rect) (way : Way) → place ≤ next
     → next ≤ length rs → AllWithin (λ r. IsBeside area r way) rs place next
     → ((x y : ℤ) → rect_has area x y ≡ true
@@ -157,7 +150,7 @@ skipped rs from place next area way more within beside before x y has =
     let n : place + (next - place) ≡ next = omega arith in
     ap (λ m. lies_at (take m rs) way x y) (sym n)
     ∙ take_skip rs place (next - place) (x -ℤ way.right) (y -ℤ way.down) (omega arith)
-    (λ k d low less. and_second (rect_has area x y) (has_moved (get_or rs k d) way x y)
+    (λ k d low less. and_false_second (rect_has area x y) (has_moved (get_or rs k d) way x y)
     (beside k d low (omega arith) x y) has) ∙ before x y has
 
 pub none_behind : (rs : List Rect) (from place : ℕ) (area : Rect) (way : Way) → length rs ≤ place

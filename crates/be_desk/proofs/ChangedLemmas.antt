@@ -2,10 +2,11 @@
 use Rattle.std.specs.Prelude.{ℤ, ◌-ℤ◌, ◌==◌, slice_get, option_and_then}
 use Rattle.std.proofs.Common.{◌≡◌, ℕ, Bool, true, false, cond, ◌&&◌, List, Option, Some, None, refl, sym, ap, ◌∙◌, subst}
 use Rattle.std.proofs.lemmas.Bool.{eqb-true}
+use Rattle.be_facts.proofs.Truths.{and_first}
 use Rattle.be_geom.specs.declared.change.Change.{Change}
 use Rattle.be_geom.specs.declared.point.Point.{Point}
-use Rattle.be_geom.specs.Numbers.{is_number}
 use Rattle.be_geom.specs.Places.{less}
+use Rattle.be_geom.proofs.Numbered.{number_is}
 use Rattle.be_color.specs.declared.colors.Color.{Color}
 use Rattle.be_input.specs.Pointing.{corner_of, view_under}
 use Rattle.be_span.specs.Cells.{Lookup, exposed_as}
@@ -21,12 +22,6 @@ use Rattle.be_desk.specs.Renewed.{IsRenewalIn, motion_by}
 use Rattle.be_desk.specs.declared.renewal.Motion.{Motion}
 use Rattle.be_desk.specs.declared.renewal.Motion.TheVariants.{Still, Moving, Resizing}
 use Rattle.be_desk.specs.declared.renewal.Renewal.{Renewal}
-
--- ---- owners
-
-owner_is : (u : ℕ) (o : Option ℕ) → is_number u o ≡ true → o ≡ Some u
-owner_is u (Some m) e = ap (λ k. Some k) (eqb-true m u e)
-owner_is u None e = cc
 
 -- ---- views and colours
 
@@ -87,10 +82,6 @@ same_found : (b : Bool) (one other : Option Cell) → (b ≡ true → one ≡ ot
 same_found true one other e = e refl
 same_found false one other e = refl
 
-first_true : (a b : Bool) → (a && b) ≡ true → a ≡ true
-first_true true b e = refl
-first_true false b e = e
-
 -- pixels that stay
 still_cell : (before after : Desk) (colors : List (List Color)) (r : Renewal) (old : Lookup) (cells : ℤ → ℤ → Cell) (x y : ℤ) → IsPaneOf before r.pane.now → Shown before r cells → exposed_at after colors r.pane.now.window x y (cells x y) ≡ exposed_as (color_at r x y) (cells x y) → own_cell before after colors r.pane.now.window machine.still old x y (cells x y) ≡ renewed_by Still r x y (cells x y)
 still_cell before after colors r old cells x y of_pane shown exposed =
@@ -106,7 +97,7 @@ resized_cell before after colors r old cells x y of_pane shown exposed spot =
     ap (λ b. cond (b && machine.is_kept_view before after u (view_here before u x y) (view_here after u x y)) (cells x y) (exposed_at after colors u x y (cells x y))) (sym (of_pane.pixels x y))
     ∙ ap (λ b. cond (owned r x y && b) (cells x y) (exposed_at after colors u x y (cells x y))) spot
     ∙ ap (λ d. cond (owned r x y && shows_same_spot r x y) (cells x y) d) exposed
-    ∙ sym (kept_cell (owned r x y && shows_same_spot r x y) (cell_in r.pane.now.spans x y) (cells x y) _ (λ h. shown x y (sym (of_pane.pixels x y) ∙ first_true (owned r x y) (shows_same_spot r x y) h)))
+    ∙ sym (kept_cell (owned r x y && shows_same_spot r x y) (cell_in r.pane.now.spans x y) (cells x y) _ (λ h. shown x y (sym (of_pane.pixels x y) ∙ and_first (owned r x y) (shows_same_spot r x y) h)))
 
 -- pixels that a move brings
 moved_cell : (before after : Desk) (colors : List (List Color)) (r : Renewal) (old : Lookup) (cells : ℤ → ℤ → Cell) (x y : ℤ) → IsPaneOf before r.pane.now → Shown before r cells → LooksUp old before r.pane.now.window cells → corner_of after.windows r.pane.now.window ≡ Some r.place → exposed_at after colors r.pane.now.window x y (cells x y) ≡ exposed_as (color_at r x y) (cells x y) → own_cell before after colors r.pane.now.window machine.moving old x y (cells x y) ≡ renewed_by (Moving (r.place.x -ℤ r.pane.now.place.x) (r.place.y -ℤ r.pane.now.place.y)) r x y (cells x y)
@@ -148,6 +139,6 @@ unfolding changed_cell
 renewed_is_changed before after w change colors r old cells x y of_pane renewal shown colored looks owned_then =
     let u : ℕ = r.pane.now.window in
     let exposed = exposed_seen after colors r x y (cells x y) renewal.place renewal.views colored in
-    ap (λ o. cell_of before after colors w (motion_of change) o old x y (cells x y)) (owner_is u (owner_at after.windows x y) owned_then)
+    ap (λ o. cell_of before after colors w (motion_of change) o old x y (cells x y)) (number_is u (owner_at after.windows x y) owned_then)
     ∙ in_window (u == w) before after w change colors r old cells x y refl of_pane shown looks renewal.place renewal.views exposed
     ∙ ap (λ m. or_exposed (cond (is_kept_by m r x y) (brought_by m r.pane.now.spans x y) None) (exposed_as (color_at r x y) (cells x y))) (sym renewal.motion)

@@ -1,19 +1,17 @@
 -- What may be newly exposed, and what is kept beside it.
 use Rattle.std.specs.Option.{option_map}
 use Rattle.std.proofs.Common.{◌≡◌, ℕ, ℤ, ◌-ℤ◌, ◌≤◌, Bool, true, false, ◌&&◌, not, inl, inr, List, length, take, Option, Some, None, cond, refl, sym, ap, ◌∙◌}
-use Rattle.std.proofs.lemmas.Bool.{and_parts, cond-false, cond-true, true≢false}
+use Rattle.std.proofs.lemmas.Bool.{and_parts, cond-false, cond-true}
 use Rattle.std.proofs.lemmas.List.{take_all}
+use Rattle.be_facts.proofs.Truths.{true_or_false}
 use Rattle.be_color.specs.declared.colors.Color.{Color}
 use Rattle.be_geom.specs.declared.rect.Rect.{Rect}
 use Rattle.be_region.specs.Regions.{region_has, IsDifference, IsMoved, SamePixels}
 use Rattle.be_span.specs.declared.Cell.{Cell}
 use Rattle.be_span.specs.Cells.{exposed_as}
 use Rattle.be_span.specs.Spans.{Spans, cell_in}
-use Rattle.be_span.proofs.GridLemmas.{either}
 use Rattle.be_span.proofs.CellLemmas.{cell_none}
-use Rattle.be_desk.specs.Renewals.{IsBesideMoved, IsFresh, color_at, exposed_by, is_kept_at, is_kept_by}
-use Rattle.be_desk.specs.declared.renewal.Motion.{Motion}
-use Rattle.be_desk.specs.declared.renewal.Motion.TheVariants.{Still, Moving}
+use Rattle.be_desk.specs.Renewals.{IsBesideMoved, IsFresh, color_at, exposed_by, is_kept_at}
 use Rattle.be_desk.specs.declared.renewal.Renewal.{Renewal}
 
 -- ---- regions
@@ -23,37 +21,11 @@ had true true has none = refl
 had true false has none = cc
 had false b has none = cc
 
-pub still_fresh : (r : Renewal) (region fresh : List Rect) → r.motion ≡ Still → IsDifference fresh region r.pane.now.spans.rects → IsFresh r region fresh
-still_fresh r region fresh still is =
-    let owned : ℤ → ℤ → Bool = λ x y. region_has r.pane.now.spans.rects x y in
-    record {
-      within = λ x y has. (and_parts (region_has region x y) (not (owned x y)) (sym (is x y) ∙ has)).0;
-      kept = λ x y has none. ap (λ (m : Motion). is_kept_by m r x y) still ∙ had (region_has region x y) (owned x y) has (sym (is x y) ∙ none);
-    }
-
-pub moved_fresh : (r : Renewal) (region fresh : List Rect) (dx dy : ℤ) → r.motion ≡ Moving dx dy → IsBesideMoved fresh region r.pane.now.spans.rects dx dy → IsFresh r region fresh
-moved_fresh r region fresh dx dy moving is = record {
-  within = is.within;
-  kept = λ x y has none. ap (λ (m : Motion). is_kept_by m r x y) moving ∙ is.beside x y has none;
-}
-
-pub whole_fresh : (r : Renewal) (region fresh : List Rect) → SamePixels fresh region → IsFresh r region fresh
-whole_fresh r region fresh same = record {
-  within = λ x y has. sym (same x y) ∙ has;
-  kept = λ x y has none. absurd (true≢false (sym has ∙ sym (same x y) ∙ none));
-}
-
 pub beside_moved : (rest region now moved other : List Rect) (dx dy : ℤ) → SamePixels now other → IsMoved moved now dx dy → IsDifference rest region moved → IsBesideMoved rest region other dx dy
 beside_moved rest region now moved other dx dy same is beside = record {
   within = λ x y has. (and_parts (region_has region x y) (not (region_has moved x y)) (sym (beside x y) ∙ has)).0;
   beside = λ x y has none.
       sym (same (x -ℤ dx) (y -ℤ dy)) ∙ sym (is x y) ∙ had (region_has region x y) (region_has moved x y) has (sym (beside x y) ∙ none);
-}
-
-pub all_beside : (rest region other : List Rect) (dx dy : ℤ) → SamePixels rest region → IsBesideMoved rest region other dx dy
-all_beside rest region other dx dy same = record {
-  within = λ x y has. sym (same x y) ∙ has;
-  beside = λ x y has none. absurd (true≢false (sym has ∙ sym (same x y) ∙ none));
 }
 
 -- ---- exposing
@@ -65,7 +37,7 @@ unexposed false color o e = cc
 
 stays : (r : Renewal) (old : Spans) (fresh : List Rect) (x y : ℤ) → IsFresh r old.rects fresh → region_has fresh x y ≡ false → option_map (exposed_by r x y) (cell_in old x y) ≡ cell_in old x y
 stays r old fresh x y is none =
-    elim (either (region_has old.rects x y)) [
+    elim (true_or_false (region_has old.rects x y)) [
       | inl e ↦ unexposed (is_kept_at r x y) (color_at r x y) (cell_in old x y) (is.kept x y e none)
       | inr e ↦ ap (option_map (exposed_by r x y)) (cell_none old x y e) ∙ sym (cell_none old x y e)
     ]
@@ -76,7 +48,7 @@ all_fresh r old new fresh m all is h x y =
     let then_cell : Option Cell = option_map (exposed_by r x y) (cell_in old x y) in
     h x y
     ∙ ap (λ (l : List Rect). cond (region_has l x y) then_cell (cell_in old x y)) (take_all m fresh all)
-    ∙ elim (either (region_has fresh x y)) [
+    ∙ elim (true_or_false (region_has fresh x y)) [
       | inl e ↦ cond-true (region_has fresh x y) then_cell (cell_in old x y) e
       | inr e ↦ cond-false (region_has fresh x y) then_cell (cell_in old x y) e ∙ sym (stays r old fresh x y is e)
     ]

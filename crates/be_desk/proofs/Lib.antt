@@ -16,3 +16,4 @@ pub mod StandLemmas
 mod ShownLemmas
 pub mod CarryLemmas
 mod LentLemmas
+pub mod TakenLemmas

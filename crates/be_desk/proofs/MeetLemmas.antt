@@ -6,10 +6,10 @@ use Rattle.std.proofs.lemmas.Bool.{true≢false}
 use Rattle.std.proofs.lemmas.List.{take_all}
 use Rattle.std.proofs.lemmas.List.Folds.{list_any_more}
 use Rattle.std.proofs.lemmas.Option.{get_or_from_slice_get, same_Some}
+use Rattle.be_facts.proofs.Truths.{and_both, true_or_false}
 use Rattle.be_geom.specs.declared.rect.Rect.{Rect}
 use Rattle.be_geom.specs.Rects.{rect_has, AreDisjoint}
 use Rattle.be_region.specs.Regions.{region_has}
-use Rattle.be_span.proofs.GridLemmas.{either}
 use Rattle.be_span.proofs.LaidLemmas.{rect_inside}
 use Rattle.be_stack.specs.Owner.{covers, covers_pixel}
 use Rattle.be_stack.specs.Visible.{IsVisible}
@@ -17,7 +17,6 @@ use Rattle.be_stack.specs.Windows.{Windows, passes, is_shown_window}
 use Rattle.be_stack.specs.declared.window.Window.{Window}
 use Rattle.be_desk.specs.Affected.{AreApart, CoversNone, IsBeside, OwnsNone}
 use Rattle.be_desk.proofs.OthersLemmas.{unowned}
-use Rattle.be_desk.proofs.SizeLemmas.{both_true}
 
 -- the frame of a window, if there is one
 abbrev pub frame_in : Option Window → Option Rect
@@ -25,7 +24,7 @@ frame_in o = option_map (λ window. window.frame) o
 
 covered_in : (o : Option Window) (frame : Rect) (x y : ℤ) → frame_in o ≡ Some frame → passes (covers_pixel x y) o ≡ true → rect_has frame x y ≡ true
 covered_in (Some window) frame x y e covered =
-    sym (ap (λ (r : Rect). rect_has r x y) (same_Some window.frame frame e)) ∙ (both_true (is_shown_window window) (rect_has window.frame x y) covered).1
+    sym (ap (λ (r : Rect). rect_has r x y) (same_Some window.frame frame e)) ∙ (and_both (is_shown_window window) (rect_has window.frame x y) covered).1
 covered_in None frame x y e covered = cc
 
 pub covers_within : (s : Windows) (u : ℕ) (frame : Rect) (region : List Rect) → frame_in (slice_get s.windows u) ≡ Some frame → ((x y : ℤ) → rect_has frame x y ≡ true → region_has region x y ≡ false) → CoversNone s u region
@@ -41,7 +40,7 @@ covers_nothing s u region e x y covered = absurd (none_covers (slice_get s.windo
 
 -- where it covers none it owns none
 pub covered_owned : (s : Windows) (u : ℕ) (region : List Rect) → CoversNone s u region → OwnsNone s u region
-covered_owned s u region none x y has = elim (either (covers s.windows x y u)) [
+covered_owned s u region none x y has = elim (true_or_false (covers s.windows x y u)) [
   | inl covered ↦ absurd (true≢false (sym has ∙ none x y covered))
   | inr free ↦ unowned s u x y free
 ]
@@ -102,13 +101,13 @@ apart_part one other n part got apart x y has = apart x y (rect_inside one n par
 -- ---- what is owned of a region
 
 pub apart_owned : (own region : List Rect) (s : Windows) (u : ℕ) → IsVisible own s u → AreApart own region → OwnsNone s u region
-apart_owned own region s u visible apart x y has = elim (either (region_has own x y)) [
+apart_owned own region s u visible apart x y has = elim (true_or_false (region_has own x y)) [
   | inl owned ↦ absurd (true≢false (sym has ∙ apart x y owned))
   | inr free ↦ sym (visible x y) ∙ free
 ]
 
 pub owned_apart : (own region : List Rect) (s : Windows) (u : ℕ) → IsVisible own s u → OwnsNone s u region → AreApart own region
-owned_apart own region s u visible none x y owned = elim (either (region_has region x y)) [
+owned_apart own region s u visible none x y owned = elim (true_or_false (region_has region x y)) [
   | inl has ↦ absurd (true≢false (sym (sym (visible x y) ∙ owned) ∙ none x y has))
   | inr free ↦ free
 ]

@@ -5,6 +5,7 @@ use Rattle.std.proofs.Common.{◌≡◌, ℕ, zero, suc, Bool, true, false, cond
 use Rattle.std.proofs.lemmas.Bool.{cases_eq}
 use Rattle.std.proofs.lemmas.Int.{ints}
 use Rattle.std.proofs.lemmas.Option.{none-some, same_Some}
+use Rattle.be_facts.proofs.Lists.{set_length, set_other}
 use Rattle.be_geom.specs.declared.change.Change.{Change}
 use Rattle.be_geom.specs.declared.change.Change.TheVariants.{Show, Hide, MoveTo, MoveBy, ResizeTo, Activate, Behind, Focus, Close}
 use Rattle.be_geom.specs.declared.rect.Rect.{Rect}
@@ -28,7 +29,7 @@ use Rattle.be_desk.proofs.SameLemmas.{rebuilt}
 
 -- ---- a resized tree
 
-first_kept : (root : Rect) (tree : Tree) (f : Rect) (done : List Rect) (rest : List View) → slice_get (frames_from root tree (f ∷ done) rest) 0 ≡ Some f
+pub first_kept : (root : Rect) (tree : Tree) (f : Rect) (done : List Rect) (rest : List View) → slice_get (frames_from root tree (f ∷ done) rest) 0 ≡ Some f
 first_kept root tree f done [] = refl
 first_kept root tree f done (view ∷ rest) =
     first_kept root tree f (done ++ frame_in root tree (f ∷ done) view view.parent ∷ []) rest
@@ -72,22 +73,10 @@ set_got [] w x y e = absurd (none-some y e)
 set_got (z ∷ zs) zero x y e = same_Some x y e
 set_got (z ∷ zs) (suc w) x y e = set_got zs w x y e
 
-pub set_other : {A : Type 0} (xs : List A) (w u : ℕ) (x : A) → (u ≡ w → ⊥) → slice_get (slice_set xs w x) u ≡ slice_get xs u
-set_other [] w u x other = refl
-set_other (y ∷ ys) zero zero x other = absurd (other refl)
-set_other (y ∷ ys) zero (suc u) x other = refl
-set_other (y ∷ ys) (suc w) zero x other = refl
-set_other (y ∷ ys) (suc w) (suc u) x other = set_other ys w u x (λ e. other (ap suc e))
-
 pub set_there : {A : Type 0} (xs : List A) (w : ℕ) (x y : A) → slice_get xs w ≡ Some y → slice_get (slice_set xs w x) w ≡ Some x
 set_there [] w x y e = absurd (none-some y e)
 set_there (z ∷ zs) zero x y e = refl
 set_there (z ∷ zs) (suc w) x y e = set_there zs w x y e
-
-pub set_many : {A : Type 0} (xs : List A) (w : ℕ) (x : A) → length (slice_set xs w x) ≡ length xs
-set_many [] w x = refl
-set_many (y ∷ ys) zero x = refl
-set_many (y ∷ ys) (suc w) x = ap suc (set_many ys w x)
 
 -- ---- the frame of the changed window
 
@@ -189,7 +178,7 @@ own_root Close a b w old new root rooted trees frame got = stays_root a b w old 
 -- the views of the other windows, and how many there are
 pub other_trees : (change : Change) (old new : List Tree) (w : ℕ) → TreesAfter old new w change → (length new ≡ length old) × ((u : ℕ) → (u ≡ w → ⊥) → slice_get new u ≡ slice_get old u)
 other_trees (ResizeTo width height) old new w trees = (
-  ap (λ (l : List Tree). length l) trees.4 ∙ set_many old w trees.1,
+  ap (λ (l : List Tree). length l) trees.4 ∙ set_length old w trees.1,
   λ u other. ap (λ (l : List Tree). slice_get l u) trees.4 ∙ set_other old w u trees.1 other,
 )
 other_trees Show old new w same = (ap (λ (l : List Tree). length l) same, λ u other. ap (λ (l : List Tree). slice_get l u) same)

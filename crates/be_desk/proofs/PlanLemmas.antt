@@ -1,5 +1,5 @@
 -- What the panes of a change tell of the screen, and that each pixel afterwards has a view and a colour.
-use Rattle.std.specs.Prelude.{ℤ, pos, ◌+ℤ◌, ◌-ℤ◌, ◌≤ℤ◌, ◌==◌, ◌&&◌, slice_get, option_and_then, IsSome, map, find}
+use Rattle.std.specs.Prelude.{ℤ, pos, ◌+ℤ◌, ◌-ℤ◌, ◌==◌, ◌&&◌, slice_get, option_and_then, IsSome, map, find}
 use Rattle.std.specs.List.{Contains, list_any}
 use Rattle.std.specs.Option.{option_map}
 use Rattle.std.proofs.Common.{◌≡◌, ℕ, zero, suc, ◌<◌, Bool, true, false, cond, List, [], ◌∷◌, length, get_or, Option, Some, None, inl, inr, eq-eqb, refl, sym, ap, ◌∙◌, subst, arith}
@@ -7,13 +7,15 @@ use Rattle.std.proofs.lemmas.Bool.{cases_eq, eqb-true, false≢true, or_parts, a
 use Rattle.std.proofs.lemmas.Int.{ints}
 use Rattle.std.proofs.lemmas.List.Elements.{Contains-get_or}
 use Rattle.std.proofs.lemmas.Option.{same_Some, slice_get-map, slice_get_within, slice_get-get_or, slice_get_read}
+use Rattle.be_facts.proofs.Truths.{and_both}
 use Rattle.be_color.specs.declared.colors.Color.{Color}
 use Rattle.be_geom.specs.Numbers.{is_number}
-use Rattle.be_geom.specs.Points.{between}
 use Rattle.be_geom.specs.Rects.{rect_has}
 use Rattle.be_geom.specs.declared.change.Change.{Change}
 use Rattle.be_geom.specs.declared.point.Point.{Point}
 use Rattle.be_geom.specs.declared.rect.Rect.{Rect}
+use Rattle.be_geom.proofs.Between.{is_between}
+use Rattle.be_geom.proofs.Numbered.{number_is}
 use Rattle.be_input.specs.Pointing.{corner_of}
 use Rattle.be_pane.specs.declared.pane.Pane.{Pane}
 use Rattle.be_region.specs.Regions.{region_has}
@@ -26,6 +28,7 @@ use Rattle.be_views.specs.Pixels.{view_at, view_below, descended, last_child_at}
 use Rattle.be_views.specs.Trees.{Tree, View, left_top}
 use Rattle.be_views.proofs.ChildLemmas.{in_frame}
 use Rattle.be_views.proofs.FrontLemmas.{child_is}
+use Rattle.be_views.proofs.TreeLemmas.{root_of}
 use Rattle.be_desk.specs.Affected.{HasAltered}
 use Rattle.be_desk.specs.Changes.{Desk, owns}
 use Rattle.be_desk.specs.Desks.{IsPaired, at_origin}
@@ -33,7 +36,6 @@ use Rattle.be_desk.specs.Plans.{ArePanesOf, IsScreenOf}
 use Rattle.be_desk.specs.Renewals.{AreColored, AreUnder, color_at, is_in_some, view_from}
 use Rattle.be_desk.specs.Renewed.{IsRenewalIn}
 use Rattle.be_desk.specs.declared.renewal.Renewal.{Renewal}
-use Rattle.be_desk.proofs.SizeLemmas.{both_true}
 
 -- ---- panes by the numbers of their windows
 
@@ -81,16 +83,12 @@ nobody before after panes k pane x y of_panes affected got owner none (Some v) e
     let there = (of_panes found.0 found.1.0 found.1.1.0).pixels x y ∙ ap (λ n. owns before n x y) found.1.1.1 ∙ here in
     absurd (false≢true (sym (none_at (λ (p : Pane). region_has p.spans.rects x y) panes found.0 found.1.0 none found.1.1.0) ∙ there))
 
-pub owner_is : (u : ℕ) (o : Option ℕ) → is_number u o ≡ true → o ≡ Some u
-owner_is u (Some m) e = ap (λ k. Some k) (eqb-true m u e)
-owner_is u None e = cc
-
 pub under : (before after : Desk) (panes : List Pane) (k : ℕ) (pane : Pane) (region : List Rect) (cells : ℤ → ℤ → Cell) → ArePanesOf before panes → HasAltered before.windows after.windows (map (λ p. p.window) panes) → slice_get panes k ≡ Some pane → ((x y : ℤ) → region_has region x y ≡ owns after pane.window x y) → IsScreenOf cells before panes → AreUnder panes region cells
 under before after panes k pane region cells of_panes affected got visible screen = record {
   shown = λ i d within.
       let at = slice_get-get_or panes i d within in
       λ x y has. screen.windows i (get_or panes i d) at x y (sym ((of_panes i (get_or panes i d) at).pixels x y) ∙ has);
-  desktop = λ x y has none. screen.desktop x y (nobody before after panes k pane x y of_panes affected got (owner_is pane.window (owner_at after.windows x y) (sym (visible x y) ∙ has)) none (owner_at before.windows x y) refl);
+  desktop = λ x y has none. screen.desktop x y (nobody before after panes k pane x y of_panes affected got (number_is pane.window (owner_at after.windows x y) (sym (visible x y) ∙ has)) none (owner_at before.windows x y) refl);
 }
 
 -- ---- views
@@ -100,7 +98,7 @@ found_there n tree u x y below here None e = here
 found_there n tree u x y below here (Some child) e =
     below child.0 (x -ℤ child.1.frame.left) (y -ℤ child.1.frame.top) (slice_get_within tree child.0 child.1 (child_is tree u x y child e).got)
 
-below_there : (n : ℕ) (tree : Tree) (u : ℕ) (x y : ℤ) → u < length tree → view_below n tree u x y < length tree
+pub below_there : (n : ℕ) (tree : Tree) (u : ℕ) (x y : ℤ) → u < length tree → view_below n tree u x y < length tree
 below_there zero tree u x y here = here
 below_there (suc n) tree u x y here =
     found_there n tree u x y (λ v z t l. below_there n tree v z t l) here (last_child_at tree u x y) refl
@@ -111,10 +109,6 @@ view_there tree root x y got has =
     let v = view_below (length tree) tree 0 x y in
     (v, (below_there (length tree) tree 0 x y (slice_get_within tree 0 root got), ap (option_and_then (λ (r : View). cond (rect_has r.frame x y) (Some v) None)) got ∙ ap (λ b. cond b (Some v) None) has))
 
-lies_between : (low z high : ℤ) → low ≤ℤ z → z ≤ℤ high → between low z high ≡ true
-unfolding between
-lies_between low z high l h = grind (arith, ints)
-
 -- a pixel of a frame is in the frame as it is seen from its left top
 at_origin_has : (r : Rect) (x y : ℤ) → rect_has r x y ≡ true → rect_has (at_origin r) (x -ℤ r.left) (y -ℤ r.top) ≡ true
 at_origin_has r x y has =
@@ -123,8 +117,8 @@ at_origin_has r x y has =
     let h = inside.1 in
     let t = inside.2 in
     let b = inside.3 in
-    and_from _ _ (lies_between (r.left +ℤ (pos 0 -ℤ r.left)) (x -ℤ r.left) (r.right +ℤ (pos 0 -ℤ r.left)) (omega (arith, ints)) (omega (arith, ints)))
-    (lies_between (r.top +ℤ (pos 0 -ℤ r.top)) (y -ℤ r.top) (r.bottom +ℤ (pos 0 -ℤ r.top)) (omega (arith, ints)) (omega (arith, ints)))
+    and_from _ _ (is_between (r.left +ℤ (pos 0 -ℤ r.left)) (x -ℤ r.left) (r.right +ℤ (pos 0 -ℤ r.left)) (omega (arith, ints)) (omega (arith, ints)))
+    (is_between (r.top +ℤ (pos 0 -ℤ r.top)) (y -ℤ r.top) (r.bottom +ℤ (pos 0 -ℤ r.top)) (omega (arith, ints)) (omega (arith, ints)))
 
 -- ---- owned pixels
 
@@ -141,16 +135,12 @@ unfolding owner_at
 owned_covered s u x y owned = covered_owned (is_on_screen s.width x && is_on_screen s.height y) (covers s.windows x y) u s.order owned
 
 covering : (o : Option Window) (x y : ℤ) → passes (covers_pixel x y) o ≡ true → (window : Window) × ((o ≡ Some window) × (rect_has window.frame x y ≡ true))
-covering (Some window) x y e = (window, (refl, (both_true (is_shown_window window) (rect_has window.frame x y) e).1))
+covering (Some window) x y e = (window, (refl, (and_both (is_shown_window window) (rect_has window.frame x y) e).1))
 covering None x y e = cc
 
 -- the window that has the pixel
 pub owned_in : (s : Windows) (u : ℕ) (x y : ℤ) → is_number u (owner_at s x y) ≡ true → (window : Window) × ((slice_get s.windows u ≡ Some window) × (rect_has window.frame x y ≡ true))
 owned_in s u x y owned = covering (slice_get s.windows u) x y (owned_covered s u x y owned)
-
-got_root : (tree : Tree) → 0 < length tree → (root : View) × (slice_get tree 0 ≡ Some root)
-got_root [] h = absurd (omega arith)
-got_root (root ∷ tree) h = (root, refl)
 
 some_color : (o : Option Color) (c : Color) → o ≡ Some c → IsSome o
 some_color (Some d) c e = refl
@@ -165,7 +155,7 @@ got_color (c ∷ cs) (suc v) h = got_color cs v (omega arith)
 pub owned_view : (after : Desk) (u : ℕ) (place : Point) (tree : Tree) (x y : ℤ) → IsPaired after → 0 < length tree → corner_of after.windows u ≡ Some place → slice_get after.pointing.trees u ≡ Some tree → owns after u x y ≡ true → (v : ℕ) × ((v < length tree) × (view_from tree place x y ≡ Some v))
 owned_view after u place tree x y paired some corner views owned =
     let window = owned_in after.windows u x y owned in
-    let root = got_root tree some in
+    let root = root_of tree some in
     let is_root = paired.rooted u window.0 root.0 window.1.0 (ap (option_and_then (λ (t : Tree). slice_get t 0)) views ∙ root.1) in
     let at : left_top window.0.frame ≡ place = same_Some (left_top window.0.frame) place (sym (ap (option_map (λ (w : Window). left_top w.frame)) window.1.0) ∙ corner) in
     let has = ap (λ (r : Rect). rect_has r (x -ℤ window.0.frame.left) (y -ℤ window.0.frame.top)) is_root.frame ∙ at_origin_has window.0.frame x y window.1.1 in

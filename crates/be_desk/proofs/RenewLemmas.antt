@@ -1,20 +1,20 @@
 -- The new cells of a window, layer by layer.
-use Rattle.std.proofs.Common.{◌≡◌, ℕ, zero, suc, ◌+◌, ◌<◌, ℤ, ◌-ℤ◌, pos, Bool, true, false, ◌||◌, ◌⊎◌, inl, inr, List, [], ◌∷◌, length, take, get_or, Option, Some, None, slice_get, cond, refl, sym, ap, ◌∙◌, subst, arith}
+use Rattle.std.proofs.Common.{◌≡◌, ℕ, zero, suc, ◌+◌, ◌<◌, ℤ, ◌-ℤ◌, pos, Bool, true, false, ◌||◌, ◌⊎◌, inl, inr, List, [], ◌∷◌, length, take, get_or, Option, Some, None, slice_get, cond, refl, sym, ap, ◌∙◌, subst}
 use Rattle.std.specs.Prelude.{IsSome, is_some, option_and_then}
 use Rattle.std.specs.Option.{option_map}
 use Rattle.std.specs.List.{list_any}
-use Rattle.std.proofs.lemmas.Int.{ints}
 use Rattle.std.proofs.lemmas.Bool.{or_left, or_right, and_parts, true≢false}
 use Rattle.std.proofs.lemmas.List.Elements.{All-get_or}
 use Rattle.std.proofs.lemmas.List.Folds.{list_any_more}
 use Rattle.std.proofs.lemmas.Option.{none-some, same_Some}
+use Rattle.be_facts.proofs.Numbers.{minus_zero}
+use Rattle.be_facts.proofs.Truths.{true_or_false}
 use Rattle.be_color.specs.declared.colors.Color.{Color}
 use Rattle.be_color.specs.declared.colors.Color.TheVariants.{Solid, Clear}
 use Rattle.be_region.specs.Regions.{region_has}
 use Rattle.be_span.specs.declared.Cell.{Cell}
 use Rattle.be_span.specs.Cells.{desktop_cell, exposed_as}
 use Rattle.be_span.specs.Spans.{cell_in, laid}
-use Rattle.be_span.proofs.GridLemmas.{either}
 use Rattle.be_span.proofs.CellLemmas.{cell_none}
 use Rattle.be_pane.specs.declared.pane.Pane.{Pane}
 use Rattle.be_desk.specs.Changes.{or_exposed}
@@ -66,7 +66,7 @@ resized_by r cells x y shown (inr e) = inl (cell_none r.pane.now.spans x y e)
 other_brought : (m : Motion) (r : Renewal) (cells : ℤ → ℤ → Cell) (x y : ℤ) → IsShown cells r.pane.now → is_kept_by m r x y ≡ false → (brought_by m r.pane.now.spans x y ≡ None) ⊎ (brought_by m r.pane.now.spans x y ≡ Some (cells x y))
 other_brought Still r cells x y shown e = inl (cell_none r.pane.now.spans x y e)
 other_brought (Moving dx dy) r cells x y shown e = inl (cell_none r.pane.now.spans (x -ℤ dx) (y -ℤ dy) e)
-other_brought Resizing r cells x y shown e = resized_by r cells x y shown (either (owned r x y))
+other_brought Resizing r cells x y shown e = resized_by r cells x y shown (true_or_false (owned r x y))
 
 -- ---- the layers of a pixel
 
@@ -99,16 +99,13 @@ pane_step false true c (Some d) now new brought some e shown gone g = g ∙ ap (
 pane_step false true c None now new brought some e shown gone g = absurd (true≢false (sym some))
 pane_step false false c old now new brought some e shown gone g = g ∙ ap (λ b. laid b now) (gone refl) ∙ e
 
-less_none : (z : ℤ) → z -ℤ pos 0 ≡ z
-less_none z = omega (arith, ints)
-
 -- one pane more, laid where it is
 pub pane_more : (cells : ℤ → ℤ → Cell) (panes : List Pane) (i : ℕ) (pane : Pane) (x y : ℤ) (old now new : Option Cell) → i < length panes → pane ≡ get_or panes i pane → AreShown cells panes → IsSome old → now ≡ cond (is_in_some (take i panes) x y) (Some (cells x y)) old → new ≡ laid (cell_in pane.spans (x -ℤ pos 0) (y -ℤ pos 0)) now → new ≡ cond (is_in_some (take (i + 1) panes) x y) (Some (cells x y)) old
 pane_more cells panes i pane x y old now new less is shown some e g =
     let has : Pane → Bool = λ p. region_has p.spans.rects x y in
     let here : IsShown cells pane = subst (IsShown cells) (sym is) (All-get_or (IsShown cells) panes i pane less shown) in
     pane_step (is_in_some (take i panes) x y) (has pane) (cells x y) old now new (cell_in pane.spans x y) some e (here x y) (cell_none pane.spans x y)
-    (g ∙ ap (λ z. laid (cell_in pane.spans z (y -ℤ pos 0)) now) (less_none x) ∙ ap (λ w. laid (cell_in pane.spans x w) now) (less_none y))
+    (g ∙ ap (λ z. laid (cell_in pane.spans z (y -ℤ pos 0)) now) (minus_zero x) ∙ ap (λ w. laid (cell_in pane.spans x w) now) (minus_zero y))
     ∙ ap (λ b. cond b (Some (cells x y)) old) (sym (list_any_more has panes i pane less ∙ ap (λ p. is_in_some (take i panes) x y || has p) (sym is)))
 
 -- ---- the background

@@ -1,18 +1,22 @@
 -- Cells changed by a rule, run by run, row by row and rectangle by rectangle.
-use Rattle.std.proofs.Common.{◌≡◌, ℕ, zero, suc, ◌+◌, ◌-◌, ◌<◌, ℤ, pos, ◌+ℤ◌, ◌-ℤ◌, ◌≤ℤ◌, ◌<ℤ◌, Bool, true, false, ◌||◌, ◌⊎◌, inl, inr, List, [], ◌∷◌, take, Option, Some, None, slice_get, cond, refl, sym, ap, ◌∙◌, subst, arith, add-one}
+use Rattle.std.proofs.Common.{◌≡◌, ℕ, ◌+◌, ◌-◌, ◌<◌, ℤ, pos, ◌+ℤ◌, ◌-ℤ◌, ◌≤ℤ◌, ◌<ℤ◌, Bool, true, false, ◌||◌, ◌⊎◌, inl, inr, List, [], take, Option, Some, None, slice_get, cond, refl, sym, ap, ◌∙◌, subst, arith, add-one}
 use borrow.Author.Differences.{up, down}
 use Rattle.std.specs.Option.{option_map}
 use Rattle.std.specs.Prelude.{unsigned_abs}
 use Rattle.std.proofs.lemmas.Int.{ints, by_lt_z}
-use Rattle.std.proofs.lemmas.Bool.{cond-true, cond-false, true≢false}
-use Rattle.std.proofs.lemmas.Option.{none-some, same_Some}
+use Rattle.std.proofs.lemmas.Bool.{cond-true, cond-false}
+use Rattle.be_facts.proofs.Truths.{true_or_false}
+use Rattle.be_facts.proofs.Numbers.{unsigned_abs_is}
 use Rattle.be_geom.specs.declared.rect.Rect.{Rect}
 use Rattle.be_geom.specs.Rects.{rect_has}
+use Rattle.be_geom.proofs.RectLemmas.{out_of}
 use Rattle.be_region.specs.Regions.{region_has}
 use Rattle.be_span.specs.declared.Cell.{Cell}
 use Rattle.be_span.specs.Runs.{IsBeside}
 use Rattle.be_span.specs.Spans.{Spans, cell_in}
-use Rattle.be_span.proofs.GridLemmas.{either, IsIn, in_from, has_from, pos_abs}
+use Rattle.be_span.proofs.GridLemmas.{IsIn, in_from}
+use Rattle.be_span.proofs.LaidLemmas.{has_more}
+use Rattle.be_span.proofs.CellLemmas.{same_map}
 use Rattle.be_desk.specs.Exposing.{Rule, IsRuledRow, IsRuledAbove}
 
 -- ---- what is left to do
@@ -26,16 +30,8 @@ fewer_left last new ahead range = omega (arith, ints)
 
 -- ---- a run
 
-pub same_map : (f g : Cell → Cell) → ((c : Cell) → f c ≡ g c) → (o : Option Cell) → option_map f o ≡ option_map g o
-same_map f g h None = refl
-same_map f g h (Some c) = ap Some (h c)
-
-pub kept_map : (f : Cell → Cell) → ((c : Cell) → f c ≡ c) → (o : Option Cell) → o ≡ option_map f o
-kept_map f h None = refl
-kept_map f h (Some c) = ap Some (sym (h c))
-
 pub count_is : (x last : ℤ) → x ≤ℤ last → pos (unsigned_abs (last -ℤ x +ℤ pos 1)) ≡ last -ℤ x +ℤ pos 1
-count_is x last h = pos_abs (last -ℤ x +ℤ pos 1) (omega (arith, ints))
+count_is x last h = unsigned_abs_is (last -ℤ x +ℤ pos 1) (omega (arith, ints))
 
 -- the same rule for each cell of a run, told column by column
 pub ruled_run : (f : Cell → Cell) (old new : Spans) (x y last : ℤ) (n : ℕ) → pos n ≡ last -ℤ x +ℤ pos 1 → ((k : ℕ) → k < n → cell_in new (x +ℤ pos k) y ≡ option_map f (cell_in old (x +ℤ pos k) y)) → ((z w : ℤ) → IsBeside x y n z w → cell_in new z w ≡ cell_in old z w) → IsRuledRow (λ z w. f) old new x y (last +ℤ pos 1)
@@ -45,7 +41,7 @@ ruled_run f old new x y last n long inside beside = record {
 }
   where
     column : (z : ℤ) → x ≤ℤ z → x +ℤ pos (unsigned_abs (z -ℤ x)) ≡ z
-    column z from = let e = pos_abs (z -ℤ x) (omega (arith, ints)) in omega (arith, ints)
+    column z from = let e = unsigned_abs_is (z -ℤ x) (omega (arith, ints)) in omega (arith, ints)
 
     at : (k : ℕ) (z : ℤ) → x +ℤ pos k ≡ z → z ≤ℤ last → cell_in new z y ≡ option_map f (cell_in old z y)
     at k z e to = let P : ℤ → Type 0 = λ a. cell_in new a y ≡ option_map f (cell_in old a y) in subst P e (inside k (omega (arith, ints)))
@@ -54,10 +50,6 @@ ruled_run f old new x y last n long inside beside = record {
     outside z w (inl h) = inl h
     outside z w (inr (inl h)) = inr (inl h)
     outside z w (inr (inr h)) = inr (inr (omega (arith, ints)))
-
--- a rule that leaves each cell
-pub ruled_same : (f : Cell → Cell) (old : Spans) (x y end : ℤ) → ((c : Cell) → f c ≡ c) → IsRuledRow (λ z w. f) old old x y end
-ruled_same f old x y end h = record { inside = λ z from to. kept_map f h (cell_in old z y); beside = λ z w h. refl }
 
 -- ---- a row
 
@@ -127,15 +119,10 @@ above_more rule old now new r y low so_far row = record {
     above_side x w (inr (inr (inl h))) = inr (inr (inl h))
     above_side x w (inr (inr (inr h))) = inr (inr (inr (omega (arith, ints))))
 
--- a pixel outside a rectangle lies on one of its sides
-out_of : (r : Rect) (x y : ℤ) → rect_has r x y ≡ false → (x <ℤ r.left) ⊎ (r.right <ℤ x) ⊎ (y <ℤ r.top) ⊎ ((r.bottom +ℤ pos 1) ≤ℤ y)
-out_of r x y e =
-    by_lt_z x r.left inl (λ left. by_lt_z r.right x (λ h. inr (inl h)) (λ right. by_lt_z y r.top (λ h. inr (inr (inl h))) (λ top. by_lt_z r.bottom y (λ h. inr (inr (inr (omega (arith, ints))))) (λ bottom. absurd (true≢false (sym (has_from r x y record { left = left; right = right; top = top; bottom = bottom }) ∙ e))))))
-
 -- all rows
 pub above_all : (rule : Rule) (old new : Spans) (r : Rect) (end x y : ℤ) → end ≡ r.bottom +ℤ pos 1 → IsRuledAbove rule old new r end → cell_in new x y ≡ cond (rect_has r x y) (option_map (rule x y) (cell_in old x y)) (cell_in old x y)
 above_all rule old new r end x y last h =
-    elim (either (rect_has r x y)) [
+    elim (true_or_false (rect_has r x y)) [
       | inl e ↦ inside (in_from r x y e) ∙ sym (cond-true (rect_has r x y) (option_map (rule x y) (cell_in old x y)) (cell_in old x y) e)
       | inr e ↦ h.beside x y (outside (out_of r x y e)) ∙ sym (cond-false (rect_has r x y) (option_map (rule x y) (cell_in old x y)) (cell_in old x y) e)
     ]
@@ -150,19 +137,6 @@ above_all rule old new r end x y last h =
     outside (inr (inr (inr s))) = inr (inr (inr (omega (arith, ints))))
 
 -- ---- all rectangles
-
-has_more : (rs : List Rect) (m : ℕ) (r : Rect) (x y : ℤ) → slice_get rs m ≡ Some r → region_has (take (suc m) rs) x y ≡ (region_has (take m rs) x y || rect_has r x y)
-has_more [] m r x y e = absurd (none-some r e)
-has_more (q ∷ rs) zero r x y e = or_false (rect_has q x y) ∙ ap (λ s. rect_has s x y) (same_Some q r e)
-  where
-    or_false : (b : Bool) → (b || false) ≡ b
-    or_false true = refl
-    or_false false = refl
-has_more (q ∷ rs) (suc m) r x y e = ap (λ b. rect_has q x y || b) (has_more rs m r x y e) ∙ or_turned (rect_has q x y) (region_has (take m rs) x y) (rect_has r x y)
-  where
-    or_turned : (a b c : Bool) → (a || (b || c)) ≡ ((a || b) || c)
-    or_turned true b c = refl
-    or_turned false b c = refl
 
 map_twice : (f : Cell → Cell) → ((c : Cell) → f (f c) ≡ f c) → (o : Option Cell) → option_map f (option_map f o) ≡ option_map f o
 map_twice f h None = refl

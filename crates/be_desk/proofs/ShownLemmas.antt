@@ -4,6 +4,7 @@ use Rattle.std.proofs.Common.{◌≡◌, ℕ, zero, suc, ◌<◌, Bool, true, fa
 use Rattle.std.proofs.lemmas.Bool.{eqb-true}
 use Rattle.std.proofs.lemmas.Option.{get_or_from_slice_get, same_Some, slice_get_within}
 use Rattle.be_geom.specs.Numbers.{is_number}
+use Rattle.be_geom.proofs.Numbered.{number_is}
 use Rattle.be_pane.specs.declared.pane.Pane.{Pane}
 use Rattle.be_span.specs.Cells.{desktop_cell}
 use Rattle.be_span.specs.Spans.{cell_in}
@@ -13,7 +14,6 @@ use Rattle.be_stack.specs.Owner.{owner_at}
 use Rattle.be_desk.specs.Changes.{Desk, owns}
 use Rattle.be_desk.specs.Laws.{PanesShowAScreen}
 use Rattle.be_desk.specs.Plans.{ArePanesOf, AreAscending}
-use Rattle.be_desk.proofs.PlanLemmas.{owner_is}
 
 -- the cell of the first pane that has the pixel, else the desktop's
 shown_by : List Pane → ℤ → ℤ → Cell
@@ -48,7 +48,7 @@ none_before desk panes j k other pane x y of_panes ascending less at got owned =
     let apart : other.window < pane.window = subst (λ (p : Pane). p.window < pane.window) first (subst (λ (p : Pane). (get_or panes j pane).window < p.window) second below) in
     cell_none other.spans x y
     ((of_panes j other at).pixels x y
-    ∙ ap (is_number other.window) (owner_is pane.window (owner_at desk.windows x y) owned)
+    ∙ ap (is_number other.window) (number_is pane.window (owner_at desk.windows x y) owned)
     ∙ other_owner (pane.window == other.window) other.window pane.window refl apart)
 
 pub panes_show_a_screen : PanesShowAScreen

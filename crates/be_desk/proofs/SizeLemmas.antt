@@ -1,17 +1,13 @@
 -- Sizes that a change may ask for.
-use Rattle.std.proofs.Common.{◌≡◌, ℤ, pos, ◌≤ℤ◌, Bool, true, false, ◌&&◌, refl}
-use Rattle.std.proofs.lemmas.Bool.{false≢true}
+use Rattle.std.proofs.Common.{◌≡◌, ℤ, pos, ◌≤ℤ◌, true}
+use Rattle.be_facts.proofs.Truths.{and_both}
 use Rattle.be_geom.specs.Points.{between}
 use Rattle.be_geom.specs.declared.change.Change.TheVariants.{ResizeTo}
+use Rattle.be_geom.proofs.Between.{between_parts}
 use Rattle.be_stack.specs.Limits.{is_within_limits}
-use Rattle.be_views.proofs.ChildLemmas.{between_parts}
-
-pub both_true : (a b : Bool) → (a && b) ≡ true → (a ≡ true) × (b ≡ true)
-both_true true b e = (refl, e)
-both_true false b e = (e, absurd (false≢true e))
 
 -- a width and a height aren't negative
 pub sized : (width height : ℤ) → is_within_limits (ResizeTo width height) ≡ true → (pos 0 ≤ℤ width) × (pos 0 ≤ℤ height)
 sized width height e =
-    let both = both_true (between (pos 0) width (pos 32767)) (between (pos 0) height (pos 32767)) e in
+    let both = and_both (between (pos 0) width (pos 32767)) (between (pos 0) height (pos 32767)) e in
     ((between_parts (pos 0) (pos 32767) width both.0).0, (between_parts (pos 0) (pos 32767) height both.1).0)

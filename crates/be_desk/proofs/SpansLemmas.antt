@@ -1,10 +1,11 @@
 -- The spans that are made for a pane are those after the change.
 use Rattle.std.specs.Prelude.{ℤ, slice_get, Contains, if◌then◌else◌}
-use Rattle.std.proofs.Common.{◌≡◌, ℕ, zero, suc, ◌<◌, ◌+◌, true, List, [], ◌∷◌, ◌++◌, Result, Ok, length, Option, Some, None, cond, inl, inr, refl, sym, ap, ◌∙◌, subst, arith}
+use Rattle.std.proofs.Common.{◌≡◌, ℕ, ◌<◌, ◌+◌, true, List, [], ◌∷◌, ◌++◌, Result, Ok, length, Option, Some, None, cond, inl, inr, refl, sym, ap, ◌∙◌, subst, arith}
 use Rattle.std.proofs.lemmas.Bool.{cases_eq, cases_lt, ne_eqb}
 use Rattle.std.proofs.lemmas.List.{length_push}
 use Rattle.std.specs.Option.{option_map}
 use Rattle.std.proofs.lemmas.Option.{same_Some, slice_get_read, slice_get_within}
+use Rattle.be_facts.proofs.Lists.{got_last, got_front}
 use Rattle.be_geom.specs.declared.change.Change.{Change}
 use Rattle.be_geom.specs.declared.change.Change.TheVariants.{Show, Hide, MoveTo, MoveBy, ResizeTo, Activate, Behind, Focus, Close}
 use Rattle.be_geom.specs.declared.point.Point.{Point}
@@ -153,17 +154,6 @@ pub others_of : (before after : Desk) (w : ℕ) (change : Change) (panes : List 
 others_of before after w change panes is = others_stay before.windows after.windows w change (is_after before after w change is.taken).windows
 
 -- ---- the spans of all panes
-
-got_front : {A : Type 0} (xs : List A) (x : A) (k : ℕ) → k < length xs → slice_get (xs ++ x ∷ []) k ≡ slice_get xs k
-got_front [] x k within = absurd (omega arith)
-got_front (y ∷ ys) x zero within = refl
-got_front (y ∷ ys) x (suc k) within = got_front ys x k (omega arith)
-
-got_last : {A : Type 0} (xs : List A) (x : A) (k : ℕ) → k ≡ length xs → slice_get (xs ++ x ∷ []) k ≡ Some x
-got_last [] x zero e = refl
-got_last [] x (suc k) e = absurd (omega arith)
-got_last (y ∷ ys) x zero e = absurd (omega arith)
-got_last (y ∷ ys) x (suc k) e = got_last ys x k (omega arith)
 
 pub no_spans : (before after : Desk) (w : ℕ) (change : Change) (panes : List Pane) → AreChangedTo before after w change panes [] 0
 no_spans before after w change panes = record { each = refl; are = λ k pane these less got then_got. absurd (omega arith) }

@@ -11,6 +11,7 @@ use Rattle.be_color.specs.declared.colors.Color.{Color}
 use Rattle.be_geom.specs.Numbers.{is_number}
 use Rattle.be_geom.specs.Rects.{rect_has, moved_rect}
 use Rattle.be_geom.specs.declared.change.Change.{Change}
+use Rattle.be_geom.proofs.Numbered.{number_is}
 use Rattle.be_pane.specs.declared.pane.Pane.{Pane}
 use Rattle.be_pane.specs.SameStacks.{SameStacks}
 use Rattle.be_region.specs.Sessions.{SameSession}
@@ -31,7 +32,7 @@ use Rattle.be_desk.specs.Desks.{at_origin}
 use Rattle.be_desk.proofs.DeskLemmas.{is_after}
 use Rattle.be_desk.proofs.OthersLemmas.{others_stay}
 use Rattle.be_desk.proofs.PairedLemmas.{other_trees}
-use Rattle.be_desk.proofs.PlanLemmas.{owned_in, owner_is}
+use Rattle.be_desk.proofs.PlanLemmas.{owned_in}
 use Rattle.be_desk.proofs.SameLemmas.{rebuilt}
 
 -- ---- a pane of the change
@@ -55,7 +56,7 @@ carried_as_machine plan these before after panes pane then_pane cells colors old
 
 -- ---- another pane for the same window
 
-planned_alike : (before after : Desk) (w : ℕ) (change : Change) (panes : List Pane) (pane other : Pane) (these : Option Spans) → pane.window ≡ other.window → pane.colors.items ≡ other.colors.items → ((x y : ℤ) → region_has other.spans.rects x y ≡ region_has pane.spans.rects x y) → ((x y : ℤ) → region_has other.spans.rects x y ≡ true → cell_in other.spans x y ≡ cell_in pane.spans x y) → AreChanged before after w change panes pane (then_spans these pane) → AreChanged before after w change panes other (then_spans these other)
+pub planned_alike : (before after : Desk) (w : ℕ) (change : Change) (panes : List Pane) (pane other : Pane) (these : Option Spans) → pane.window ≡ other.window → pane.colors.items ≡ other.colors.items → ((x y : ℤ) → region_has other.spans.rects x y ≡ region_has pane.spans.rects x y) → ((x y : ℤ) → region_has other.spans.rects x y ≡ true → cell_in other.spans x y ≡ cell_in pane.spans x y) → AreChanged before after w change panes pane (then_spans these pane) → AreChanged before after w change panes other (then_spans these other)
 planned_alike before after w change panes pane other (Some spans) window colors region cells changed = record {
   pixels = λ x y. changed.pixels x y ∙ ap (λ u. owns after u x y) window;
   cells = λ screen all old is colored looks x y owned. changed.cells screen all old is (ap (slice_get all) window ∙ colored ∙ ap (λ (l : List Color). Some l) (sym colors)) looks x y (ap (λ u. owns after u x y) window ∙ owned);
@@ -97,7 +98,7 @@ kept_by_number false before after colors w u motion old x y c e other owned =
 kept_cell : (before after : Desk) (colors : List (List Color)) (w u : ℕ) (change : Change) (old : Lookup) (x y : ℤ) (c : Cell) → (u ≡ w → ⊥) → owns before u x y ≡ true → owns after u x y ≡ true → changed_cell before after colors w change old x y c ≡ c
 unfolding changed_cell
 kept_cell before after colors w u change old x y c other owned then_owned =
-    ap (λ o. cell_of before after colors w (motion_of change) o old x y c) (owner_is u (owner_at after.windows x y) then_owned)
+    ap (λ o. cell_of before after colors w (motion_of change) o old x y c) (number_is u (owner_at after.windows x y) then_owned)
     ∙ kept_by_number (u == w) before after colors w u (motion_of change) old x y c refl other owned
 
 pub others_as_machine : OthersAsTheMachine
@@ -129,7 +130,7 @@ one_owner : (u v : ℕ) (o : Option ℕ) → is_number u o ≡ true → is_numbe
 one_owner u v (Some m) e f = sym (eqb-true m u e) ∙ eqb-true m v f
 one_owner u v None e f = cc
 
-no_owner : (before after : Desk) (colors : List (List Color)) (w : ℕ) (change : Change) (old : Lookup) (x y : ℤ) (c : Cell) → owner_at after.windows x y ≡ None → changed_cell before after colors w change old x y c ≡ desktop_cell
+pub no_owner : (before after : Desk) (colors : List (List Color)) (w : ℕ) (change : Change) (old : Lookup) (x y : ℤ) (c : Cell) → owner_at after.windows x y ≡ None → changed_cell before after colors w change old x y c ≡ desktop_cell
 unfolding changed_cell
 no_owner before after colors w change old x y c e =
     ap (λ o. cell_of before after colors w (motion_of change) o old x y c) e

@@ -1,14 +1,11 @@
 -- Answers that hold along a row: moved from one kind of coordinates to another, and joined.
-use Rattle.std.proofs.Common.{◌≡◌, ℤ, ◌+ℤ◌, ◌-ℤ◌, ◌≤ℤ◌, ◌⊎◌, Bool, true, false, ◌&&◌, Option, None, cond, SFits, w16, w32, arith, rules, sym, ap, ◌∙◌, refl}
+use Rattle.std.proofs.Common.{◌≡◌, ℤ, ◌+ℤ◌, ◌-ℤ◌, ◌≤ℤ◌, ◌⊎◌, Bool, true, false, Option, None, cond, SFits, w32, arith, rules, sym, ap, ◌∙◌, refl}
 use Rattle.std.proofs.lemmas.Int.{ints}
 use Rattle.be_region.specs.Runs.{IsRun}
 use Rattle.be_span.specs.Laid.{IsShift}
 use Rattle.be_geom.specs.Stretches.{IsCoordinate, IsStretch}
 
 -- ---- numbers
-
-pub less_fits : (x w : ℤ) → IsCoordinate x → SFits w16 w → SFits w32 (x -ℤ w)
-less_fits x w (low, high) f = search rules
 
 pub way_fits : (x d : ℤ) → IsCoordinate x → IsShift d → SFits w32 (x -ℤ d)
 way_fits x d (low, high) (least, most) = search rules
@@ -32,37 +29,6 @@ moved_run f x off end last r run ahead within lasts one =
       within = within;
       same = λ z from to. run.same (z -ℤ off) (omega (arith, ints)) (omega (arith, ints));
     }
-
-pub both_false : (a b : Bool) → a ≡ false → (a && b) ≡ false
-both_false true b e = cc
-both_false false b e = refl
-
-pub both_true : (a b : Bool) → a ≡ true → (a && b) ≡ b
-both_true true b e = refl
-both_true false b e = cc
-
--- where the first says no, both do
-pub no_stretch : (f g : ℤ → Bool) (x end last : ℤ) → IsStretch f x end last → f x ≡ false → IsStretch (λ z. f z && g z) x end last
-no_stretch f g x end last h first = record {
-  forward = h.forward;
-  within = h.within;
-  same = λ z from to. both_false (f z) (g z) (h.same z from to ∙ first) ∙ sym (both_false (f x) (g x) first);
-}
-
--- where the first says yes, the second decides
-pub yes_stretch : (f g : ℤ → Bool) (x end mid last : ℤ) → IsStretch f x end mid → f x ≡ true → IsStretch g x mid last → IsStretch (λ z. f z && g z) x end last
-yes_stretch f g x end mid last h first k =
-    let a = h.within in
-    let b = k.within in
-    record {
-      forward = k.forward;
-      within = omega (arith, ints);
-      same = λ z from to. both_true (f z) (g z) (h.same z from (omega (arith, ints)) ∙ first) ∙ k.same z from to ∙ sym (both_true (f x) (g x) first);
-    }
-
--- what follows from an answer stays as long
-pub mapped : {A B : Type 0} (g : A → B) (f : ℤ → A) (x end last : ℤ) → IsStretch f x end last → IsStretch (λ z. g (f z)) x end last
-mapped g f x end last h = record { forward = h.forward; within = h.within; same = λ z from to. ap g (h.same z from to) }
 
 -- what follows from two answers stays as long as both
 pub joined : {A B C : Type 0} (g : A → B → C) (f : ℤ → A) (h : ℤ → B) (x end mid last : ℤ) → IsStretch f x end mid → IsStretch h x mid last → IsStretch (λ z. g (f z) (h z)) x end last

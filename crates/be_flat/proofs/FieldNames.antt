@@ -1,19 +1,22 @@
 -- The name of a field: what is read is spelt so, and what is spelt so is read again.
-use Rattle.std.proofs.Common.{◌≡◌, ℕ, zero, suc, ◌+◌, ◌-◌, ◌<◌, ◌≤◌, Bool, true, false, ◌&&◌, cond, List, [], ◌∷◌, ◌++◌, length, Ok, Err, refl, sym, ap, subst, ◌∙◌, inl, inr, ◌||◌, append_assoc, arith}
-use Rattle.std.specs.Prelude.{nat_le, nat_lt, ◌==◌}
-use Rattle.std.specs.Char.{is_ascii_lowercase, is_ascii_digit}
+use Rattle.std.proofs.Common.{◌≡◌, ℕ, zero, suc, ◌+◌, ◌-◌, ◌<◌, ◌≤◌, Bool, true, false, ◌&&◌, cond, List, [], ◌∷◌, ◌++◌, length, Ok, Err, refl, sym, ap, subst, ◌∙◌, append_assoc, arith}
+use Rattle.std.specs.Prelude.{nat_le, nat_lt}
+use Rattle.std.specs.Char.{is_ascii_lowercase}
 use Rattle.std.specs.List.{list_any, list_all}
 use Rattle.std.specs.Str.{IsAscii, IsUtf8}
-use Rattle.std.proofs.lemmas.Bool.{leb-true, le-leb, eqb-true}
+use Rattle.std.proofs.lemmas.Bool.{leb-true, le-leb, and_from}
 use Rattle.std.proofs.lemmas.List.{append-nil}
 use Rattle.std.proofs.lemmas.Str.{IsUtf8-from_ascii}
+use Rattle.be_facts.proofs.Bytes.{letter_is_ascii}
+use Rattle.be_facts.proofs.Truths.{and_first, and_second}
 use Rattle.be_message.specs.Fields.{has_name}
 use Rattle.be_message.specs.Messages.{Message}
 use Rattle.be_message.specs.Names.{is_name, is_name_byte}
+use Rattle.be_message.proofs.NameLemmas.{byte_is_ascii}
 use Rattle.be_flat.specs.declared.fault.FlatError.TheVariants.{BadByte}
 use Rattle.be_flat.specs.Reading.{Rest, ◌>>=◌, byte_at, byte_that, bytes_that, goes_on_name, unless_taken, name_at}
 use Rattle.be_flat.proofs.Taken.{IsBytes, bind_ok, Takes, Takes-then, that_takes, bytes_take, pass_all, Reads, that_again, bytes_again}
-use Rattle.be_flat.proofs.Truths.{and_first, and_second, and_true, either, guard_ok, is_free, ok_is}
+use Rattle.be_flat.proofs.Truths.{guard_ok, is_free, ok_is}
 
 -- behind its first letter a name goes on with any of its bytes
 goes_on : (c : ℕ) (read bytes : List ℕ) → pass_all goes_on_name (c ∷ read) bytes ≡ list_all is_name_byte bytes
@@ -27,7 +30,7 @@ name_from : (name : List ℕ) → 0 < length name → length name ≤ 32 → pas
 unfolding is_name
 name_from [] some most h = absurd (omega (arith, some))
 name_from (b ∷ bytes) some most h =
-    and_true _ _ (sym (pass_is b bytes) ∙ h) (le-leb _ _ most)
+    and_from _ _ (sym (pass_is b bytes) ∙ h) (le-leb _ _ most)
 
 pub record IsName (name : List ℕ) : Type 0 where
   pub some : 0 < length name
@@ -77,29 +80,16 @@ pub name_again : (m : Message) (name left : List ℕ) (at : ℕ) → is_name nam
 unfolding name_at unless_taken
 name_again m name left at allowed free =
     let is = name_is name allowed in
-    let fits : (nat_lt 0 (length name) && nat_le (length name) 32) ≡ true = and_true _ _ (le-leb 1 (length name) is.some) (le-leb _ _ is.most) in
+    let fits : (nat_lt 0 (length name) && nat_le (length name) 32) ≡ true = and_from _ _ (le-leb 1 (length name) is.some) (le-leb _ _ is.most) in
     let one = that_again (λ n. nat_lt 0 n && nat_le n 32) (length name) (name ++ left) at fits in
     let two = bytes_again goes_on_name [] name left (at + 1) is.pass in
     (two.0, rw (one, two.1, free) refl)
 
 -- ---- the letters of a name are ASCII
 
-is_letter : (b : ℕ) → is_ascii_lowercase b ≡ true → b < 128
-is_letter b h = omega (arith, leb-true b 122 (and_second (nat_le 97 b) _ h))
-
-is_of_name : (b : ℕ) → is_name_byte b ≡ true → b < 128
-is_of_name b h =
-    elim (either (is_ascii_lowercase b || is_ascii_digit b) (b == 95) h) [
-      | inl p ↦ elim (either (is_ascii_lowercase b) (is_ascii_digit b) p) [
-        | inl q ↦ is_letter b q
-        | inr q ↦ omega (arith, leb-true b 57 (and_second (nat_le 48 b) _ q))
-      ]
-      | inr p ↦ omega (arith, eqb-true b 95 p)
-    ]
-
 passes_ascii : (read : List ℕ) (b : ℕ) → goes_on_name read b ≡ true → b < 128
-passes_ascii [] b h = is_letter b h
-passes_ascii (c ∷ cs) b h = is_of_name b h
+passes_ascii [] b h = letter_is_ascii b h
+passes_ascii (c ∷ cs) b h = byte_is_ascii b h
 
 letters_ascii : (read bytes : List ℕ) → pass_all goes_on_name read bytes ≡ true → IsAscii bytes
 letters_ascii read [] h i = omega arith
@@ -116,7 +106,7 @@ passing p (suc n) read s x e =
     let g = guard_ok (p read b.0.0) (BadByte s.at) b.0 a.0 b.2 in
     let passed : p read a.0.0 ≡ true = subst (λ (y : ℕ × Rest). p read y.0 ≡ true) g.1 g.0 in
     let more = passing p n (read ++ a.0.0 ∷ []) a.0.1 x a.2 in
-    (a.0.0 ∷ more.0, more.1 ∙ append_assoc read (a.0.0 ∷ []) more.0, and_true _ _ passed more.2, ap suc more.3)
+    (a.0.0 ∷ more.0, more.1 ∙ append_assoc read (a.0.0 ∷ []) more.0, and_from _ _ passed more.2, ap suc more.3)
 
 pub name_is_utf8 : (n : ℕ) (s : Rest) (x : List ℕ × Rest) → bytes_that goes_on_name n [] s ≡ Ok x → IsUtf8 x.0
 name_is_utf8 n s x e =

@@ -6,6 +6,7 @@ use Rattle.std.specs.List.{list_all}
 use Rattle.std.proofs.Math.Facts.{Fits-of_lt, Fits-lt-pow, sfits_to_z, Fits-of_z, to_z-of_z, of_z-to_z}
 use Rattle.std.proofs.lemmas.Nat.{le_bytes_2, le_bytes_4, from_le_bytes-to_le_bytes_2, from_le_bytes-to_le_bytes_4}
 use Rattle.std.proofs.lemmas.Bool.{leb-true, le-leb}
+use Rattle.be_facts.proofs.Truths.{and_first, and_second}
 use Rattle.be_geom.specs.declared.rect.Rect.{Rect}
 use Rattle.be_message.specs.declared.kind.Kind.{Kind}
 use Rattle.be_message.specs.declared.kind.Kind.TheVariants as kind
@@ -16,7 +17,7 @@ use Rattle.be_message.specs.Sound.{kind_of}
 use Rattle.be_flat.specs.Grammar.{SpellsCoordinate, SpellsInt, SpellsPoint, SpellsText, SpellsDatum}
 use Rattle.be_flat.specs.Reading.{Rest, ◌>>=◌, byte_at, byte_that, bytes_that, u16_at, u32_at, coordinate_at, int_at, point_at, rect_at, text_length_at, text_at, bool_at}
 use Rattle.be_flat.proofs.Taken.{IsBytes, bind_ok, Takes, Takes-then, byte_takes, that_takes, bytes_take, pass_all, Reads, bytes_again}
-use Rattle.be_flat.proofs.Truths.{and_first, and_second, ok_is}
+use Rattle.be_flat.proofs.Truths.{ok_is}
 
 -- two and four bytes
 IsBytes-2 : (a b : ℕ) → a < 256 → b < 256 → IsBytes (a ∷ b ∷ [])

@@ -3,8 +3,10 @@ use Rattle.std.proofs.Common.{◌≡◌, ℕ, zero, suc, ◌+◌, ◌*◌, ◌<�
 use Rattle.std.specs.Prelude.{nat_le, nat_lt, ◌==◌}
 use Rattle.std.specs.List.{list_any, list_all}
 use Rattle.std.specs.Int.{cast_signed, w32}
-use Rattle.std.proofs.lemmas.Bool.{leb-true, le-leb, lt-leb}
+use Rattle.std.proofs.lemmas.Bool.{leb-true, le-leb, lt-leb, and_from, or_parts}
 use Rattle.std.proofs.lemmas.List.{length-append, length-map}
+use Rattle.be_facts.proofs.Truths.{true_or_false}
+use Rattle.be_facts.proofs.Bytes.{bytes_eq_self}
 use Rattle.be_message.specs.declared.kind.Kind.{Kind}
 use Rattle.be_message.specs.declared.kind.Kind.TheVariants as kind
 use Rattle.be_message.specs.Depths.{datum_depth, fields_depth, values_depth, depth_of}
@@ -13,13 +15,14 @@ use Rattle.be_message.specs.Kinds.{is_kind}
 use Rattle.be_message.specs.Messages.{Datum, bool, int, text, point, rect, message, Field, Message, all_values, all_fields, packed}
 use Rattle.be_message.specs.Names.{is_name, is_text, is_text_byte}
 use Rattle.be_message.specs.Sound.{kind_of}
+use Rattle.be_message.proofs.PlaceLemmas.{named_none}
 use Rattle.be_flat.specs.Reading.{Rest, Read, ◌>>=◌, byte_at, byte_that, bytes_that, u32_at, coordinate_at, bool_at, int_at, text_length_at, text_at, point_at, rect_at, value_at, value_into, so_many, kind_at, name_at, field_into, message_at}
 use Rattle.be_flat.specs.Room.{Fit, HasRoom}
 use Rattle.be_flat.specs.declared.fault.FlatError.TheVariants.{BadByte}
 use Rattle.be_flat.proofs.Taken.{bind_ok}
 use Rattle.be_flat.proofs.Numbers.{pass_each}
 use Rattle.be_flat.proofs.FieldNames.{passing}
-use Rattle.be_flat.proofs.Truths.{and_true, bool_cases, eq_self, guard_ok, neither, ok_is}
+use Rattle.be_flat.proofs.Truths.{guard_ok, ok_is}
 
 -- ---- the type of a value that was read
 
@@ -74,18 +77,11 @@ not_refused m name k d room is allowed = rw (room.allowed, allowed) (fits_in (le
 
 -- ---- what stays
 
--- a name that no field has
-pub none_named : (name : List ℕ) (fs : List Field) → list_any (has_name name) fs ≡ false → field_named name fs ≡ None
-none_named name [] h = refl
-none_named name (f ∷ fs) h =
-    let p = neither (has_name name f) (list_any (has_name name) fs) h in
-    rw (p.0, none_named name fs p.1) refl
-
 -- where a field has the name there is one
 nowhere : (name : List ℕ) (fs : List Field) → list_any (has_name name) fs ≡ true → field_named name fs ≡ None → ⊥
 nowhere name [] h e = absurd cc
 nowhere name (f ∷ fs) h e =
-    elim (bool_cases (has_name name f)) [
+    elim (true_or_false (has_name name f)) [
       | inl has ↦ let found : ◌≡◌ {A = Option Field} (Some f) None = rw has at e in absurd (cc found)
       | inr hasnt ↦ nowhere name fs (rw hasnt at h) (rw hasnt at e)
     ]
@@ -94,7 +90,7 @@ nowhere name (f ∷ fs) h e =
 last_named : (name : List ℕ) (fs : List Field) (f : Field) → list_any (has_name name) fs ≡ false → has_name name f ≡ true → field_named name (fs ++ f ∷ []) ≡ Some f
 last_named name [] f h is = rw is refl
 last_named name (g ∷ gs) f h is =
-    let p = neither (has_name name g) (list_any (has_name name) gs) h in
+    let p = or_parts (has_name name g) (list_any (has_name name) gs) h in
     rw p.0 (last_named name gs f p.1 is)
 
 abbrev changed_option : (Field → Field) → Option Field → Option Field
@@ -105,16 +101,16 @@ changed_option change None = None
 changed_named : (name : List ℕ) (d : Datum) (fs : List Field) → field_named name (changed_at name (with_one_more d) fs) ≡ changed_option (with_one_more d) (field_named name fs)
 changed_named name d [] = refl
 changed_named name d (f ∷ fs) =
-    elim (bool_cases (has_name name f)) [
+    elim (true_or_false (has_name name f)) [
       | inl has ↦ rw (has, has) refl
       | inr hasnt ↦ rw (hasnt, hasnt) (changed_named name d fs)
     ]
 
 some_named : (name : List ℕ) (fs : List Field) (f : Field) → field_named name fs ≡ Some f → list_any (has_name name) fs ≡ true
 some_named name fs f e =
-    elim (bool_cases (list_any (has_name name) fs)) [
+    elim (true_or_false (list_any (has_name name) fs)) [
       | inl has ↦ has
-      | inr hasnt ↦ absurd (cc (sym (none_named name fs hasnt) ∙ e))
+      | inr hasnt ↦ absurd (cc (sym (named_none name fs hasnt) ∙ e))
     ]
 
 -- there is room for one less once a value is added
@@ -125,10 +121,10 @@ kept_by m name k n d (Some f) e fit is =
     let now : field_named name (with_value_in m.fields name d) ≡ Some (with_one_more d f) = rw there (changed_named name d m.fields ∙ ap (changed_option (with_one_more d)) e) in
     rw now (fit.0, omega (arith, fit.1, length-append f.values (d ∷ [])))
 kept_by m name k n d None e fit is =
-    elim (bool_cases (list_any (has_name name) m.fields)) [
+    elim (true_or_false (list_any (has_name name) m.fields)) [
       | inl has ↦ absurd (nowhere name m.fields has e)
       | inr hasnt ↦
-          let now : field_named name (with_value_in m.fields name d) ≡ Some (new_field name d) = rw hasnt (last_named name m.fields (new_field name d) hasnt (eq_self name)) in
+          let now : field_named name (with_value_in m.fields name d) ≡ Some (new_field name d) = rw hasnt (last_named name m.fields (new_field name d) hasnt (bytes_eq_self name)) in
           rw now (is, omega (arith, fit.1))
     ]
 
@@ -144,7 +140,7 @@ values_push (v ∷ vs) d = omega (arith, values_push vs d)
 changed_depth : (name : List ℕ) (d : Datum) (fs : List Field) → fields_depth (all_fields (changed_at name (with_one_more d) fs)) ≤ max (fields_depth (all_fields fs)) (datum_depth d)
 changed_depth name d [] = omega arith
 changed_depth name d (f ∷ fs) =
-    elim (bool_cases (has_name name f)) [
+    elim (true_or_false (has_name name f)) [
       | inl has ↦ rw has (omega (arith, values_push f.values d, changed_depth name d fs))
       | inr hasnt ↦ rw hasnt (omega (arith, changed_depth name d fs))
     ]
@@ -156,7 +152,7 @@ pushed_depth name d (f ∷ fs) = omega (arith, pushed_depth name d fs)
 -- no deeper than what was there and what came
 added_depth : (m : Message) (name : List ℕ) (d : Datum) → fields_depth (all_fields (with_value m name d).fields) ≤ max (fields_depth (all_fields m.fields)) (datum_depth d)
 added_depth m name d =
-    elim (bool_cases (list_any (has_name name) m.fields)) [
+    elim (true_or_false (list_any (has_name name) m.fields)) [
       | inl has ↦ rw has (changed_depth name d m.fields)
       | inr hasnt ↦ rw hasnt (pushed_depth name d m.fields)
     ]
@@ -246,7 +242,7 @@ text_allowed s x e =
     let took = passing (λ read b. is_text_byte b) n.0.0 [] n.0.1 t.0 t.1 in
     let each : list_all is_text_byte t.0.0 ≡ true = ap (list_all is_text_byte) took.1 ∙ sym (pass_each is_text_byte [] took.0) ∙ took.2 in
     let short : length t.0.0 ≤ 1024 = omega (arith, ap length took.1, took.3, length_most s n.0 n.1) in
-    subst (λ (y : Datum × Rest). is_allowed y.0 ≡ true) (ok_is (text t.0.0, t.0.1) x t.2) (and_true _ _ each (le-leb _ _ short))
+    subst (λ (y : Datum × Rest). is_allowed y.0 ≡ true) (ok_is (text t.0.0, t.0.1) x t.2) (and_from _ _ each (le-leb _ _ short))
 
 shallow : (levels : ℕ) (k : Kind) (s : Rest) (x : Datum × Rest) → levels < 16 → (k ≡ kind.Text → ⊥) → value_at (message_at levels) k s ≡ Ok x → is_allowed x.0 ≡ true
 shallow levels k s x h other e =
@@ -266,7 +262,7 @@ value_allowed levels kind.Message s x h e = shallow levels kind.Message s x h (�
 changed_any : (name : List ℕ) (d : Datum) (fs : List Field) → list_any (has_name name) (changed_at name (with_one_more d) fs) ≡ list_any (has_name name) fs
 changed_any name d [] = refl
 changed_any name d (f ∷ fs) =
-    elim (bool_cases (has_name name f)) [
+    elim (true_or_false (has_name name f)) [
       | inl has ↦ rw (has, has) refl
       | inr hasnt ↦ rw (hasnt, hasnt) (changed_any name d fs)
     ]
@@ -279,7 +275,7 @@ record Widened (m : Message) (name : List ℕ) (d : Datum) : Type 0 where
 
 widened : (m : Message) (name : List ℕ) (d : Datum) → Widened m name d
 widened m name d =
-    elim (bool_cases (list_any (has_name name) m.fields)) [
+    elim (true_or_false (list_any (has_name name) m.fields)) [
       | inl has ↦
           let same : length (changed_at name (with_one_more d) m.fields) ≡ length m.fields = length-map m.fields (λ f. cond (has_name name f) (with_one_more d f) f) in
           record { least = λ _. rw has same; most = rw has (omega (arith, same)); there = rw has (changed_any name d m.fields ∙ has) }
@@ -287,7 +283,7 @@ widened m name d =
           record {
             least = λ has. absurd (cc (sym hasnt ∙ has));
             most = rw hasnt (omega (arith, length-append m.fields (new_field name d ∷ [])));
-            there = rw hasnt (some_named name (m.fields ++ new_field name d ∷ []) (new_field name d) (last_named name m.fields (new_field name d) hasnt (eq_self name)));
+            there = rw hasnt (some_named name (m.fields ++ new_field name d ∷ []) (new_field name d) (last_named name m.fields (new_field name d) hasnt (bytes_eq_self name)));
           }
     ]
 
@@ -319,7 +315,7 @@ field_widens inner nested m s x e =
 -- values of a field that the message doesn't have yet
 pub new_field_fits : (m : Message) (name : List ℕ) (k : Kind) (n : ℕ) → is_name name ≡ true → list_any (has_name name) m.fields ≡ false → length m.fields < 255 → n ≤ 255 → HasRoom m name k n
 new_field_fits m name k n allowed free few most =
-    record { allowed = allowed; fit = subst (Fit (length m.fields) k n) (sym (none_named name m.fields free)) (few, most) }
+    record { allowed = allowed; fit = subst (Fit (length m.fields) k n) (sym (named_none name m.fields free)) (few, most) }
 
 -- a value that was read leaves room for one less
 pub into_keeps : (inner : Rest → Read Message) (k : Kind) (name : List ℕ) (n : ℕ) (m : Message) (s : Rest) (x : Message × Rest) → value_into inner k name m s ≡ Ok x → HasRoom m name k (suc n) → HasRoom x.0 name k n

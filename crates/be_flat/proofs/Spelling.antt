@@ -5,25 +5,19 @@ use Rattle.std.proofs.lemmas.Bool.Decides.{nat_tests}
 use Rattle.std.proofs.lemmas.List.{append-nil}
 use Rattle.std.proofs.Math.Seq.{drop-cons}
 use Rattle.std.proofs.Math.ListN.{drop_of_length-le}
+use Rattle.be_facts.proofs.Lists.{append_three}
 use Rattle.be_message.specs.declared.kind.Kind.{Kind}
 use Rattle.be_message.specs.Depths.{values_depth, fields_depth}
 use Rattle.be_message.specs.Limits.{most_name_bytes, most_text_bytes}
 use Rattle.be_message.specs.Messages.{Datum, Field, Message, all_values, all_fields}
 use Rattle.be_message.specs.Names.{is_name, is_text}
 use Rattle.be_message.specs.Sound.{field_count, value_count, AreSoundFields, AreSoundValues, IsMessage}
+use Rattle.be_message.proofs.SoundLemmas.{values_are, count_is}
 use Rattle.be_flat.specs.Codes.{code_of}
 use Rattle.be_flat.specs.Grammar.{Spells, SpellsDatum, SpellsFields, SpellsValues}
 use Rattle.be_flat.specs.Writing.{Appends}
 
 -- ---- sizes
-
-pub field_count-all : (fs : List Field) → field_count (all_fields fs) ≡ length fs
-field_count-all [] = refl
-field_count-all (f ∷ fs) = ap suc (field_count-all fs)
-
-pub value_count-all : (ds : List Datum) → value_count (all_values ds) ≡ length ds
-value_count-all [] = refl
-value_count-all (d ∷ ds) = ap suc (value_count-all ds)
 
 pub length-name : (name : List ℕ) → is_name name ≡ true → length name ≤ most_name_bytes
 unfolding is_name
@@ -130,20 +124,16 @@ whole_field f start coded named counted done letters name count h same_code same
     let spelling : List ℕ = letters ++ length name ∷ name ++ count ∷ w.bytes ++ [] in
     let row : done ≡ start ++ spelling =
     w.behind ∙ ap (λ (l : List ℕ). l ++ w.bytes) (k ∙ ap (λ (l : List ℕ). l ++ count ∷ []) (n ∙ ap (λ (l : List ℕ). l ++ sized) c)) ∙ row_of_four start letters sized (count ∷ []) w.bytes in
-    let spelt : spelling ≡ code_of f.kind ++ length f.name ∷ f.name ++ value_count (all_values f.values) ∷ w.bytes ++ [] = rw (same_code, same_name, same_count, value_count-all f.values) refl in
+    let spelt : spelling ≡ code_of f.kind ++ length f.name ∷ f.name ++ value_count (all_values f.values) ∷ w.bytes ++ [] = rw (same_code, same_name, same_count, values_are f.values) refl in
     record { bytes = spelling; spelt = (h.0, refl, h.2, h.3, w.bytes, [], spelt, w.spelt, refl); behind = row }
-
--- three parts behind a start
-row_of_three : (start a b c : List ℕ) → ((start ++ a) ++ b) ++ c ≡ start ++ (a ++ (b ++ c))
-row_of_three start a b c = simp append_assoc
 
 pub whole_message : (m : Message) (start headed counted done : List ℕ) (what count : ℕ) (fields : List Field) → IsMessage m
     → what ≡ m.what → count ≡ length m.fields → fields ≡ m.fields → headed ≡ start ++ to_le_bytes w32 what → counted ≡ headed ++ count ∷ []
     → Appends (λ bytes. SpellsFields bytes (all_fields fields)) counted done → Appends (λ bytes. Spells bytes m) start done
 whole_message m start headed counted done what count fields h same_what same_count same_fields n k w =
     let spelling : List ℕ = to_le_bytes w32 what ++ count ∷ w.bytes in
-    let row : done ≡ start ++ spelling = w.behind ∙ ap (λ (l : List ℕ). l ++ w.bytes) (k ∙ ap (λ (l : List ℕ). l ++ count ∷ []) n) ∙ row_of_three start (to_le_bytes w32 what) (count ∷ []) w.bytes in
-    let spelt : spelling ≡ to_le_bytes w32 m.what ++ field_count (all_fields m.fields) ∷ w.bytes = ap (λ (n : ℕ). to_le_bytes w32 n ++ count ∷ w.bytes) same_what ∙ ap (λ (n : ℕ). to_le_bytes w32 m.what ++ n ∷ w.bytes) (same_count ∙ sym (field_count-all m.fields)) in
+    let row : done ≡ start ++ spelling = w.behind ∙ ap (λ (l : List ℕ). l ++ w.bytes) (k ∙ ap (λ (l : List ℕ). l ++ count ∷ []) n) ∙ append_three start (to_le_bytes w32 what) (count ∷ []) w.bytes in
+    let spelt : spelling ≡ to_le_bytes w32 m.what ++ field_count (all_fields m.fields) ∷ w.bytes = ap (λ (n : ℕ). to_le_bytes w32 n ++ count ∷ w.bytes) same_what ∙ ap (λ (n : ℕ). to_le_bytes w32 m.what ++ n ∷ w.bytes) (same_count ∙ sym (count_is m.fields)) in
     let P : List Field → Type 0 = λ fs. SpellsFields w.bytes (all_fields fs) in
     record { bytes = spelling; spelt = record { depth = h.depth; parts = (h.sound.0, h.sound.1, w.bytes, spelt, subst P same_fields w.spelt) }; behind = row }
 

@@ -1,10 +1,12 @@
 -- What reading takes from the front of the bytes, and what it reads of bytes that pass.
 use Rattle.std.proofs.Common.{◌≡◌, ℕ, zero, suc, ◌+◌, ◌<◌, Bool, true, ◌&&◌, cond, List, [], ◌∷◌, ◌++◌, length, get_or, Result, Ok, Err, refl, sym, ap, subst, ◌∙◌, append_assoc}
 use Rattle.std.proofs.lemmas.List.{append-nil}
+use Rattle.std.proofs.lemmas.Bool.{and_from}
+use Rattle.be_facts.proofs.Truths.{and_first, and_second}
 use Rattle.be_flat.specs.declared.fault.FlatError.{FlatError}
 use Rattle.be_flat.specs.declared.fault.FlatError.TheVariants.{BadByte}
 use Rattle.be_flat.specs.Reading.{Rest, Read, ◌>>=◌, byte_of, byte_at, byte_that, bytes_that}
-use Rattle.be_flat.proofs.Truths.{and_first, and_second, and_true, guard_ok, ok_is}
+use Rattle.be_flat.proofs.Truths.{guard_ok, ok_is}
 
 abbrev pub IsBytes : List ℕ → Type 0
 IsBytes bytes = (i : ℕ) → get_or bytes i 0 < 256
@@ -77,7 +79,7 @@ bytes_take p (suc n) read s x h e =
       text = a.0.0 ∷ more.text;
       got_is = more.got_is ∙ append_assoc read (a.0.0 ∷ []) more.text;
       count = ap suc more.count;
-      pass = and_true _ _ t.2 more.pass;
+      pass = and_from _ _ t.2 more.pass;
       took = Takes-then s.bytes (a.0.0 ∷ []) a.0.1.bytes more.text x.1.bytes t.0 more.took;
     }
 

@@ -3,15 +3,16 @@ use Rattle.std.proofs.Common.{◌≡◌, ℕ, zero, suc, ◌+◌, Bool, true, fa
 use Rattle.std.proofs.lemmas.List.{append-nil}
 use Rattle.std.specs.Prelude.{nat_eq}
 use Rattle.std.specs.List.{list_any, starts_with}
-use Rattle.std.specs.Str.{bytes_eq}
-use Rattle.std.proofs.lemmas.Slice.Eq.{bytes_eq-Decides}
+use Rattle.std.proofs.lemmas.Bool.{and_from}
+use Rattle.be_facts.proofs.Bytes.{bytes_eq_tells}
+use Rattle.be_facts.proofs.Truths.{and_first, and_second, or_either}
 use Rattle.be_message.specs.declared.kind.Kind.{Kind}
 use Rattle.be_message.specs.declared.kind.Kind.TheVariants as kind
 use Rattle.be_flat.specs.Codes.{code_of, plain_kinds, begin_code, kind_spelt}
 use Rattle.be_flat.specs.Reading.{Rest, byte_at, byte_that, bytes_that, kind_at}
 use Rattle.be_flat.proofs.Taken.{IsBytes, bind_ok, Takes, bytes_take, pass_all, Reads}
 use Rattle.be_flat.proofs.Readers.{that_passes}
-use Rattle.be_flat.proofs.Truths.{and_first, and_second, and_true, either, ok_is}
+use Rattle.be_flat.proofs.Truths.{ok_is}
 
 -- a field can have the type
 abbrev pub MayHave : Bool → Kind → Type 0
@@ -23,9 +24,6 @@ pub record IsCode (nested : Bool) (letters : List ℕ) : Type 0 where
   pub spelt : code_of (kind_spelt letters) ≡ letters
   pub may : MayHave nested (kind_spelt letters)
 
-same_bytes : (xs ys : List ℕ) → bytes_eq xs ys ≡ true → xs ≡ ys
-same_bytes xs ys h = (bytes_eq-Decides xs ys).0 h
-
 four_letters : (k : Kind) → take 4 (code_of k) ≡ code_of k
 four_letters kind.Bool = refl
 four_letters kind.Int = refl
@@ -35,7 +33,7 @@ four_letters kind.Rect = refl
 four_letters kind.Message = refl
 
 is_code : (k : Kind) (letters : List ℕ) → length letters ≡ 4 → starts_with nat_eq (code_of k) letters ≡ true → letters ≡ code_of k
-is_code k letters four h = same_bytes letters (take (length letters) (code_of k)) h ∙ ap (λ (n : ℕ). take n (code_of k)) four ∙ four_letters k
+is_code k letters four h = bytes_eq_tells letters (take (length letters) (code_of k)) h ∙ ap (λ (n : ℕ). take n (code_of k)) four ∙ four_letters k
 
 spelt_again : (k : Kind) → kind_spelt (code_of k) ≡ k
 unfolding kind_spelt
@@ -54,15 +52,15 @@ from_letters nested k letters may four h = subst (λ (t : List ℕ). IsCode nest
 
 plain_code : (nested : Bool) (letters : List ℕ) → length letters ≡ 4 → list_any (λ k. starts_with nat_eq (code_of k) letters) plain_kinds ≡ true → IsCode nested letters
 plain_code nested letters four h =
-    elim (either (starts_with nat_eq (code_of kind.Bool) letters) _ h) [
+    elim (or_either (starts_with nat_eq (code_of kind.Bool) letters) _ h) [
       | inl p ↦ from_letters nested kind.Bool letters tt four p
-      | inr h1 ↦ elim (either (starts_with nat_eq (code_of kind.Int) letters) _ h1) [
+      | inr h1 ↦ elim (or_either (starts_with nat_eq (code_of kind.Int) letters) _ h1) [
         | inl p ↦ from_letters nested kind.Int letters tt four p
-        | inr h2 ↦ elim (either (starts_with nat_eq (code_of kind.Text) letters) _ h2) [
+        | inr h2 ↦ elim (or_either (starts_with nat_eq (code_of kind.Text) letters) _ h2) [
           | inl p ↦ from_letters nested kind.Text letters tt four p
-          | inr h3 ↦ elim (either (starts_with nat_eq (code_of kind.Point) letters) _ h3) [
+          | inr h3 ↦ elim (or_either (starts_with nat_eq (code_of kind.Point) letters) _ h3) [
             | inl p ↦ from_letters nested kind.Point letters tt four p
-            | inr h4 ↦ elim (either (starts_with nat_eq (code_of kind.Rect) letters) false h4) [
+            | inr h4 ↦ elim (or_either (starts_with nat_eq (code_of kind.Rect) letters) false h4) [
               | inl p ↦ from_letters nested kind.Rect letters tt four p
               | inr h5 ↦ absurd (cc h5)
             ]
@@ -74,7 +72,7 @@ plain_code nested letters four h =
 whole_code : (nested : Bool) (letters : List ℕ) → length letters ≡ 4 → begin_code nested letters ≡ true → IsCode nested letters
 unfolding begin_code
 whole_code true letters four h =
-    elim (either (starts_with nat_eq (code_of kind.Message) letters) _ h) [
+    elim (or_either (starts_with nat_eq (code_of kind.Message) letters) _ h) [
       | inl p ↦ from_letters true kind.Message letters refl four p
       | inr plain ↦ plain_code true letters four plain
     ]
@@ -108,7 +106,7 @@ passing p (suc n) read s x e =
       text = a.0.0 ∷ more.text;
       got_is = more.got_is ∙ append_assoc read (a.0.0 ∷ []) more.text;
       count = ap suc more.count;
-      pass = and_true _ _ (that_passes (p read) s a.0 a.1) more.pass;
+      pass = and_from _ _ (that_passes (p read) s a.0 a.1) more.pass;
     }
 
 -- a field can have the type that was read

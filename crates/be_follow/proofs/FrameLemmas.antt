@@ -5,9 +5,6 @@ use Rattle.be_geom.specs.Points.{in_range}
 use Rattle.be_geom.specs.Rects.{rect_fits}
 use Rattle.be_follow.specs.Frames.{shifted_frame}
 
-pub same_rects : (l l' t t' r r' b b' : ℤ) → l ≡ l' → t ≡ t' → r ≡ r' → b ≡ b' → ◌≡◌ {A = Rect} record { left = l; top = t; right = r; bottom = b } record { left = l'; top = t'; right = r'; bottom = b' }
-same_rects l l' t t' r r' b b' e f g h = rw (e, f, g, h)
-
 third_fails : (p q r s : Bool) → r ≡ false → (p && q && r && s) ≡ false
 third_fails p q r s e = grind arith
 

@@ -1,13 +1,13 @@
 -- A view's frame doesn't tell by which sizes its parent went.
 use Rattle.std.proofs.Common.{◌≡◌, ℤ, pos, ◌+ℤ◌, ◌-ℤ◌, arith}
 use Rattle.std.proofs.lemmas.Int.{ints}
+use Rattle.be_geom.proofs.RectLemmas.{same_rects}
 use Rattle.be_follow.specs.declared.mode.Across.{Across}
 use Rattle.be_follow.specs.declared.mode.Across.TheVariants as across
 use Rattle.be_follow.specs.declared.mode.Down.{Down}
 use Rattle.be_follow.specs.declared.mode.Down.TheVariants as down
 use Rattle.be_follow.specs.Shifts.{half, left_shift, right_shift, top_shift, bottom_shift}
 use Rattle.be_follow.specs.Frames.{AnyWayIsTheSame}
-use Rattle.be_follow.proofs.FrameLemmas.{same_rects}
 
 stays : (edge : ℤ) → edge +ℤ pos 0 +ℤ pos 0 ≡ edge +ℤ pos 0
 stays edge = omega (arith, ints)

@@ -6,8 +6,9 @@ use Rattle.std.proofs.lemmas.Nat.Bits.{bit_at-zero}
 use Rattle.std.proofs.lemmas.Bool.{cases_lt, le-ltb, lt-leb, leb-true, ltb-true}
 use Rattle.std.specs.Int.{leading_zeros, leading_ones}
 use Rattle.std.proofs.lemmas.Bool.Decides.{nat_tests}
+use Rattle.be_facts.proofs.Truths.{not_true, and_first, and_second}
 use Rattle.be_font.specs.Runs.{row_bit, IsFirstRun}
-use Rattle.be_font.proofs.TestLemmas.{all_below, all_below-at, and-first, and-second}
+use Rattle.be_font.proofs.TestLemmas.{all_below, all_below-at}
 
 abbrev pub rest_of : ℕ → ℕ → ℕ
 rest_of bits from = bit_and bits (255 / 2 ^ from)
@@ -52,10 +53,6 @@ pub row_bit-zero : (column : ℕ) → row_bit 0 column ≡ false
 unfolding row_bit
 row_bit-zero column = rw (bit_at-zero (7 - column), and-false) refl
 
-pub not-true : (a : Bool) → not a ≡ true → a ≡ false
-not-true true e = cc
-not-true false e = refl
-
 -- the tests of a run, each as a fact
 pub record RunParts (bits from first next : ℕ) : Type 0 where
   pub begins : from ≤ first
@@ -71,18 +68,18 @@ run_parts bits from first count e =
     let before = none_between bits from first in
     let inside = all_between bits first next in
     let after = stops bits next in
-    let e1 = and-second (nat_le from first) (nat_lt 0 count && (before && (inside && after))) e in
-    let e2 = and-second (nat_lt 0 count) (before && (inside && after)) e1 in
-    let e3 = and-second before (inside && after) e2 in
-    let e4 = and-second inside after e3 in
-    let some : 0 < count = ltb-true 0 count (and-first (nat_lt 0 count) (before && (inside && after)) e1) in
+    let e1 = and_second (nat_le from first) (nat_lt 0 count && (before && (inside && after))) e in
+    let e2 = and_second (nat_lt 0 count) (before && (inside && after)) e1 in
+    let e3 = and_second before (inside && after) e2 in
+    let e4 = and_second inside after e3 in
+    let some : 0 < count = ltb-true 0 count (and_first (nat_lt 0 count) (before && (inside && after)) e1) in
     record {
-      begins = leb-true from first (and-first (nat_le from first) (nat_lt 0 count && (before && (inside && after))) e);
+      begins = leb-true from first (and_first (nat_le from first) (nat_lt 0 count && (before && (inside && after))) e);
       some = omega arith;
-      none_before = and-first before (inside && after) e2;
-      all_inside = and-first inside after e3;
-      fits = leb-true next 8 (and-first (nat_le next 8) (not (row_bit bits next)) e4);
-      none_after = not-true (row_bit bits next) (and-second (nat_le next 8) (not (row_bit bits next)) e4);
+      none_before = and_first before (inside && after) e2;
+      all_inside = and_first inside after e3;
+      fits = leb-true next 8 (and_first (nat_le next 8) (not (row_bit bits next)) e4);
+      none_after = not_true (row_bit bits next) (and_second (nat_le next 8) (not (row_bit bits next)) e4);
     }
 
 -- what a byte passes is that its first run from there on is the one
@@ -94,7 +91,7 @@ run_is bits from first count e =
       ends = omega arith;
       none_before = λ column low high.
           let test = all_below-at 8 (λ k. nat_lt k from || (nat_le first k || not (row_bit bits k))) column parts.none_before (omega arith) in
-          not-true (row_bit bits column) (rw (le-ltb column from low, lt-leb first column high) at test);
+          not_true (row_bit bits column) (rw (le-ltb column from low, lt-leb first column high) at test);
       all_inside = λ column low high.
           let test = all_below-at 8 (λ k. nat_lt k first || (nat_le (first + count) k || row_bit bits k)) column parts.all_inside (omega arith) in
           let short : column < first + count = omega arith in
@@ -112,7 +109,7 @@ pub none_is : (bits from : ℕ) → none_left bits from ≡ true → (column : �
 none_is bits from e column low =
     ⊎_elim
     (λ within. let test = all_below-at 8 (λ k. nat_lt k from || not (row_bit bits k)) column e within in
-    not-true (row_bit bits column) (rw (le-ltb column from low) at test))
+    not_true (row_bit bits column) (rw (le-ltb column from low) at test))
     (λ past. row_bit-past bits column past)
     (cases_lt column 8)
 

@@ -1,2 +1,4 @@
 pub mod Between
 pub mod RectLemmas
+pub mod Numbered
+pub mod StretchLemmas

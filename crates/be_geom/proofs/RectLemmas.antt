@@ -1,17 +1,13 @@
 -- Lemmas on the pixels of a rectangle.
-use Rattle.std.proofs.Common.{◌≡◌, ℤ, Bool, true, false, ◌⊎◌, inl, inr, ◌≤ℤ◌, ◌<ℤ◌, ◌&&◌, ◌↔◌, IsTrue, arith, refl, sym}
+use Rattle.std.proofs.Common.{◌≡◌, ℤ, Bool, true, false, ◌⊎◌, inl, inr, ◌≤ℤ◌, ◌<ℤ◌, ◌&&◌, ◌↔◌, IsTrue, arith, refl, sym, pos, ◌+ℤ◌, ◌∙◌}
 use Rattle.std.specs.Int.{int_max, int_min}
-use Rattle.std.proofs.lemmas.Int.{ints, clamps}
+use Rattle.std.proofs.lemmas.Int.{ints, clamps, by_lt_z}
+use Rattle.std.proofs.lemmas.Bool.{true≢false}
+use Rattle.be_facts.proofs.Truths.{four_tests}
 use Rattle.be_geom.specs.declared.rect.Rect.{Rect}
 use Rattle.be_geom.specs.Rects.{rect_has, HasNoPixel, HasPixelsOfBoth}
 use Rattle.be_geom.specs.Points.{between}
-use Rattle.be_geom.proofs.Between.{between_tells}
-
-four_tests : (p q r s : Bool) → ((p && q) && (r && s)) ≡ ((p && r) && (q && s))
-four_tests true q true s = refl
-four_tests true true false s = refl
-four_tests true false false s = refl
-four_tests false q r s = refl
+use Rattle.be_geom.proofs.Between.{between_tells, is_between}
 
 -- a number between the inner ends is between both pairs
 between_both : (a b c d z : ℤ) → between (int_max a b) z (int_min c d) ≡ (between a z c && between b z d)
@@ -43,3 +39,13 @@ none_fails true false r s f g h k e = g refl
 none_fails true true false s f g h k e = h refl
 none_fails true true true false f g h k e = k refl
 none_fails true true true true f g h k e = sym e
+
+pub same_rects : (l l' t t' r r' b b' : ℤ) → l ≡ l' → t ≡ t' → r ≡ r' → b ≡ b' → ◌≡◌ {A = Rect} record { left = l; top = t; right = r; bottom = b } record { left = l'; top = t'; right = r'; bottom = b' }
+same_rects l l' t t' r r' b b' e f g h = rw (e, f, g, h) refl
+
+-- a pixel outside a rectangle lies on one of its sides
+pub out_of : (r : Rect) (x y : ℤ) → rect_has r x y ≡ false → (x <ℤ r.left) ⊎ (r.right <ℤ x) ⊎ (y <ℤ r.top) ⊎ ((r.bottom +ℤ pos 1) ≤ℤ y)
+out_of r x y e =
+    by_lt_z x r.left inl (λ left. by_lt_z r.right x (λ h. inr (inl h)) (λ right. by_lt_z y r.top (λ h. inr (inr (inl h))) (λ top. by_lt_z r.bottom y (λ h. inr (inr (inr (omega (arith, ints))))) (λ bottom.
+    let has : rect_has r x y ≡ true = rw (is_between r.left x r.right left right, is_between r.top y r.bottom top bottom) refl in
+    absurd (true≢false (sym has ∙ e))))))

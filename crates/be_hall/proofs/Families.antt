@@ -69,10 +69,6 @@ parting_long : (bs : List Branch) → 0 < length bs → 0 < length (parting_bran
 parting_long [] h = absurd (omega arith)
 parting_long (b ∷ bs) h = omega arith
 
-pub parted_long : (bs : List Branch) → 0 < length bs → 0 < length (parted_branches bs)
-parted_long [] h = absurd (omega arith)
-parted_long (b ∷ bs) h = omega arith
-
 pub longer_left : (bs cs : List Branch) → 0 < length bs → 0 < length (bs ++ cs)
 longer_left [] cs h = absurd (omega arith)
 longer_left (b ∷ bs) cs h = omega arith

@@ -2,6 +2,7 @@
 use Rattle.std.proofs.Common.{◌≢◌, ⊎_elim, ◌≡◌, ℕ, zero, suc, ◌+◌, ◌<◌, ◌≤◌, true, nat_lt, min, List, [], ◌∷◌, ◌++◌, map, length, Option, None, sym, refl, ap, ◌∙◌, subst, arith}
 use mathlib.Core.Option.{some, some-injective, some-ne-none}
 use lib.ListN.{get_elem?}
+use Rattle.be_facts.proofs.Truths.{and_second}
 use Rattle.be_hall.specs.declared.view.View.{View}
 use Rattle.be_hall.specs.declared.view.Mark.{Mark}
 use Rattle.be_hall.specs.declared.view.About.{About}
@@ -12,7 +13,7 @@ use Rattle.be_hall.specs.Logs.{appended, InHistory, AllBefore, IsAbove}
 use Rattle.be_hall.specs.History.{AllStand, Suits}
 use Rattle.be_hall.specs.Steps.{Sees, Committed}
 use Rattle.be_hall.specs.Passes.{marks_of, emptied, Makes, Gives}
-use Rattle.be_hall.proofs.Rising.{other_true, rising_short, rises_front, below_last}
+use Rattle.be_hall.proofs.Rising.{rising_short, rises_front, below_last}
 use Rattle.be_hall.proofs.Growth.{inside, tail_of, longer, legal_snoc, each_longer, all_snoc, fits_once, known_places}
 
 abbrev first_or : {A : Type 0} → A → List A → A
@@ -202,8 +203,8 @@ module _ {T M E : Type 0} (meaning : T → M) (log : T → List (ℕ × E)) wher
 pub last_apart : {T M E : Type 0} (meaning : T → M) (log : T → List (ℕ × E)) (low : ℕ) (held : List (ℕ × T)) (p : ℕ) → rises_from low (places_of held ++ p ∷ []) ≡ true → (z : Mark M E) → Has (marks_of meaning log held) z → z.place ≢ p
 last_apart meaning log low [] p h z has = absurd has
 last_apart {M = M} {E = E} meaning log low (y ∷ ys) p h z has = ⊎_elim
-    (λ (t : mark y.0 (meaning y.1) (log y.1) ≡ z). λ e. let short = rising_short (y.0 + 1) (places_of ys) p (other_true (nat_lt low (y.0 + 1)) _ h) in let same : y.0 ≡ p = ap (λ (m : Mark M E). m.place) t ∙ e in omega arith)
-    (λ rest. last_apart meaning log (y.0 + 1) ys p (other_true (nat_lt low (y.0 + 1)) _ h) z rest) has
+    (λ (t : mark y.0 (meaning y.1) (log y.1) ≡ z). λ e. let short = rising_short (y.0 + 1) (places_of ys) p (and_second (nat_lt low (y.0 + 1)) _ h) in let same : y.0 ≡ p = ap (λ (m : Mark M E). m.place) t ∙ e in omega arith)
+    (λ rest. last_apart meaning log (y.0 + 1) ys p (and_second (nat_lt low (y.0 + 1)) _ h) z rest) has
 
 -- a pass whose last part is x, which it has at p
 pub record Last {T M E : Type 0} (meaning : T → M) (log : T → List (ℕ × E)) (slots : ℕ) (marks : List (Mark M E)) (out : List (ℕ × Option T)) (held : List (ℕ × T)) (p : ℕ) (x : T) : Type 0 where

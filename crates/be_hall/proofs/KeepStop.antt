@@ -1,9 +1,10 @@
 -- Raising stop, and asking for it, keep the rule.
-use Rattle.std.proofs.Common.{◌≡◌, ℕ, ◌+◌, ◌*◌, ◌<◌, ◌≤◌, ◌≢◌, ◌⊎◌, inl, inr, Bool, true, false, List, [], ◌∷◌, length, get_or, set, Option, sym, refl, ap, ◌∙◌, subst, ⊎_elim, arith, length-set, get_or-set_other, get_or-set_same}
+use Rattle.std.proofs.Common.{◌≡◌, ℕ, ◌+◌, ◌*◌, ◌<◌, ◌≤◌, ◌≢◌, ◌⊎◌, inl, inr, true, List, [], ◌∷◌, length, get_or, set, Option, sym, refl, ap, ◌∙◌, subst, ⊎_elim, arith, length-set, get_or-set_other, get_or-set_same}
 use mathlib.Core.Option.{none, some}
 use lib.ListN.{get_elem?}
 use Rattle.atomic_table.specs.Table.{State, Me, step, keeps, stepped, Allows}
 use Rattle.atomic_table.proofs.Lists.{at_set}
+use Rattle.be_facts.proofs.Truths.{true_or_false}
 use Rattle.be_hall.specs.declared.view.View.{View}
 use Rattle.be_hall.specs.declared.view.Mark.{Mark}
 use Rattle.be_hall.specs.declared.view.About.{About}
@@ -20,10 +21,6 @@ use Rattle.be_hall.proofs.Marked.{held_renewed}
 use Rattle.be_hall.proofs.MissLemmas.{still_missed}
 use Rattle.be_hall.proofs.Families.{family_kept}
 use Rattle.be_hall.proofs.Stopping.{stop_set, stop_raised, stop_heard}
-
-bool_cases : (b : Bool) → (b ≡ true) ⊎ (b ≡ false)
-bool_cases true = inl refl
-bool_cases false = inr refl
 
 module _ {P M E T : Type 0} (machine : P → Machine M E) (meaning : T → M) (log : T → List (ℕ × E)) (a : About P M) where
   abbrev V : Type 0
@@ -113,7 +110,7 @@ module _ {P M E T : Type 0} (machine : P → Machine M E) (meaning : T → M) (l
         keeps,
         tt,
         rung s r n id me (unheard me.0) at record { about = refl; seen = refl; own = refl; ended = refl; marks = refl; branches = refl } (still_missed s.views id me.0 at r.misses (unheard me.0) refl refl refl refl) (stop_set n (get_or (set s.words 8 n) 8 0) s.views id me.0 (unheard me.0) same at refl refl r.stops),
-        (refl, inr (z, ⊎_elim (λ k. absurd (silent (inr k))) (λ k. k) (bool_cases me.0.knows), ⊎_elim (λ k. absurd (silent (inl k))) (λ k. k) (bool_cases me.0.raised), refl)),
+        (refl, inr (z, ⊎_elim (λ k. absurd (silent (inr k))) (λ k. k) (true_or_false me.0.knows), ⊎_elim (λ k. absurd (silent (inl k))) (λ k. k) (true_or_false me.0.raised), refl)),
       ))
       (λ (one : n ≡ 1). (
         hearing me.0,

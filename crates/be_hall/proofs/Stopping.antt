@@ -1,10 +1,12 @@
 -- The stop word.
-use Rattle.std.proofs.Common.{rules, ◌≡◌, ℕ, ◌≢◌, ◌⊎◌, inl, inr, Bool, true, false, ◌||◌, List, [], ◌∷◌, ◌++◌, set, sym, refl, ap, ◌∙◌, ⊎_elim}
+use Rattle.std.proofs.Common.{rules, ◌≡◌, ℕ, ◌≢◌, inl, inr, true, false, List, [], ◌∷◌, ◌++◌, set, sym, refl, ap, ◌∙◌, ⊎_elim}
+use Rattle.std.proofs.lemmas.Bool.{or_right, or_left}
 use mathlib.Core.Logic.{dite}
 use mathlib.Core.Option.{some, some-injective}
 use native.Mathlib.Decide.{ℕ_discrete}
 use lib.ListN.{get_elem?}
 use Rattle.atomic_table.proofs.Lists.{at_set, at_snoc, at_longer, set_here, set_else}
+use Rattle.be_facts.proofs.Truths.{or_either}
 use Rattle.be_hall.specs.declared.view.View.{View}
 use Rattle.be_hall.specs.Views.{parted, parting, joined, spent, raising, hearing}
 use Rattle.be_hall.specs.Stop.{Stops}
@@ -12,18 +14,6 @@ use Rattle.be_hall.proofs.Growth.{inside}
 
 untrue : {A : Type 0} → false ≡ true → A
 untrue e = absurd (grind rules)
-
-either_one : (a b : Bool) → (a || b) ≡ true → (a ≡ true) ⊎ (b ≡ true)
-either_one true b h = inl refl
-either_one false b h = inr h
-
-or_left : (a b : Bool) → a ≡ true → (a || b) ≡ true
-or_left true b h = refl
-or_left false b h = untrue h
-
-or_right : (a b : Bool) → b ≡ true → (a || b) ≡ true
-or_right true b h = refl
-or_right false b h = h
 
 module _ {P M E : Type 0} where
   -- one view changes, and says of stop what it said before
@@ -73,8 +63,8 @@ module _ {P M E : Type 0} where
             (λ (t : (j ≡ other) × (spent ≡ u)). ⊎_elim (λ r. untrue (ap (λ (z : View P M E). z.raised) t.1 ∙ r)) (λ k. untrue (ap (λ (z : View P M E). z.knows) t.1 ∙ k)) says)
             (λ (t : (j ≢ other) × (get_elem? vs j ≡ some u)). ⊎_elim
             (λ (q : (j ≡ id) × (joined v w ≡ u)). ⊎_elim
-            (λ r. ⊎_elim (λ a. s.told id v at (inl a)) (λ b. s.told other w there (inl b)) (either_one v.raised w.raised (ap (λ (z : View P M E). z.raised) q.1 ∙ r)))
-            (λ k. ⊎_elim (λ a. s.told id v at (inr a)) (λ b. s.told other w there (inr b)) (either_one v.knows w.knows (ap (λ (z : View P M E). z.knows) q.1 ∙ k)))
+            (λ r. ⊎_elim (λ a. s.told id v at (inl a)) (λ b. s.told other w there (inl b)) (or_either v.raised w.raised (ap (λ (z : View P M E). z.raised) q.1 ∙ r)))
+            (λ k. ⊎_elim (λ a. s.told id v at (inr a)) (λ b. s.told other w there (inr b)) (or_either v.knows w.knows (ap (λ (z : View P M E). z.knows) q.1 ∙ k)))
             says)
             (λ (q : (j ≢ id) × (get_elem? views j ≡ some u)). s.told j u q.1 says)
             (at_set views id j (joined v w) u t.1))

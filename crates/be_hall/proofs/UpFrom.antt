@@ -2,12 +2,12 @@
 use Rattle.std.proofs.Common.{◌≡◌, ℕ, zero, suc, ◌+◌, ◌≤◌, ◌<◌, true, nat_lt, List, [], ◌∷◌, ◌++◌, All, refl, ap, ◌∙◌, subst, arith, rules}
 use Rattle.std.proofs.lemmas.Bool.Decides.{nat_tests}
 use Rattle.std.proofs.lemmas.List.Elements.{All-cons}
+use Rattle.std.proofs.lemmas.Bool.{and_from}
 use Rattle.be_hall.specs.Hands.{rises_from, up_from}
-use Rattle.be_hall.proofs.Rising.{both_hold}
 
 pub up_rises : (k n : ℕ) → rises_from k (up_from k n) ≡ true
 up_rises k zero = refl
-up_rises k (suc n) = both_hold (nat_lt k (k + 1)) _ (grind (arith, nat_tests)) (let e : suc k ≡ k + 1 = omega arith in subst (λ (m : ℕ). rises_from m (up_from (suc k) n) ≡ true) e (up_rises (suc k) n))
+up_rises k (suc n) = and_from (nat_lt k (k + 1)) _ (grind (arith, nat_tests)) (let e : suc k ≡ k + 1 = omega arith in subst (λ (m : ℕ). rises_from m (up_from (suc k) n) ≡ true) e (up_rises (suc k) n))
 
 pub up_below : (places n k : ℕ) → k + n ≤ places → All (λ p. p < places) (up_from k n)
 up_below places zero k h = search rules

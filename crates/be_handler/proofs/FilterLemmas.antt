@@ -18,10 +18,6 @@ pub through-in : (what : ℕ) (list : Option Target) (f : Filter) (fs : List Fil
     through what (listed list (f ∷ fs)) (Some at) ≡ through what (listed list fs) (step_of what f at)
 through-in what list f fs at e = rw e refl
 
-pub through-out : (what : ℕ) (list : Option Target) (f : Filter) (fs : List Filter) (at : Target × Bool) → is_in_list list f.list ≡ false →
-    through what (listed list (f ∷ fs)) (Some at) ≡ through what (listed list fs) (Some at)
-through-out what list f fs at e = rw e refl
-
 -- a filter that skips ends the whole list
 pub filtered-skips : (what : ℕ) (list : Option Target) (fs : List Filter) (i : ℕ) (f : Filter) (at : Target × Bool) (target : Target) →
     i < length fs → f ≡ get_or fs i f → is_in_list list f.list ≡ true → step_of what f at ≡ None →

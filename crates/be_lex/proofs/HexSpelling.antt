@@ -57,7 +57,7 @@ place_in c (x ∷ table) h = place_behind (eqb x c) c x table refl h (place_in c
 digit_place : (c : ℕ) → is_hex_digit c ≡ true → (d : ℕ) × (d < 16) × (get_or lower_digits d 0 ≡ c)
 digit_place c h = place_in c lower_digits (grind (arith, nat_tests))
 
-bytes_cons : (b : ℕ) (bytes : List ℕ) → b < 256 → IsBytes bytes → IsBytes (b ∷ bytes)
+pub bytes_cons : (b : ℕ) (bytes : List ℕ) → b < 256 → IsBytes bytes → IsBytes (b ∷ bytes)
 bytes_cons b bytes small h zero = small
 bytes_cons b bytes small h (suc i) = h i
 

@@ -1,14 +1,16 @@
 -- The first line of some bytes.
-use Rattle.std.proofs.Common.{◌≡◌, ℕ, Bool, true, false, eqb, ◌-◌, ◌<◌, ◌≤◌, List, [], ◌∷◌, ◌++◌, ◌≢◌, length, take, drop, refl, sym, ap, ◌∙◌, inl, inr, arith}
+use Rattle.std.proofs.Common.{◌≡◌, ℕ, Bool, true, false, eqb, ◌-◌, ◌<◌, ◌≤◌, List, [], ◌∷◌, ◌++◌, ◌≢◌, length, take, drop, refl, sym, ap, ◌∙◌, inl, inr, arith, get_or}
 use Rattle.std.specs.List.{slice_split, position_or_len}
 use Rattle.std.proofs.lemmas.Bool.{ne_eqb}
 use Rattle.std.proofs.Math.Seq.{drop-length, take-length}
 use Rattle.std.proofs.lemmas.List.{take_all, append-nil}
+use Rattle.std.proofs.lemmas.Bool.Decides.{nat_tests}
 use Rattle.be_lex.specs.Lines.{lines_from, lines_of, is_line}
 use Rattle.be_lex.proofs.Cuts.{split_cut, split_pieces}
 use Rattle.be_lex.proofs.Spelling.{first_behind, take_front, drop_front}
+use Rattle.be_lex.specs.Words.{is_passed_over, words_of}
 
-abbrev is_line_end : ℕ → Bool
+abbrev pub is_line_end : ℕ → Bool
 is_line_end b = eqb b 10
 
 -- where no line feed stands, all bytes are one line
@@ -21,7 +23,7 @@ lines_of-last (b ∷ bytes) n some e none =
       | inr w ↦ let no = sym none ∙ w.2 in absurd cc
     ]
 
-lines_from-more : (piece : List ℕ) (pieces : List (List ℕ)) → (next : List ℕ) × (others : List (List ℕ)) × (pieces ≡ next ∷ others) → lines_from (piece ∷ pieces) ≡ record { bytes = piece; ended = true } ∷ lines_from pieces
+pub lines_from-more : (piece : List ℕ) (pieces : List (List ℕ)) → (next : List ℕ) × (others : List (List ℕ)) × (pieces ≡ next ∷ others) → lines_from (piece ∷ pieces) ≡ record { bytes = piece; ended = true } ∷ lines_from pieces
 lines_from-more piece pieces h = rw h.2 refl
 
 -- else the first line stands before it
@@ -63,3 +65,11 @@ lines_of-last_line [] h some = absurd (some refl)
 lines_of-last_line (b ∷ line) h some =
     let place : length (b ∷ line) ≡ position_or_len is_line_end (b ∷ line) = sym (first_behind is_line_end (b ∷ line) [] h refl) ∙ ap (position_or_len is_line_end) (append-nil (b ∷ line)) in
     lines_of-last (b ∷ line) (length (b ∷ line)) (ne_eqb (length (b ∷ line)) 0 (λ z. absurd (omega arith))) place (drop-length (b ∷ line)) ∙ rw (take-length (b ∷ line)) refl
+
+pub is_ten : (x : ℕ) → is_line_end x ≡ true → x ≡ 10
+is_ten x e = grind (arith, nat_tests, e)
+
+pub not_passed : (text word : List ℕ) (words : List (List ℕ)) → words_of text ≡ word ∷ words
+    → eqb (get_or word 0 0) 35 ≡ false → is_passed_over text ≡ false
+unfolding is_passed_over
+not_passed text word words e h = rw e h

@@ -6,7 +6,7 @@ use Rattle.std.specs.List.{list_all}
 use Rattle.std.specs.Str.{bytes_eq}
 use Rattle.std.specs.Str.Parse.{digits_value}
 use Rattle.std.specs.Fmt.{decimal, signed_decimal}
-use Rattle.std.proofs.lemmas.Bool.{and_parts, ne_eqb, eq-eqb, eqb-true}
+use Rattle.std.proofs.lemmas.Bool.{and_parts, ne_eqb, eq-eqb, eqb-true, false_from_ne_true}
 use Rattle.std.proofs.lemmas.Bool.Decides.{nat_tests}
 use Rattle.std.proofs.lemmas.Slice.Eq.{bytes_eq-Decides}
 use Rattle.std.proofs.lemmas.Str.Parse.{IsNumeralModel, numerals_by_value}
@@ -57,14 +57,10 @@ unsigned_form (d ∷ ds) h =
     let plain : eqb d 45 ≡ false = grind (arith, nat_tests) in
     rw plain (rw h refl, refl)
 
-false_unless : (b : Bool) → (b ≡ true → ⊥) → b ≡ false
-false_unless true h = absurd (h refl)
-false_unless false h = refl
-
 -- a number from 1 on isn't written as 0
 not_nought : (n : ℕ) → 0 < n → n < 2 ^ 64 → bytes_eq (decimal n) (codes "0") ≡ false
 not_nought n some small =
-    false_unless (bytes_eq (decimal n) (codes "0")) (λ same.
+    false_from_ne_true (bytes_eq (decimal n) (codes "0")) (λ same.
     let nought = (bytes_eq-Decides (decimal n) (codes "0")).0 same in
     let first = first_decimal n some small in
     let lead = ap (λ ds. get_or ds 0 0) nought in

@@ -6,6 +6,7 @@ use Rattle.std.specs.Char.{is_ascii_lowercase}
 use Rattle.std.specs.Str.{bytes_eq}
 use Rattle.std.proofs.lemmas.Bool.{and_parts, ne_eqb}
 use Rattle.std.proofs.lemmas.Bool.Decides.{nat_tests}
+use Rattle.be_facts.proofs.Truths.{not_true, and_false}
 use Rattle.be_lex.specs.Words.{words_of, is_word, is_space, is_empty, behind_word, ends_word}
 use Rattle.be_lex.specs.Names.{is_name_byte, is_name_within}
 use Rattle.be_lex.proofs.WordLemmas.{no_space, words_of-word, words_of-behind}
@@ -23,10 +24,6 @@ list_all_weaker test other weaker (x ∷ xs) h =
     let parts = and_parts (test x) (list_all test xs) h in
     rw (weaker x parts.0, list_all_weaker test other weaker xs parts.1) refl
 
-and_false : (b : Bool) → (b && false) ≡ false
-and_false true = refl
-and_false false = refl
-
 -- texts of different lengths are different
 pub bytes_eq_lengths : (xs ys : List ℕ) → (length xs ≡ length ys → ⊥) → bytes_eq xs ys ≡ false
 bytes_eq_lengths [] [] h = absurd (h refl)
@@ -38,10 +35,6 @@ bytes_eq_lengths (x ∷ xs) (y ∷ ys) h = rw (bytes_eq_lengths xs ys (λ e. h (
 
 abbrev spaceless : List ℕ → Bool
 spaceless word = list_all (λ b. not (is_space b)) word
-
-not_true : (b : Bool) → not b ≡ true → b ≡ false
-not_true true h = absurd cc
-not_true false h = refl
 
 -- the first that passes stands behind those that don't
 pub first_behind : (test : ℕ → Bool) (front back : List ℕ) (none : list_all (λ b. not (test b)) front ≡ true) → position_or_len test back ≡ 0 → position_or_len test (front ++ back) ≡ length front

@@ -1,11 +1,11 @@
 -- A colour that is read is one, and so is a pattern: what they are made of are bytes.
-use Rattle.std.proofs.Common.{◌≡◌, ℕ, zero, suc, ◌<◌, Bool, true, false, cond, ◌&&◌, get_or, length, List, [], ◌∷◌, Option, Some, None, refl, ap, ◌∙◌, subst, arith}
+use Rattle.std.proofs.Common.{◌≡◌, ℕ, zero, suc, Bool, true, false, cond, ◌&&◌, get_or, length, List, [], ◌∷◌, Option, Some, None, refl, ap, ◌∙◌, subst}
 use Rattle.std.specs.Prelude.{codes, nat_lt}
 use Rattle.std.specs.Option.{option_map}
 use Rattle.std.specs.Str.{bytes_eq}
 use Rattle.std.proofs.lemmas.Bool.{eq-eqb}
-use Rattle.std.proofs.lemmas.Bool.Decides.{nat_tests}
 use Rattle.hex.specs.Hex.{IsBytes}
+use Rattle.be_facts.proofs.Bytes.{small_byte}
 use Rattle.be_color.specs.declared.colors.Color.{Color}
 use Rattle.be_color.specs.declared.colors.Color.TheVariants.{Solid, Clear}
 use Rattle.be_color.specs.declared.patterns.Pattern.{Pattern}
@@ -13,9 +13,6 @@ use Rattle.be_lex.specs.Hex.{hex_bytes, are_bytes}
 use Rattle.be_lex.specs.Colors.{rgb_from, rgb_of, color_of, is_color}
 use Rattle.be_lex.specs.Patterns.{high_rows, low_rows, mixed_rows, with_rows, pattern_of, is_pattern}
 use Rattle.be_lex.proofs.HexSpelling.{hex_text-hex_bytes}
-
-small_byte : (b : ℕ) → b < 256 → nat_lt b 256 ≡ true
-small_byte b h = grind (arith, nat_tests)
 
 are_bytes-each : (bytes : List ℕ) → IsBytes bytes → are_bytes bytes ≡ true
 are_bytes-each [] h = refl

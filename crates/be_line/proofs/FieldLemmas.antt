@@ -4,6 +4,8 @@ use Rattle.std.specs.Prelude.{fold, option_map, OnOk}
 use Rattle.std.specs.List.{list_all, list_any}
 use Rattle.std.proofs.lemmas.List.{map-append}
 use Rattle.std.proofs.lemmas.List.Folds.{list_all-append}
+use Rattle.std.proofs.lemmas.Bool.{and_from}
+use Rattle.be_facts.proofs.Truths.{and_false, and_first, and_second, and_true}
 use Rattle.be_actor.specs.declared.FieldWord.{FieldWord}
 use Rattle.be_actor.specs.Drafts.{Word}
 use Rattle.be_actor.specs.DraftViews as views
@@ -14,7 +16,6 @@ use Rattle.be_line.specs.declared.standing.Standing.{Standing}
 use Rattle.be_line.specs.Fields.{all_there, is_in_range, ranged, together}
 use Rattle.be_line.specs.Standing.{IsFormed, IsGiven, IsPushed, IsStanding, kind_under}
 use Rattle.be_line.specs.Words.{ended, goes_with, is_current, name_of, next, standing}
-use Rattle.be_line.proofs.OptionLemmas.{and-false, and-left, and-right, and-true}
 use Rattle.be_line.proofs.StandingLemmas.{word_goes}
 
 -- ---- words that go together
@@ -37,16 +38,12 @@ together_more (other ∷ ws) w =
     ∙ ap (λ b. (list_all (go_together other) ws && (go_together other w && true)) && b) (together_more ws w)
     ∙ shuffled (list_all (go_together other) ws) (go_together other w) (all_go_together ws) (goes ws w)
 
-both_true : (a b : Bool) → a ≡ true → b ≡ true → (a && b) ≡ true
-both_true true b one other = other
-both_true false b one other = one
-
 together_then : (ws : List Word) (w : Word) → all_go_together ws ≡ true → goes ws w ≡ true → all_go_together (ws ++ w ∷ []) ≡ true
-together_then ws w all one = together_more ws w ∙ both_true (all_go_together ws) (goes ws w) all one
+together_then ws w all one = together_more ws w ∙ and_from (all_go_together ws) (goes ws w) all one
 
 broken_step : (a b c d : Bool) → (a && c) ≡ false → (c ≡ false → d ≡ false) → ((a && b) && d) ≡ false
 broken_step true b true d broken same = (cc)
-broken_step true b false d broken same = ap (λ v. (true && b) && v) (same refl) ∙ and-false (true && b)
+broken_step true b false d broken same = ap (λ v. (true && b) && v) (same refl) ∙ and_false (true && b)
 broken_step false b c d broken same = refl
 
 -- where one doesn't go with those before it, all don't go together
@@ -59,7 +56,7 @@ together_prefix (w ∷ ws) more broken =
 together_broken : (ws : List Word) (w : Word) (more : List Word) → goes ws w ≡ false → all_go_together (ws ++ w ∷ more) ≡ false
 together_broken ws w more broken =
     ap all_go_together (sym (append_assoc ws (w ∷ []) more))
-    ∙ together_prefix (ws ++ w ∷ []) more (together_more ws w ∙ ap (λ b. all_go_together ws && b) broken ∙ and-false (all_go_together ws))
+    ∙ together_prefix (ws ++ w ∷ []) more (together_more ws w ∙ ap (λ b. all_go_together ws && b) broken ∙ and_false (all_go_together ws))
 
 -- ---- to the last word
 
@@ -126,7 +123,7 @@ none_is true w e = (cc)
 none_is false w e = refl
 
 ranged_more : (ws : List Word) (w : Word) → list_all is_in_range (ws ++ w ∷ []) ≡ (list_all is_in_range ws && is_in_range w)
-ranged_more ws w = list_all-append is_in_range ws (w ∷ []) ∙ ap (λ b. list_all is_in_range ws && b) (and-true (is_in_range w))
+ranged_more ws w = list_all-append is_in_range ws (w ∷ []) ∙ ap (λ b. list_all is_in_range ws && b) (and_true (is_in_range w))
 
 -- one word more that is given
 pub pushed_some : (w : Word) (g h : GivenFields) (field : FieldWord) → h.is_formed ≡ g.is_formed → h.standing ≡ g.standing →
@@ -137,7 +134,7 @@ pushed_some w g h field formed stand same items is =
     record {
       formed = formed;
       stand = stand;
-      in_range = same ∙ sym (ap (λ b. g.is_in_range && b) parts.0 ∙ and-true g.is_in_range);
+      in_range = same ∙ sym (ap (λ b. g.is_in_range && b) parts.0 ∙ and_true g.is_in_range);
       fields =
           ap views.seen_words items
           ∙ map-append views.seen_word g.fields.items (field ∷ [])
@@ -153,7 +150,7 @@ pushed_none w g h formed stand out items is =
     record {
       formed = formed;
       stand = stand;
-      in_range = out ∙ sym (ap (λ b. g.is_in_range && b) never ∙ and-false g.is_in_range);
+      in_range = out ∙ sym (ap (λ b. g.is_in_range && b) never ∙ and_false g.is_in_range);
       fields =
           ap views.seen_words items
           ∙ sym (ap (λ b. cond b (views.seen_words g.fields.items ++ w ∷ []) (views.seen_words g.fields.items)) never);
@@ -170,19 +167,14 @@ formed_more ws w g h s k one stand p = record {
   fields = λ e.
       let both : (g.is_in_range && is_in_range w) ≡ true = sym p.in_range ∙ e in
       p.fields
-      ∙ ap (λ b. cond b (views.seen_words g.fields.items ++ w ∷ []) (views.seen_words g.fields.items)) (and-right g.is_in_range (is_in_range w) both)
-      ∙ ap (λ before. before ++ w ∷ []) (k.fields (and-left g.is_in_range (is_in_range w) both));
+      ∙ ap (λ b. cond b (views.seen_words g.fields.items ++ w ∷ []) (views.seen_words g.fields.items)) (and_second g.is_in_range (is_in_range w) both)
+      ∙ ap (λ before. before ++ w ∷ []) (k.fields (and_first g.is_in_range (is_in_range w) both));
 }
 
 -- a word without a form
 pub none_next : (state : Option (List Word)) (g : GivenFields) → g.is_formed ≡ false → IsGiven (next state None) g
 none_next None g broken = broken
 none_next (Some ws) g broken = broken
-
--- a word behind one that was wrong
-pub unformed_next : (state : Option (List Word)) (w : Option Word) (g : GivenFields) → g.is_formed ≡ false → IsGiven state g → IsGiven (next state w) g
-unformed_next None w g broken k = broken
-unformed_next (Some ws) w g broken k = (cc (k.formed))
 
 given_unless : (v : Bool) (ws : List Word) (g : GivenFields) → v ≡ false → g.is_formed ≡ false → IsGiven (cond v (Some ws) None) g
 given_unless true ws g never broken = (cc)

@@ -4,6 +4,7 @@ use Rattle.std.specs.Prelude.{fold, option_map}
 use Rattle.std.specs.List.{list_all}
 use Rattle.std.proofs.lemmas.List.Folds.{list_all-append}
 use Rattle.std.proofs.lemmas.List.Sums.{fold-append}
+use Rattle.be_facts.proofs.Truths.{and_false, and_second, and_first, and_true}
 use Rattle.be_color.specs.declared.colors.Color.{Color}
 use Rattle.be_geom.specs.Points.{between}
 use Rattle.be_command.specs.declared.fault.Reason.{Reason}
@@ -59,19 +60,6 @@ none_given = record {
   color = λ c. refl;
 }
 
-pub and-true : (a : Bool) → (a && true) ≡ a
-and-true true = refl
-and-true false = refl
-
-pub and-left : (a b : Bool) → (a && b) ≡ true → a ≡ true
-and-left true b e = refl
-and-left false b e = e
-
-pub and-right : (a b : Bool) → (a && b) ≡ true → b ≡ true
-and-right true b e = e
-and-right false true e = refl
-and-right false false e = e
-
 -- what holds of others and of one more
 like_one : (os : List WindowOption) (o p : WindowOption) (b : Bool) → none_like p os ≡ b → none_like p (os ++ o ∷ []) ≡ (b && (not (options.same_option o p) && true))
 like_one os o p b e = list_all-append (λ other. not (options.same_option other p)) os (o ∷ []) ∙ ap (λ v. v && (not (options.same_option o p) && true)) e
@@ -79,7 +67,7 @@ like_one os o p b e = list_all-append (λ other. not (options.same_option other 
 ranged_one : (os : List WindowOption) (o : WindowOption) (b : Bool) → b ≡ list_all options.is_in_range os → (b && options.is_in_range o) ≡ list_all options.is_in_range (os ++ o ∷ [])
 ranged_one os o b e =
     ap (λ v. v && options.is_in_range o) e
-    ∙ sym (list_all-append options.is_in_range os (o ∷ []) ∙ ap (λ v. list_all options.is_in_range os && v) (and-true (options.is_in_range o)))
+    ∙ sym (list_all-append options.is_in_range os (o ∷ []) ∙ ap (λ v. list_all options.is_in_range os && v) (and_true (options.is_in_range o)))
 
 formed_one : (os : List WindowOption) (o : WindowOption) (b has : Bool) → b ≡ options.stand_once os → none_like o os ≡ not has → (b && not has) ≡ options.stand_once (os ++ o ∷ [])
 formed_one os o b has e none = ap (λ v. v && not has) e ∙ ap (λ v. options.stand_once os && v) (sym none) ∙ sym (once_more os o)
@@ -88,12 +76,8 @@ folded_one : (os : List WindowOption) (o : WindowOption) (so_far : Options) →
     (list_all options.is_in_range os ≡ true → so_far ≡ fold options.with_option options.no_options os) →
     list_all options.is_in_range (os ++ o ∷ []) ≡ true → options.with_option so_far o ≡ fold options.with_option options.no_options (os ++ o ∷ [])
 folded_one os o so_far known e =
-    let all : list_all options.is_in_range os ≡ true = and-left (list_all options.is_in_range os) (options.is_in_range o && true) (sym (list_all-append options.is_in_range os (o ∷ [])) ∙ e) in
+    let all : list_all options.is_in_range os ≡ true = and_first (list_all options.is_in_range os) (options.is_in_range o && true) (sym (list_all-append options.is_in_range os (o ∷ [])) ∙ e) in
     ap (λ v. options.with_option v o) (known all) ∙ sym (fold-append options.with_option options.no_options os (o ∷ []))
-
-pub and-false : (a : Bool) → (a && false) ≡ false
-and-false true = refl
-and-false false = refl
 
 -- a port out of range says nothing
 port_folded : (os : List WindowOption) (m : ℤ) (so_far : Options) →
@@ -101,45 +85,45 @@ port_folded : (os : List WindowOption) (m : ℤ) (so_far : Options) →
     list_all options.is_in_range (os ++ option.Port m ∷ []) ≡ true →
     cond (between (pos 1) m (pos 100)) (options.with_option so_far (option.Port m)) so_far ≡ fold options.with_option options.no_options (os ++ option.Port m ∷ [])
 port_folded os m so_far known e =
-    let inside : between (pos 1) m (pos 100) ≡ true = and-left (between (pos 1) m (pos 100)) true (and-right (list_all options.is_in_range os) _ (sym (list_all-append options.is_in_range os (option.Port m ∷ [])) ∙ e)) in
+    let inside : between (pos 1) m (pos 100) ≡ true = and_first (between (pos 1) m (pos 100)) true (and_second (list_all options.is_in_range os) _ (sym (list_all-append options.is_in_range os (option.Port m ∷ [])) ∙ e)) in
     ap (λ b. cond b (options.with_option so_far (option.Port m)) so_far) inside ∙ folded_one os (option.Port m) so_far known e
 
 step : (os : List WindowOption) (given : Given) (o : WindowOption) → IsGiven os given → IsGiven (os ++ o ∷ []) (with_one given o)
 step os given option.FirstClick k = record {
   formed = formed_one os option.FirstClick given.is_formed given.has_first_click k.formed k.first_click;
-  ranged = sym (and-true given.is_in_range) ∙ ranged_one os option.FirstClick given.is_in_range k.ranged;
+  ranged = sym (and_true given.is_in_range) ∙ ranged_one os option.FirstClick given.is_in_range k.ranged;
   so_far = folded_one os option.FirstClick given.options k.so_far;
-  first_click = like_one os option.FirstClick option.FirstClick _ k.first_click ∙ and-false _;
-  avoid_focus = like_one os option.FirstClick option.AvoidFocus _ k.avoid_focus ∙ and-true _;
-  port = λ n. like_one os option.FirstClick (option.Port n) _ (k.port n) ∙ and-true _;
-  color = λ c. like_one os option.FirstClick (option.Color c) _ (k.color c) ∙ and-true _;
+  first_click = like_one os option.FirstClick option.FirstClick _ k.first_click ∙ and_false _;
+  avoid_focus = like_one os option.FirstClick option.AvoidFocus _ k.avoid_focus ∙ and_true _;
+  port = λ n. like_one os option.FirstClick (option.Port n) _ (k.port n) ∙ and_true _;
+  color = λ c. like_one os option.FirstClick (option.Color c) _ (k.color c) ∙ and_true _;
 }
 step os given option.AvoidFocus k = record {
   formed = formed_one os option.AvoidFocus given.is_formed given.has_avoid_focus k.formed k.avoid_focus;
-  ranged = sym (and-true given.is_in_range) ∙ ranged_one os option.AvoidFocus given.is_in_range k.ranged;
+  ranged = sym (and_true given.is_in_range) ∙ ranged_one os option.AvoidFocus given.is_in_range k.ranged;
   so_far = folded_one os option.AvoidFocus given.options k.so_far;
-  first_click = like_one os option.AvoidFocus option.FirstClick _ k.first_click ∙ and-true _;
-  avoid_focus = like_one os option.AvoidFocus option.AvoidFocus _ k.avoid_focus ∙ and-false _;
-  port = λ n. like_one os option.AvoidFocus (option.Port n) _ (k.port n) ∙ and-true _;
-  color = λ c. like_one os option.AvoidFocus (option.Color c) _ (k.color c) ∙ and-true _;
+  first_click = like_one os option.AvoidFocus option.FirstClick _ k.first_click ∙ and_true _;
+  avoid_focus = like_one os option.AvoidFocus option.AvoidFocus _ k.avoid_focus ∙ and_false _;
+  port = λ n. like_one os option.AvoidFocus (option.Port n) _ (k.port n) ∙ and_true _;
+  color = λ c. like_one os option.AvoidFocus (option.Color c) _ (k.color c) ∙ and_true _;
 }
 step os given (option.Port m) k = record {
   formed = formed_one os (option.Port m) given.is_formed given.has_port k.formed (k.port m);
   ranged = ranged_one os (option.Port m) given.is_in_range k.ranged;
   so_far = port_folded os m given.options k.so_far;
-  first_click = like_one os (option.Port m) option.FirstClick _ k.first_click ∙ and-true _;
-  avoid_focus = like_one os (option.Port m) option.AvoidFocus _ k.avoid_focus ∙ and-true _;
-  port = λ n. like_one os (option.Port m) (option.Port n) _ (k.port n) ∙ and-false _;
-  color = λ c. like_one os (option.Port m) (option.Color c) _ (k.color c) ∙ and-true _;
+  first_click = like_one os (option.Port m) option.FirstClick _ k.first_click ∙ and_true _;
+  avoid_focus = like_one os (option.Port m) option.AvoidFocus _ k.avoid_focus ∙ and_true _;
+  port = λ n. like_one os (option.Port m) (option.Port n) _ (k.port n) ∙ and_false _;
+  color = λ c. like_one os (option.Port m) (option.Color c) _ (k.color c) ∙ and_true _;
 }
 step os given (option.Color b) k = record {
   formed = formed_one os (option.Color b) given.is_formed given.has_color k.formed (k.color b);
-  ranged = sym (and-true given.is_in_range) ∙ ranged_one os (option.Color b) given.is_in_range k.ranged;
+  ranged = sym (and_true given.is_in_range) ∙ ranged_one os (option.Color b) given.is_in_range k.ranged;
   so_far = folded_one os (option.Color b) given.options k.so_far;
-  first_click = like_one os (option.Color b) option.FirstClick _ k.first_click ∙ and-true _;
-  avoid_focus = like_one os (option.Color b) option.AvoidFocus _ k.avoid_focus ∙ and-true _;
-  port = λ n. like_one os (option.Color b) (option.Port n) _ (k.port n) ∙ and-true _;
-  color = λ c. like_one os (option.Color b) (option.Color c) _ (k.color c) ∙ and-false _;
+  first_click = like_one os (option.Color b) option.FirstClick _ k.first_click ∙ and_true _;
+  avoid_focus = like_one os (option.Color b) option.AvoidFocus _ k.avoid_focus ∙ and_true _;
+  port = λ n. like_one os (option.Color b) (option.Port n) _ (k.port n) ∙ and_true _;
+  color = λ c. like_one os (option.Color b) (option.Color c) _ (k.color c) ∙ and_false _;
 }
 
 -- ---- to the last word

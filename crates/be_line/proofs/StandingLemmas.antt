@@ -4,8 +4,9 @@ use Rattle.std.specs.Option.{option_or}
 use Rattle.std.specs.List.{list_all, list_any}
 use Rattle.std.specs.Str.{bytes_eq}
 use Rattle.std.proofs.lemmas.List.Folds.{list_any-append}
-use Rattle.std.proofs.lemmas.Bool.Decides.{same_from_decides}
 use Rattle.std.proofs.lemmas.Slice.Eq.{bytes_eq-Decides}
+use Rattle.be_facts.proofs.Truths.{or_false, and_false, and_first, and_second}
+use Rattle.be_facts.proofs.Bytes.{bytes_eq_turned}
 use Rattle.be_actor.specs.Drafts.{Word, value, current, copied}
 use Rattle.be_actor.specs.Limits.{go_together, all_go_together}
 use Rattle.be_message.specs.Messages.{Datum}
@@ -14,18 +15,12 @@ use Rattle.be_message.specs.Kinds.{is_kind, kind_number}
 use Rattle.be_message.specs.Sound.{kind_of}
 use Rattle.be_message.proofs.SoundLemmas.{same_kind}
 use Rattle.be_line.specs.Words.{name_of, sort_of, is_current, is_copied, standing, fits, is_free, goes_with}
-use Rattle.be_line.proofs.OptionLemmas.{and-false, and-left, and-right}
 
 -- ---- names and types
 
-turned : (a b : List ℕ) → bytes_eq a b ≡ bytes_eq b a
-turned a b =
-    same_from_decides (bytes_eq a b) (bytes_eq b a) (bytes_eq-Decides a b)
-    (λ h. sym ((bytes_eq-Decides b a).0 h), λ h. (bytes_eq-Decides b a).1 (sym h))
-
 -- a name that is this one is like another where this one is
 like_name : (a b c : List ℕ) → bytes_eq a b ≡ true → bytes_eq c b ≡ bytes_eq a c
-like_name a b c same = ap (bytes_eq c) (sym ((bytes_eq-Decides a b).0 same)) ∙ turned c a
+like_name a b c same = ap (bytes_eq c) (sym ((bytes_eq-Decides a b).0 same)) ∙ bytes_eq_turned c a
 
 -- types that are one have one number
 like_kind : (x y z : Kind) → is_kind x y ≡ true → is_kind x z ≡ true → is_kind z y ≡ true
@@ -51,8 +46,8 @@ beside_all : (a b : List ℕ) (x y : Datum) (ws : List Word) → bytes_eq a b �
     list_all (go_together (value a x)) ws ≡ true → list_all (λ w. go_together w (value b y)) ws ≡ true
 beside_all a b x y [] same kind h = refl
 beside_all a b x y (w ∷ ws) same kind h =
-    ap (λ v. v && list_all (λ w. go_together w (value b y)) ws) (beside_one a b x y w same kind (and-left _ _ h))
-    ∙ beside_all a b x y ws same kind (and-right _ _ h)
+    ap (λ v. v && list_all (λ w. go_together w (value b y)) ws) (beside_one a b x y w same kind (and_first _ _ h))
+    ∙ beside_all a b x y ws same kind (and_second _ _ h)
 
 first_value : (v k : Bool) (kind : Kind) (there : Option (Option Kind)) (other : Kind) (rest : Bool) → is_kind kind other ≡ k →
     (v ≡ true → k ≡ true → rest ≡ true) → (v ≡ false → rest ≡ fits there other) →
@@ -71,16 +66,16 @@ value_goes : (ws : List Word) (b : List ℕ) (y : Datum) → all_go_together ws 
 value_goes [] b y together = refl
 value_goes (value a x ∷ ws) b y together =
     first_value (bytes_eq a b) (is_kind (kind_of x) (kind_of y)) (kind_of x) (standing ws b) (kind_of y) _ refl
-    (λ same kind. beside_all a b x y ws same kind (and-left _ _ together))
-    (λ _. value_goes ws b y (and-right _ _ together))
-value_goes (current a ∷ ws) b y together = first_alone (bytes_eq a b) (standing ws b) (kind_of y) _ (value_goes ws b y (and-right _ _ together))
-value_goes (copied a ∷ ws) b y together = first_alone (bytes_eq a b) (standing ws b) (kind_of y) _ (value_goes ws b y (and-right _ _ together))
+    (λ same kind. beside_all a b x y ws same kind (and_first _ _ together))
+    (λ _. value_goes ws b y (and_second _ _ together))
+value_goes (current a ∷ ws) b y together = first_alone (bytes_eq a b) (standing ws b) (kind_of y) _ (value_goes ws b y (and_second _ _ together))
+value_goes (copied a ∷ ws) b y together = first_alone (bytes_eq a b) (standing ws b) (kind_of y) _ (value_goes ws b y (and_second _ _ together))
 
 -- ---- what stands alone
 
 free_step : (v : Bool) (sort : Option Kind) (there : Option (Option Kind)) (c d rest : Bool) → rest ≡ (c && (d && is_free there)) →
     (not v && rest) ≡ (c && (d && is_free (cond v (Some sort) there)))
-free_step true sort there c d rest same = sym (ap (λ e. c && e) (and-false d) ∙ and-false c)
+free_step true sort there c d rest same = sym (ap (λ e. c && e) (and_false d) ∙ and_false c)
 free_step false sort there c d rest same = same
 
 current_goes : (ws : List Word) (b : List ℕ) →
@@ -89,11 +84,11 @@ current_goes [] b = refl
 current_goes (value a x ∷ ws) b =
     free_step (bytes_eq a b) (Some (kind_of x)) (standing ws b) (not (list_any is_current ws)) (not (list_any is_copied ws)) _ (current_goes ws b)
 current_goes (current a ∷ ws) b = refl
-current_goes (copied a ∷ ws) b = sym (and-false (not (list_any is_current ws)))
+current_goes (copied a ∷ ws) b = sym (and_false (not (list_any is_current ws)))
 
 copied_step : (v : Bool) (sort : Option Kind) (there : Option (Option Kind)) (c rest : Bool) → rest ≡ (c && is_free there) →
     (not v && rest) ≡ (c && is_free (cond v (Some sort) there))
-copied_step true sort there c rest same = sym (and-false c)
+copied_step true sort there c rest same = sym (and_false c)
 copied_step false sort there c rest same = same
 
 copied_goes : (ws : List Word) (b : List ℕ) →
@@ -109,10 +104,6 @@ pub word_goes : (ws : List Word) (w : Word) → all_go_together ws ≡ true →
 word_goes ws (value b y) together = value_goes ws b y together
 word_goes ws (current b) together = current_goes ws b
 word_goes ws (copied b) together = copied_goes ws b
-
-or-false : (v : Bool) → (v || false) ≡ v
-or-false true = refl
-or-false false = refl
 
 -- ---- one word more
 
@@ -137,8 +128,8 @@ same_sort : (there : Option (Option Kind)) (c d : Bool) (w : Word) → goes_with
 same_sort None c d w goes = refl
 same_sort (Some (Some kind)) c d (value name datum) goes = ap (λ k. Some (Some k)) (sym (same_kind kind (kind_of datum) goes))
 same_sort (Some None) c d (value name datum) goes = (cc)
-same_sort (Some sort) c d (current name) goes = (cc (and-right (not d) false (and-right (not c) (not d && false) goes)))
-same_sort (Some sort) c d (copied name) goes = (cc (and-right (not c) false goes))
+same_sort (Some sort) c d (current name) goes = (cc (and_second (not d) false (and_second (not c) (not d && false) goes)))
+same_sort (Some sort) c d (copied name) goes = (cc (and_second (not c) false goes))
 
 put_step : (v : Bool) (sort : Option Kind) (there before : Option (Option Kind)) → (v ≡ true → before ≡ there) →
     option_or there (Some sort) ≡ Some sort → cond v (Some sort) before ≡ option_or before (cond v (Some sort) None)
@@ -158,4 +149,4 @@ stands_then there ws w c d known goes other =
 
 -- whether one of them is of a sort
 pub any_more : (test : Word → Bool) (ws : List Word) (w : Word) → (list_any test ws || test w) ≡ list_any test (ws ++ w ∷ [])
-any_more test ws w = sym (list_any-append test ws (w ∷ []) ∙ ap (λ v. list_any test ws || v) (or-false (test w)))
+any_more test ws w = sym (list_any-append test ws (w ∷ []) ∙ ap (λ v. list_any test ws || v) (or_false (test w)))

@@ -14,18 +14,18 @@ use Rattle.be_machine.specs.declared.Entry.{Entry}
 use Rattle.be_machine.specs.Program.{has_ended}
 use Rattle.std.specs.Prelude.{flat_map}
 use Rattle.be_machine.proofs.Waiting.{total, IsWaiting, claims_at}
-use Rattle.std.proofs.Common.{◌≤◌, arith}
+use Rattle.std.proofs.Common.{arith}
 use Rattle.be_actor.specs.declared.Instruction.{Instruction}
 use Rattle.be_machine.proofs.Balances.{in_cell, of_app, Answers}
-use Rattle.be_machine.proofs.Lists.{both_first}
-use Rattle.std.specs.Prelude.{flat_map, nat_le}
+use Rattle.std.specs.Prelude.{flat_map}
 use Rattle.std.proofs.lemmas.Option.{slice_get_past, slice_get_within, slice_get-get_or}
 use Rattle.std.proofs.lemmas.List.FromFn.{get_or-range_with_len, length-range_with_len}
-use Rattle.std.proofs.lemmas.Bool.Decides.{nat_tests}
 use Rattle.std.proofs.Common.{◌<◌}
 use Rattle.be_actor.specs.declared.Place.{Place}
-use Rattle.be_machine.proofs.Lists.{all_get}
 use Rattle.std.specs.List.{list_all, range_with_len}
+use Rattle.be_facts.proofs.Numbers.{nat_le_tells}
+use Rattle.be_facts.proofs.Lists.{all_at}
+use Rattle.be_facts.proofs.Truths.{and_first}
 use Rattle.be_actor.specs.Wishes.{is_at_end}
 use Rattle.be_machine.specs.History.{IsLegalHistory, state_after}
 use Rattle.be_machine.specs.Program.{app_program}
@@ -40,11 +40,8 @@ range_get : (n k i : ℕ) → i < n → slice_get (range_with_len k n) i ≡ Som
 range_get n k i inside =
     slice_get-get_or (range_with_len k n) i 0 (rw length-range_with_len inside) ∙ ap Some (get_or-range_with_len k n i 0 inside)
 
-at_end : (m n : ℕ) → nat_le m n ≡ true → m ≤ n
-at_end m n e = grind (arith, nat_tests)
-
 ended_claims : (program : List Instruction) (place : Place) → is_at_end program place ≡ true → claims_at program place ≡ false
-ended_claims program place e = ap (λ o. claims o place.part) (slice_get_past program place.step (at_end (length program) place.step e))
+ended_claims program place e = ap (λ o. claims o place.part) (slice_get_past program place.step (nat_le_tells (length program) place.step e))
 
 -- an application at its end has no reply in its cell
 ended_cell : (kind : Answered) (d : Declared) (s : State) (m : ℕ) (a : App) → IsWaiting d s → slice_get s.apps m ≡ Some a → has_ended d s m ≡ true → in_cell kind a.cell ≡ 0
@@ -53,7 +50,7 @@ ended_cell kind d s m a waits read e =
     no_reply_there kind a.cell (waits.busy m a read ∙ ended_claims (app_program d m) a.place at)
 
 all_ended : (d : Declared) (s : State) (m : ℕ) → all_done d s ≡ true → m < length s.apps → has_ended d s m ≡ true
-all_ended d s m done inside = all_get (has_ended d s) (range_with_len 0 (length s.apps)) m m (both_first (list_all (has_ended d s) (range_with_len 0 (length s.apps))) _ done) (let same : 0 + m ≡ m = omega arith in range_get (length s.apps) 0 m inside ∙ ap Some same)
+all_ended d s m done inside = all_at (has_ended d s) (range_with_len 0 (length s.apps)) m m (and_first (list_all (has_ended d s) (range_with_len 0 (length s.apps))) _ done) (let same : 0 + m ≡ m = omega arith in range_get (length s.apps) 0 m inside ∙ ap Some same)
 
 none_waits : (kind : Answered) (d : Declared) (s : State) → IsWaiting d s → all_done d s ≡ true → total (of_app kind) s.apps ≡ 0
 none_waits kind d s waits done = total_none (of_app kind) s.apps (λ m a read. ended_cell kind d s m a waits read (all_ended d s m done (slice_get_within s.apps m a read)))

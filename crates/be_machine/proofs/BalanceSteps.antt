@@ -13,18 +13,16 @@ use Rattle.be_geom.specs.declared.change.Change.TheVariants.{Activate}
 use Rattle.be_link.specs.Queues.{Numbered, Buffer, is_full, fits}
 use Rattle.be_message.specs.Messages.{Message}
 use Rattle.be_pane.specs.Panes.{Pane}
-use Rattle.be_port.specs.declared.Duty.{Duty}
 use Rattle.be_port.specs.Ports.{Letter, Port, judged, front}
 use Rattle.be_script.specs.Script.{Declared}
 use Rattle.be_stack.specs.declared.fault.ChangeFault.{ChangeFault}
-use Rattle.be_machine.specs.Activities.{Runner, app, looper}
 use Rattle.be_machine.specs.Commands.{draw_act, flush_act, sync_act, exec_act, effect_outcome, flushed, with_effect, done_at_view, without_front, executed_command, executed}
 use Rattle.be_machine.specs.declared.Act.{Act}
 use Rattle.be_machine.specs.declared.Act.TheVariants as act
 use Rattle.be_machine.specs.declared.Answered.{Answered}
 use Rattle.be_machine.specs.declared.Answered.TheVariants as answered
 use Rattle.be_machine.specs.Happenings.{Answering, answering_of}
-use Rattle.be_machine.specs.Looper.{lock_act, with_duty, kind_of_reply}
+use Rattle.be_machine.specs.Looper.{lock_act, kind_of_reply}
 use Rattle.be_machine.specs.Orderly.{Balance, balance_from}
 use Rattle.be_machine.specs.Port.{post_act, notify_act, take_act, with_letter_in_hand, taken}
 use Rattle.be_machine.specs.State.{State, App, Looper, free, locked, handling}
@@ -49,9 +47,9 @@ use Rattle.be_actor.specs.Wishes.{wish_at, has_no_room}
 use Rattle.be_message.specs.Words.{update_notice, no_reply_word, not_understood_word}
 use Rattle.be_script.specs.Programs.{is_body_step}
 use Rattle.std.specs.Prelude.{◌||◌, fold}
+use Rattle.be_facts.proofs.Truths.{and_first, and_second}
 use Rattle.be_machine.proofs.Balances.{of_app, IsBalanced, Answers, none_answered}
 use Rattle.be_machine.specs.Commands.{flushed_into}
-use Rattle.be_machine.proofs.Lists.{both_first, both_second}
 
 -- what an act says of who waits, and the cells behind it
 abbrev pub Balanced : Answered → Balance → State → Act → Type 0
@@ -143,10 +141,6 @@ tested_apps s false x y h k = k
 pub flushed_apps : (s : State) (v : ℕ) → (flushed s v).apps ≡ s.apps
 flushed_apps s v = found_apps s (flushed_into s v) (slice_get s.buffers v) (λ b. refl)
 
-pub duty_apps : (f : Duty → Duty) (who : Runner) (s : State) → (with_duty f who s).apps ≡ s.apps
-duty_apps f (app m) s = refl
-duty_apps f (looper v) s = refl
-
 changed_to_apps : (s : State) (v : ℕ) (change : Change) (r : Result Desk ChangeFault) → (changed_to s v change r).apps ≡ s.apps
 changed_to_apps s v change (Ok desk) = refl
 changed_to_apps s v change (Err f) = refl
@@ -214,7 +208,7 @@ kind_by what b c is_b is_c eb ec = rw (is_b ∙ eb, is_c ∙ ec) refl
 draft_kind : (draft : DraftWords) (now : Option Message) → is_draft true draft ≡ true → kind_of_reply (filled draft now) ≡ answered.Reply
 unfolding is_draft
 draft_kind draft now h =
-    let free_of : not (is_reserved draft.what) ≡ true = search (both_first, both_second) in
+    let free_of : not (is_reserved draft.what) ≡ true = search (and_first, and_second) in
     let apart : ((draft.what == no_reply_word) ≡ false) × ((draft.what == not_understood_word) ≡ false) = neither (draft.what == update_notice) (draft.what == no_reply_word) (draft.what == not_understood_word) free_of in
     let same : (filled draft now).what ≡ draft.what = filled_what draft now in
     kind_by (filled draft now).what (draft.what == no_reply_word) (draft.what == not_understood_word) (ap (λ n. n == no_reply_word) same) (ap (λ n. n == not_understood_word) same) apart.0 apart.1

@@ -2,6 +2,9 @@
 use Rattle.std.proofs.Common.{◌≡◌, ℕ, Bool, true, false, List, Option, Some, None, refl, subst}
 use Rattle.std.specs.Prelude.{[], ◌∷◌, not, slice_get, ◌==◌, if◌then◌else◌}
 use Rattle.std.specs.List.{list_all}
+use Rattle.std.proofs.lemmas.Bool.{and_from}
+use Rattle.be_facts.proofs.Truths.{and_first, and_second}
+use Rattle.be_facts.proofs.Lists.{all_at}
 use Rattle.be_actor.specs.declared.Instruction.{Instruction}
 use Rattle.be_actor.specs.declared.Instruction.TheVariants as instruction
 use Rattle.be_actor.specs.declared.Place.{Place}
@@ -19,7 +22,6 @@ use Rattle.be_machine.specs.Program.{app_program, app_wish, body_wish, letter_pr
 use Rattle.be_machine.specs.State.{State, App, Looper, free, locked, handling, Stage, in_body, beginning, in_update, ending}
 use Rattle.be_machine.specs.Wants.{Want, asks, flushes, draws_end, ends, asks_or, end_want, draw_end_want, stage_want, looper_want, want_of}
 use Rattle.be_machine.proofs.Found.{IsMapped, mapped, IsChained, chained}
-use Rattle.be_machine.proofs.Lists.{both, both_first, both_second, all_get}
 use Rattle.be_machine.proofs.Programs.{body_steps, update_steps, app_rest}
 
 -- neither locks nor waits are asked for in a body
@@ -70,7 +72,7 @@ program_wish : (p : Instruction → Bool) (steps : List Instruction) (place : Pl
 unfolding wish_of
 program_wish p steps place now buffered wish each all e =
     let at : IsMapped (wish_at place.part now buffered) (slice_get steps place.step) wish = mapped (wish_at place.part now buffered) (slice_get steps place.step) wish e in
-    subst (λ x. is_body_wish x ≡ true) at.is (each at.from (all_get p steps place.step at.from all at.read))
+    subst (λ x. is_body_wish x ≡ true) at.is (each at.from (all_at p steps place.step at.from all at.read))
 
 -- ---- loopers
 
@@ -80,7 +82,7 @@ pub record IsHandling (s : State) (w : ℕ) : Type 0 where
   pub stage : Stage
   pub read : slice_get s.loopers w ≡ Some (handling hand stage)
 
-asked : (who : Runner) (o : Option Wish) (last : Want) (wish : Wish) → ((other : Runner) (x : Wish) → last ≡ asks other x → ⊥) → asks_or who o last ≡ asks who wish → o ≡ Some wish
+pub asked : (who : Runner) (o : Option Wish) (last : Want) (wish : Wish) → ((other : Runner) (x : Wish) → last ≡ asks other x → ⊥) → asks_or who o last ≡ asks who wish → o ≡ Some wish
 asked who (Some x) last wish not e = cc
 asked who None last wish not e = absurd (not who wish e)
 
@@ -171,8 +173,8 @@ app_step_forwards d lock (instruction.Draw c) h = refl
 
 rest_forwards : (d : Declared) (lock : Option ℕ) (steps : List Instruction) → is_rest_of_app d lock steps ≡ true → list_all (λ i. not (forwards i)) steps ≡ true
 rest_forwards d lock [] h = refl
-rest_forwards d None (i ∷ rest) h = both (not (forwards i)) _ (app_step_forwards d None i (both_first (is_app_step d None i) _ h)) (rest_forwards d (lock_behind None i) rest (both_second (is_app_step d None i) _ h))
-rest_forwards d (Some w) (i ∷ rest) h = both (not (forwards i)) _ (app_step_forwards d (Some w) i (both_first (is_app_step d (Some w) i) _ h)) (rest_forwards d (lock_behind (Some w) i) rest (both_second (is_app_step d (Some w) i) _ h))
+rest_forwards d None (i ∷ rest) h = and_from (not (forwards i)) _ (app_step_forwards d None i (and_first (is_app_step d None i) _ h)) (rest_forwards d (lock_behind None i) rest (and_second (is_app_step d None i) _ h))
+rest_forwards d (Some w) (i ∷ rest) h = and_from (not (forwards i)) _ (app_step_forwards d (Some w) i (and_first (is_app_step d (Some w) i) _ h)) (rest_forwards d (lock_behind (Some w) i) rest (and_second (is_app_step d (Some w) i) _ h))
 
 either_app_wish : (b : Bool) (x y : Wish) → is_app_wish x ≡ true → is_app_wish y ≡ true → is_app_wish (if b then x else y) ≡ true
 either_app_wish true x y h k = h
@@ -194,9 +196,9 @@ app_program_wish : (steps : List Instruction) (place : Place) (buffered : ℕ) (
 unfolding wish_of
 app_program_wish steps place buffered wish all e =
     let at : IsMapped (wish_at place.part None buffered) (slice_get steps place.step) wish = mapped (wish_at place.part None buffered) (slice_get steps place.step) wish e in
-    subst (λ x. is_app_wish x ≡ true) at.is (app_step_wish place.part buffered None at.from (all_get (λ i. not (forwards i)) steps place.step at.from all at.read))
+    subst (λ x. is_app_wish x ≡ true) at.is (app_step_wish place.part buffered None at.from (all_at (λ i. not (forwards i)) steps place.step at.from all at.read))
 
-same_wish : (who : Runner) (x y : Wish) → asks who x ≡ asks who y → x ≡ y
+pub same_wish : (who : Runner) (x y : Wish) → asks who x ≡ asks who y → x ≡ y
 same_wish who x y e = cc
 
 -- an application asks for no forward

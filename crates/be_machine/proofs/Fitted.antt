@@ -1,5 +1,5 @@
 -- The root of a window's views covers the window, whatever changes.
-use Rattle.std.proofs.Common.{◌≡◌, ℕ, zero, suc, ◌+◌, Bool, true, false, List, [], ◌∷◌, ◌++◌, length, length-append, Option, Some, None, Result, Ok, Err, refl, sym, ap, subst, ◌∙◌, arith}
+use Rattle.std.proofs.Common.{◌≡◌, ℕ, zero, suc, Bool, true, false, List, [], ◌∷◌, Option, Some, None, Result, Ok, Err, refl, sym, ap, subst, ◌∙◌, arith}
 use Rattle.std.specs.Prelude.{ℤ, ◌-ℤ◌, ◌==◌, slice_get, slice_set, if◌then◌else◌}
 use Rattle.std.specs.List.{list_all}
 use Rattle.std.proofs.lemmas.Int.{ints}
@@ -14,8 +14,9 @@ use Rattle.be_stack.specs.declared.fault.ChangeFault.{ChangeFault}
 use Rattle.be_stack.specs.declared.fault.ChangeFault.TheVariants.{OffRange}
 use Rattle.be_stack.specs.declared.window.Window.{Window}
 use Rattle.be_stack.specs.Windows.{Windows}
-use Rattle.be_views.specs.Resizing.{root_frame, frame_in, frames_from, frames_after, with_frames, resized}
+use Rattle.be_views.specs.Resizing.{root_frame, frame_in, frames_after, with_frames, resized}
 use Rattle.be_views.specs.Trees.{Tree, View}
+use Rattle.be_desk.proofs.PairedLemmas.{first_kept}
 
 -- ---- a list with one element set
 
@@ -57,11 +58,6 @@ fit_by a b tree same fit = record { root = fit.root; first = fit.first; orphan =
 
 -- ---- resized views
 
--- the first frame is the one that is given
-first_kept : (root : Rect) (tree : Tree) (frame : Rect) (done : List Rect) (rest : List View) → slice_get (frames_from root tree (frame ∷ done) rest) 0 ≡ Some frame
-first_kept root tree frame done [] = refl
-first_kept root tree frame done (view ∷ rest) = first_kept root tree frame (done ++ frame_in root tree (frame ∷ done) view view.parent ∷ []) rest
-
 in_frame : (x view : View) (r frame : Rect) → x ≡ view → r ≡ frame → ◌≡◌ {A = View} (record x { frame = r }) (record view { frame = frame })
 in_frame x view r frame same is = λ i. record { parent = (same i).parent; frame = is i; mode = (same i).mode }
 
@@ -96,25 +92,6 @@ resized_fit a b tree new width height fit e across down =
       orphan = fit.orphan;
       frame = ap (λ x. root_frame x height) (sym across) ∙ ap (root_frame (b.frame.right -ℤ b.frame.left)) (sym down);
     }
-
-length_framed : (views : List View) (frames : List Rect) → length frames ≡ length views → length (with_frames views frames) ≡ length views
-length_framed [] frames e = refl
-length_framed (x ∷ xs) [] e = absurd (omega (arith, e))
-length_framed (x ∷ xs) (r ∷ rs) e = ap suc (length_framed xs rs (omega (arith, e)))
-
-length_frames : (root : Rect) (tree : Tree) (done : List Rect) (rest : List View) → length (frames_from root tree done rest) ≡ length done + length rest
-length_frames root tree done [] = omega arith
-length_frames root tree done (view ∷ rest) = omega (arith, length_frames root tree (done ++ frame_in root tree done view view.parent ∷ []) rest, length-append done (frame_in root tree done view view.parent ∷ []))
-
-length_all : (tree : Tree) (width height : ℤ) → length (frames_after tree width height) ≡ length tree
-length_all tree width height = let all : length (frames_from (root_frame width height) tree [] tree) ≡ 0 + length tree = length_frames (root_frame width height) tree [] tree in omega (arith, all)
-
--- a resize keeps how many views there are
-pub resized_length : (tree new : Tree) (width height : ℤ) → resized tree width height ≡ Some new → length new ≡ length tree
-unfolding resized
-resized_length tree new width height e =
-    ap (λ (t : Tree). length t) (sym (resized_if (list_all rect_fits (frames_after tree width height)) (with_frames tree (frames_after tree width height)) new e))
-    ∙ length_framed tree (frames_after tree width height) (length_all tree width height)
 
 -- ---- windows after a change that isn't a resize
 

@@ -15,7 +15,8 @@ use Rattle.be_stack.specs.declared.window.Window.{Window}
 use Rattle.be_stack.specs.Windows.{Windows, with_window}
 use Rattle.be_views.specs.Resizing.{resized}
 use Rattle.be_views.specs.Trees.{Tree}
-use Rattle.be_machine.proofs.Fitted.{SetRead, here, elsewhere, set_read, IsFit, AreFit, fit_by, resized_fit, resized_length, KeepsExtents, is_resize, windows_extents}
+use Rattle.be_desk.proofs.PairedLemmas.{resized_many}
+use Rattle.be_machine.proofs.Fitted.{SetRead, here, elsewhere, set_read, IsFit, AreFit, fit_by, resized_fit, KeepsExtents, is_resize, windows_extents}
 use Rattle.be_machine.proofs.Found.{IsChained, chained}
 
 -- each tree has as many views as the one that was there
@@ -83,7 +84,7 @@ tree_fit desk u old width height (Some after) there e h =
       fit = λ w b tree read at.
           both_set desk.windows.windows desk.pointing.trees u w old new b from.from after tree width height there from.read from.is refl h
           (set_read desk.windows.windows u w new b read) (set_read desk.pointing.trees u w after tree at);
-      views = λ w tree at. one_set desk.pointing.trees u w from.from after tree from.read (resized_length from.from after width height from.is) (set_read desk.pointing.trees u w after tree at);
+      views = λ w tree at. one_set desk.pointing.trees u w from.from after tree from.read (resized_many from.from after width height from.is) (set_read desk.pointing.trees u w after tree at);
     }
 tree_fit desk u old width height None there e h = tt
 

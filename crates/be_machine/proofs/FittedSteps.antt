@@ -177,7 +177,7 @@ opening_fit d k zero (x ∷ xs) window tree read there =
     subst (λ a. IsFit a tree) (same_Some (opening_window x) window read) (subst (IsFit (opening_window x)) (same_Some (tree_of d k x) tree there) fit)
 opening_fit d k (suc w) (x ∷ xs) window tree read there = opening_fit d (k + 1) w xs window tree read there
 
-as_many : (d : Declared) (k : ℕ) (x : WindowLine) → length (colors_of d k x) ≡ length (tree_of d k x)
+pub as_many : (d : Declared) (k : ℕ) (x : WindowLine) → length (colors_of d k x) ≡ length (tree_of d k x)
 unfolding tree_of colors_of
 as_many d k x = ap suc (length-map (view_lines d k) (λ view. view.color) ∙ sym (length-map (view_lines d k) declared_view))
 

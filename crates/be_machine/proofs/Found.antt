@@ -3,10 +3,10 @@ use Rattle.std.proofs.Common.{◌≡◌, ℕ, ◌<◌, get_or, Bool, true, false
 use Rattle.std.specs.Prelude.{slice_get, option_map, option_and_then, if◌then◌else◌}
 use Rattle.std.proofs.lemmas.List.Quantifiers.{position-Some}
 use Rattle.std.proofs.lemmas.Option.{same_Some, slice_get-get_or}
+use Rattle.be_facts.proofs.Numbers.{eq_tells}
 use Rattle.be_machine.specs.Lists.{with_both}
 use Rattle.be_machine.specs.Program.{is_locked_by, locked_by}
 use Rattle.be_machine.specs.State.{State, Looper, free, locked, handling}
-use Rattle.be_machine.proofs.Lists.{same_number}
 
 -- ---- options
 
@@ -55,7 +55,7 @@ untested false x y e = (refl, same_Some x y e)
 -- ---- locks
 
 locks_it : (m : ℕ) (l : Looper) → is_locked_by m l ≡ true → l ≡ locked m
-locks_it m (locked n) e = ap locked (sym (same_number m n e))
+locks_it m (locked n) e = ap locked (sym (eq_tells m n e))
 locks_it m free e = cc
 locks_it m (handling hand stage) e = cc
 

@@ -4,12 +4,12 @@ use Rattle.std.specs.Prelude.{◌&&◌, not, nat_le, fold, length, if◌then◌e
 use Rattle.std.specs.List.{list_all, list_any}
 use Rattle.std.specs.Option.{option_to_list}
 use Rattle.std.proofs.Math.Nat.{le-max_left, le-max_right, max-le}
+use Rattle.be_facts.proofs.Truths.{and_first, and_second}
 use Rattle.be_actor.specs.Drafts.{Word, value, current, copied, DraftWords, with_word, filled}
 use Rattle.be_actor.specs.Limits.{is_reserved, is_what, is_spelt, is_word, all_go_together, is_draft}
 use Rattle.be_message.specs.Depths.{datum_depth, fields_depth, values_depth, depth_of}
 use Rattle.be_message.specs.Fields.{has_name, field_named, with_one_more, changed_at, new_field, with_value_in}
 use Rattle.be_message.specs.Messages.{Datum, bool, int, text, point, rect, message, Field, Message, all_values, all_fields, packed}
-use Rattle.be_machine.proofs.Lists.{both_first, both_second}
 
 abbrev in_values : List Datum → ℕ
 in_values vs = values_depth (all_values vs)
@@ -76,7 +76,7 @@ IsWithin n (Some m) = depth_of m ≤ n
 IsWithin n None = Unit {0}
 
 word_fields : (n : ℕ) (has : Bool) (now : Option Message) (m : Message) (w : Word) → is_word has w ≡ true → IsWithin n now → in_fields m.fields ≤ n → in_fields (with_word now m w).fields ≤ n
-word_fields n has now m (value name d) fits deep h = with_value_fields n name d m.fields h (spelt_flat n d (both_second _ (is_spelt d) fits))
+word_fields n has now m (value name d) fits deep h = with_value_fields n name d m.fields h (spelt_flat n d (and_second _ (is_spelt d) fits))
 word_fields n has (Some x) m (current name) fits deep h = with_value_fields n name (packed x) m.fields h deep
 word_fields n has None m (current name) fits deep h = h
 word_fields n has (Some x) m (copied name) fits deep h = fields_more n m.fields (option_to_list (field_named name x.fields)) h (found_field n name x.fields (omega (arith, deep)))
@@ -84,13 +84,13 @@ word_fields n has None m (copied name) fits deep h = h
 
 all_words : (n : ℕ) (has : Bool) (now : Option Message) (m : Message) (ws : List Word) → list_all (is_word has) ws ≡ true → IsWithin n now → in_fields m.fields ≤ n → in_fields (fold (with_word now) m ws).fields ≤ n
 all_words n has now m [] fits deep h = h
-all_words n has now m (w ∷ ws) fits deep h = all_words n has now (with_word now m w) ws (both_second (is_word has w) _ fits) deep (word_fields n has now m w (both_first (is_word has w) _ fits) deep h)
+all_words n has now m (w ∷ ws) fits deep h = all_words n has now (with_word now m w) ws (and_second (is_word has w) _ fits) deep (word_fields n has now m w (and_first (is_word has w) _ fits) deep h)
 
-draft_words : (has : Bool) (draft : DraftWords) → is_draft has draft ≡ true → list_all (is_word has) draft.words ≡ true
+pub draft_words : (has : Bool) (draft : DraftWords) → is_draft has draft ≡ true → list_all (is_word has) draft.words ≡ true
 unfolding is_draft
 draft_words has draft e =
-    both_second (is_what draft.what && not (is_reserved draft.what) && nat_le (length draft.words) 255) (list_all (is_word has) draft.words)
-    (both_first (is_what draft.what && not (is_reserved draft.what) && nat_le (length draft.words) 255 && list_all (is_word has) draft.words) (all_go_together draft.words) e)
+    and_second (is_what draft.what && not (is_reserved draft.what) && nat_le (length draft.words) 255) (list_all (is_word has) draft.words)
+    (and_first (is_what draft.what && not (is_reserved draft.what) && nat_le (length draft.words) 255 && list_all (is_word has) draft.words) (all_go_together draft.words) e)
 
 pub filled_depth : (n : ℕ) (has : Bool) (now : Option Message) (draft : DraftWords) → is_draft has draft ≡ true → IsWithin n now → depth_of (filled draft now) ≤ n + 1
 unfolding filled

@@ -3,6 +3,7 @@ use Rattle.std.proofs.Common.{◌≡◌, ℕ, zero, suc, ◌+◌, ◌≤◌, Boo
 use Rattle.std.specs.Prelude.{◌==◌, nat_le, slice_get, if◌then◌else◌}
 use Rattle.std.proofs.lemmas.Bool.Decides.{nat_tests}
 use Rattle.std.proofs.lemmas.Option.{same_Some}
+use Rattle.be_facts.proofs.Truths.{and_second}
 use Rattle.be_actor.specs.declared.Instruction.{Instruction}
 use Rattle.be_actor.specs.declared.Instruction.TheVariants.{Note, Post, Send, Reply, Forward, Lock, Unlock, Flush, Sync, Draw}
 use Rattle.be_actor.specs.declared.Wish.{Wish}
@@ -23,7 +24,6 @@ use Rattle.be_machine.specs.Program.{looper_gone_on}
 use Rattle.be_machine.specs.State.{Looper, free, locked, handling, Stage}
 use Rattle.be_machine.specs.Update.{at_stage}
 use Rattle.be_machine.proofs.KeptDepths.{IsWithin, filled_depth}
-use Rattle.be_machine.proofs.Lists.{both_second}
 use Rattle.be_machine.proofs.ProgressPlaces.{Each, each_kept}
 
 -- a letter that a port takes
@@ -96,7 +96,7 @@ made_if has now true x y h k = h
 made_if has now false x y h k = k
 
 pub body_made : (d : Declared) (w : ℕ) (i : Instruction) (part n : ℕ) (now : Option Message) → is_body_step d w i ≡ true → IsMade true now (wish_at part now n i)
-body_made d w (Post v target draft) part n now e = record { draft = draft; fits = both_second (is_address d v target) (is_draft true draft) e; is = refl }
+body_made d w (Post v target draft) part n now e = record { draft = draft; fits = and_second (is_address d v target) (is_draft true draft) e; is = refl }
 body_made d w (Send v target draft) part n now e = cc
 body_made d w (Note word) part n now e = tt
 body_made d w (Reply draft) part n now e = tt
@@ -108,9 +108,9 @@ body_made d w Sync part n now e = made_if true now (part == 0) wish.Flush wish.S
 body_made d w (Draw c) part n now e = made_if true now (has_no_room n) wish.Flush (wish.Draw c) tt tt
 
 pub app_made : (d : Declared) (lock : Option ℕ) (i : Instruction) (part n : ℕ) → is_app_step d lock i ≡ true → IsMade false None (wish_at part None n i)
-app_made d None (Post v target draft) part n e = record { draft = draft; fits = both_second (is_address d v target) (is_draft false draft) e; is = refl }
-app_made d (Some w) (Post v target draft) part n e = record { draft = draft; fits = both_second (is_address d v target) (is_draft false draft) e; is = refl }
-app_made d None (Send v target draft) part n e = made_if false None (part == 0) (wish.Send v target (filled draft None)) wish.Claim (record { draft = draft; fits = both_second (is_address d v target) (is_draft false draft) e; is = refl }) tt
+app_made d None (Post v target draft) part n e = record { draft = draft; fits = and_second (is_address d v target) (is_draft false draft) e; is = refl }
+app_made d (Some w) (Post v target draft) part n e = record { draft = draft; fits = and_second (is_address d v target) (is_draft false draft) e; is = refl }
+app_made d None (Send v target draft) part n e = made_if false None (part == 0) (wish.Send v target (filled draft None)) wish.Claim (record { draft = draft; fits = and_second (is_address d v target) (is_draft false draft) e; is = refl }) tt
 app_made d (Some w) (Send v target draft) part n e = cc
 app_made d lock (Note word) part n e = tt
 app_made d lock (Reply draft) part n e = tt

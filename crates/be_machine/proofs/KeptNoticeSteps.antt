@@ -2,6 +2,7 @@
 use Rattle.std.proofs.Common.{◌≡◌, ℕ, ◌≤◌, Bool, true, false, List, Option, Some, None, Result, Ok, Err, refl, sym, ap, subst, ◌∙◌, arith}
 use Rattle.std.specs.Prelude.{◌&&◌, not, is_none, slice_get, option_and_then, if◌then◌else◌}
 use Rattle.std.specs.Option.{option_map_or}
+use Rattle.be_facts.proofs.Truths.{and_first, and_second}
 use Rattle.be_actor.specs.declared.Wish.{Wish}
 use Rattle.be_actor.specs.declared.Wish.TheVariants as wish
 use Rattle.be_actor.specs.Wishes.{first_place}
@@ -32,7 +33,7 @@ use Rattle.be_machine.specs.Step.{granted}
 use Rattle.be_machine.specs.Update.{owes, owes_notice, at_stage, begun, opened, passed_by}
 use Rattle.be_machine.specs.Windows.{corner_at, dirty_of, ports_after, changed, changed_to}
 use Rattle.be_machine.proofs.KeptNotices.{begins_at, begins_in, is_notice, IsNoted, AreNoted, at_same, all_noted, port_noted, looper_noted, pane_noted, post_notices, more_waits}
-use Rattle.be_machine.proofs.Lists.{both_first, both_second, same_element}
+use Rattle.be_machine.proofs.Lists.{same_element}
 use Rattle.be_machine.proofs.ProgressCases.{by_test, by_option}
 use Rattle.be_machine.proofs.ProgressPlaces.{Each}
 use Rattle.be_machine.proofs.Waiting.{IsTakenInTime, one_where}
@@ -166,8 +167,8 @@ record IsDue (pane : Pane) : Type 0 where
 
 due_by : (a b : Bool) (pane : Pane) → (not a && b && is_none pane.session && not pane.notified) ≡ true → IsDue pane
 due_by a b pane e =
-    let three : (not a && b && is_none pane.session) ≡ true = both_first (not a && b && is_none pane.session) (not pane.notified) e in
-    record { closed = none_of pane.session (both_second (not a && b) (is_none pane.session) three); first = not_of pane.notified (both_second (not a && b && is_none pane.session) (not pane.notified) e) }
+    let three : (not a && b && is_none pane.session) ≡ true = and_first (not a && b && is_none pane.session) (not pane.notified) e in
+    record { closed = none_of pane.session (and_second (not a && b) (is_none pane.session) three); first = not_of pane.notified (and_second (not a && b && is_none pane.session) (not pane.notified) e) }
   where
     none_of : {X : Type 0} (o : Option X) → is_none o ≡ true → o ≡ None
     none_of None e = refl

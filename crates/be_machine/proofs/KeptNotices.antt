@@ -1,7 +1,7 @@
 -- One notice at most is on its way to a window or in its looper's hand, and no session is open then.
-use Rattle.std.proofs.Common.{◌≡◌, ℕ, zero, suc, ◌+◌, ◌≤◌, Bool, true, false, List, [], ◌∷◌, Option, Some, None, refl, sym, ap, subst, ◌∙◌, arith}
-use Rattle.std.specs.Prelude.{slice_get, slice_set, if◌then◌else◌}
-use Rattle.std.proofs.lemmas.Option.{same_Some}
+use Rattle.std.proofs.Common.{◌≡◌, ℕ, ◌+◌, ◌≤◌, Bool, true, false, List, [], Option, Some, None, refl, sym, ap, subst, ◌∙◌, arith}
+use Rattle.std.specs.Prelude.{slice_get, if◌then◌else◌}
+use Rattle.be_facts.proofs.Lists.{set_self}
 use Rattle.be_message.specs.Messages.{Message}
 use Rattle.be_pane.specs.Panes.{Pane}
 use Rattle.be_port.specs.Ports.{Letter, Port, queue_of, is_accepted, judged, posted, with_letter}
@@ -28,13 +28,8 @@ at_by xs v u f z None there e = as_before (λ same. (let none : None ≡ Some z 
 at_read : {X : Type 0} (xs : List X) (v u : ℕ) (f : X → X) (z : X) → slice_get (at xs v f) u ≡ Some z → AtRead xs v u f z
 at_read xs v u f z e = at_by xs v u f z (slice_get xs v) refl e
 
-set_same : {X : Type 0} (xs : List X) (v : ℕ) (x : X) → slice_get xs v ≡ Some x → slice_set xs v x ≡ xs
-set_same [] v x e = refl
-set_same (y ∷ ys) zero x e = ap (λ z. z ∷ ys) (sym (same_Some y x e))
-set_same (y ∷ ys) (suc v) x e = ap (λ zs. y ∷ zs) (set_same ys v x e)
-
 same_by : {X : Type 0} (xs : List X) (v : ℕ) (o : Option X) → slice_get xs v ≡ o → set_at xs v (λ x. x) o ≡ xs
-same_by xs v (Some x) e = set_same xs v x e
+same_by xs v (Some x) e = set_self xs v x e
 same_by xs v None e = refl
 
 pub at_same : {X : Type 0} (xs : List X) (v : ℕ) → at xs v (λ x. x) ≡ xs

@@ -4,6 +4,7 @@ use Rattle.std.specs.Prelude.{◌&&◌, ◌||◌, not, slice_get}
 use Rattle.std.specs.List.{list_any}
 use Rattle.std.specs.Option.{is_none}
 use Rattle.std.proofs.lemmas.Option.{slice_get_within}
+use Rattle.be_facts.proofs.Truths.{not_true, and_second, and_first}
 use Rattle.be_message.specs.Messages.{Message}
 use Rattle.be_pane.specs.Panes.{Pane}
 use Rattle.be_port.specs.Ports.{Letter, Port, has_notice, queue_of}
@@ -33,30 +34,18 @@ record IsOwed (s : State) (w : ℕ) : Type 0 where
   open_still : window.closed ≡ false
   first : pane.notified ≡ false
 
-both_first : (a b : Bool) → (a && b) ≡ true → a ≡ true
-both_first true b e = refl
-both_first false b e = cc
-
-both_second : (a b : Bool) → (a && b) ≡ true → b ≡ true
-both_second true b e = e
-both_second false b e = cc
-
-not_so : (b : Bool) → not b ≡ true → b ≡ false
-not_so true e = cc
-not_so false e = refl
-
 owed_by : (s : State) (w : ℕ) (a : Option Window) (b : Option Pane) → slice_get s.desk.windows.windows w ≡ a → slice_get s.panes w ≡ b → owes s w a b ≡ true → IsOwed s w
 owed_by s w (Some window) (Some pane) read there_pane e =
     let dirty : Bool = is_any (dirty_of s w) in
-    let three : (not window.closed && dirty && is_none pane.session) ≡ true = both_first (not window.closed && dirty && is_none pane.session) (not pane.notified) e in
-    let two : (not window.closed && dirty) ≡ true = both_first (not window.closed && dirty) (is_none pane.session) three in
+    let three : (not window.closed && dirty && is_none pane.session) ≡ true = and_first (not window.closed && dirty && is_none pane.session) (not pane.notified) e in
+    let two : (not window.closed && dirty) ≡ true = and_first (not window.closed && dirty) (is_none pane.session) three in
     record {
       window = window;
       pane = pane;
       at_window = read;
       at_pane = there_pane;
-      open_still = not_so window.closed (both_first (not window.closed) dirty two);
-      first = not_so pane.notified (both_second (not window.closed && dirty && is_none pane.session) (not pane.notified) e);
+      open_still = not_true window.closed (and_first (not window.closed) dirty two);
+      first = not_true pane.notified (and_second (not window.closed && dirty && is_none pane.session) (not pane.notified) e);
     }
 owed_by s w (Some window) None read there_pane e = cc
 owed_by s w None b read there_pane e = cc

@@ -1,8 +1,9 @@
 -- After every legal history a port is closed exactly where its window is.
 use Rattle.std.proofs.Common.{◌≡◌, ℕ, zero, suc, Bool, true, false, List, [], ◌∷◌, map, Option, Some, None, Result, Ok, Err, refl, sym, ap, subst, ◌∙◌}
-use Rattle.std.specs.Prelude.{◌==◌, slice_get, slice_set, option_map, option_and_then, if◌then◌else◌, ◌-ℤ◌}
+use Rattle.std.specs.Prelude.{◌==◌, slice_get, slice_set, option_and_then, if◌then◌else◌, ◌-ℤ◌}
 use Rattle.std.specs.Option.{option_map_or}
-use Rattle.std.proofs.lemmas.Option.{same_Some, slice_get-map}
+use Rattle.std.proofs.lemmas.Option.{same_Some}
+use Rattle.be_facts.proofs.Lists.{get_map}
 use Rattle.be_actor.specs.declared.Wish.{Wish}
 use Rattle.be_actor.specs.declared.Wish.TheVariants as wish
 use Rattle.be_bitmap.specs.Pictures.{Picture}
@@ -319,11 +320,8 @@ together_from d s (e ∷ es) legal is = together_from d (step d s e) es legal.1 
 together_after : (d : Declared) (h : List Entry) → IsLegalHistory d h → AreTogether (state_after d h)
 together_after d h legal = together_from d (opening_state d) h legal (opening_together d)
 
-read_map : {X Y : Type 0} (f : X → Y) (xs : List X) (w : ℕ) (x : X) → slice_get xs w ≡ Some x → slice_get (map f xs) w ≡ Some (f x)
-read_map f xs w x read = slice_get-map f xs w ∙ ap (option_map f) read
-
 -- the port of a window is closed where the window is
 pub closed_alike : (d : Declared) (h : List Entry) (w : ℕ) (p : Port Message) (window : Window) → IsLegalHistory d h → slice_get (state_after d h).ports w ≡ Some p → slice_get (state_after d h).desk.windows.windows w ≡ Some window → p.closed ≡ window.closed
 closed_alike d h w p window legal at_port at_window =
     let s : State = state_after d h in
-    same_Some p.closed window.closed (sym (read_map (λ (q : Port Message). q.closed) s.ports w p at_port) ∙ ap (λ bs. slice_get bs w) (together_after d h legal) ∙ read_map (λ (x : Window). x.closed) s.desk.windows.windows w window at_window)
+    same_Some p.closed window.closed (sym (get_map (λ (q : Port Message). q.closed) s.ports w p at_port) ∙ ap (λ bs. slice_get bs w) (together_after d h legal) ∙ get_map (λ (x : Window). x.closed) s.desk.windows.windows w window at_window)

@@ -78,7 +78,7 @@ event_noted s (line.After m) in_time h = h
 
 -- ---- what is wanted
 
-not_begins : (who : Runner) (w : ℕ) (o : Option Wish) (b : Bool) (x y : Want) → (x ≡ begins w → ⊥) → (y ≡ begins w → ⊥) → asks_or who o (if b then x else y) ≡ begins w → ⊥
+pub not_begins : (who : Runner) (w : ℕ) (o : Option Wish) (b : Bool) (x y : Want) → (x ≡ begins w → ⊥) → (y ≡ begins w → ⊥) → asks_or who o (if b then x else y) ≡ begins w → ⊥
 not_begins who w (Some wish) b x y f g e = cc
 not_begins who w None true x y f g e = f e
 not_begins who w None false x y f g e = g e
@@ -96,11 +96,11 @@ begins_by d s w (handling hand ending) e = absurd (not_begins (looper w) w None 
 begins_by d s w (locked m) e = cc
 begins_by d s w free e = cc
 
-begins_read : (d : Declared) (s : State) (w : ℕ) (o : Option Looper) → slice_get s.loopers w ≡ o → option_map (looper_want d s w) o ≡ Some (begins w) → (hand : Hand Message) × (slice_get s.loopers w ≡ Some (handling hand beginning))
+pub begins_read : (d : Declared) (s : State) (w : ℕ) (o : Option Looper) → slice_get s.loopers w ≡ o → option_map (looper_want d s w) o ≡ Some (begins w) → (hand : Hand Message) × (slice_get s.loopers w ≡ Some (handling hand beginning))
 begins_read d s w (Some l) read e = let is : IsBeginning l = begins_by d s w l (same_Some (looper_want d s w l) (begins w) e) in (is.hand, read ∙ ap Some is.is)
 begins_read d s w None read e = cc
 
-begins_there : (d : Declared) (s : State) (w : ℕ) → want_of d s (runner (looper w)) ≡ Some (begins w) → (hand : Hand Message) × (slice_get s.loopers w ≡ Some (handling hand beginning))
+pub begins_there : (d : Declared) (s : State) (w : ℕ) → want_of d s (runner (looper w)) ≡ Some (begins w) → (hand : Hand Message) × (slice_get s.loopers w ≡ Some (handling hand beginning))
 unfolding want_of
 begins_there d s w e = begins_read d s w (slice_get s.loopers w) refl e
 

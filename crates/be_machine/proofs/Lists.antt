@@ -1,30 +1,15 @@
 -- Lemmas on lists by number.
 use Rattle.std.proofs.Common.{◌≡◌, ℕ, zero, suc, ◌<◌, Bool, true, false, cond, List, [], ◌∷◌, ◌++◌, length, Option, Some, None, refl, sym, ap, subst, ◌∙◌, arith}
-use Rattle.std.specs.Prelude.{◌==◌, slice_get, slice_set, ◌&&◌, find, filter, flat_map}
+use Rattle.std.specs.Prelude.{◌==◌, slice_get, slice_set, find, filter, flat_map}
 use Rattle.std.specs.List.{list_all}
 use Rattle.std.proofs.Math.ListN.{length-set}
-use Rattle.std.proofs.lemmas.Bool.Decides.{nat_tests}
 use Rattle.std.proofs.lemmas.Option.{same_Some}
+use Rattle.std.proofs.lemmas.Bool.{and_from}
+use Rattle.be_facts.proofs.Numbers.{eq_false_tells, eq_tells}
+use Rattle.be_facts.proofs.Truths.{and_second, and_first}
 use Rattle.be_machine.specs.Lists.{at, set_at}
 
 -- ---- tests
-
-pub both_first : (a b : Bool) → (a && b) ≡ true → a ≡ true
-both_first true b h = refl
-both_first false b h = h
-
-pub both_second : (a b : Bool) → (a && b) ≡ true → b ≡ true
-both_second true b h = h
-both_second false b h = cc
-
-pub both : (a b : Bool) → a ≡ true → b ≡ true → (a && b) ≡ true
-both a b h k = rw (h, k) refl
-
--- what passes of each element passes of the one at a place
-pub all_get : {X : Type 0} (p : X → Bool) (xs : List X) (i : ℕ) (x : X) → list_all p xs ≡ true → slice_get xs i ≡ Some x → p x ≡ true
-all_get p [] i x all e = cc
-all_get p (y ∷ ys) zero x all e = let same : y ≡ x = same_Some y x e in subst (λ z. p z ≡ true) same (both_first (p y) _ all)
-all_get p (y ∷ ys) (suc i) x all e = all_get p ys i x (both_second (p y) _ all) e
 
 found_by : {X : Type 0} (p q : X → Bool) (y x : X) (xs : List X) (b : Bool) → q y ≡ b → p y ≡ true → (find q xs ≡ Some x → p x ≡ true) → cond b (Some y) (find q xs) ≡ Some x → p x ≡ true
 found_by p q y x xs true is here later e = subst (λ z. p z ≡ true) (same_Some y x e) here
@@ -33,7 +18,7 @@ found_by p q y x xs false is here later e = later e
 -- ... and of the one that is found
 pub all_find : {X : Type 0} (p q : X → Bool) (xs : List X) (x : X) → list_all p xs ≡ true → find q xs ≡ Some x → p x ≡ true
 all_find p q [] x all e = cc
-all_find p q (y ∷ ys) x all e = found_by p q y x ys (q y) refl (both_first (p y) _ all) (λ h. all_find p q ys x (both_second (p y) _ all) h) e
+all_find p q (y ∷ ys) x all e = found_by p q y x ys (q y) refl (and_first (p y) _ all) (λ h. all_find p q ys x (and_second (p y) _ all) h) e
 
 found_passes_by : {X : Type 0} (q : X → Bool) (y x : X) (xs : List X) (b : Bool) → q y ≡ b → (find q xs ≡ Some x → q x ≡ true) → cond b (Some y) (find q xs) ≡ Some x → q x ≡ true
 found_passes_by q y x xs true is later e = subst (λ z. q z ≡ true) (same_Some y x e) is
@@ -45,18 +30,18 @@ find_passes q [] x e = cc
 find_passes q (y ∷ ys) x e = found_passes_by q y x ys (q y) refl (find_passes q ys x) e
 
 kept_by : {X : Type 0} (p q : X → Bool) (y : X) (xs : List X) (b : Bool) → p y ≡ true → list_all p (filter q xs) ≡ true → list_all p (cond b (y ∷ filter q xs) (filter q xs)) ≡ true
-kept_by p q y xs true here later = both (p y) _ here later
+kept_by p q y xs true here later = and_from (p y) _ here later
 kept_by p q y xs false here later = later
 
 -- what passes of each element passes of those that are kept
 pub all_filter : {X : Type 0} (p q : X → Bool) (xs : List X) → list_all p xs ≡ true → list_all p (filter q xs) ≡ true
 all_filter p q [] all = refl
-all_filter p q (y ∷ ys) all = kept_by p q y ys (q y) (both_first (p y) _ all) (all_filter p q ys (both_second (p y) _ all))
+all_filter p q (y ∷ ys) all = kept_by p q y ys (q y) (and_first (p y) _ all) (all_filter p q ys (and_second (p y) _ all))
 
 -- ... and of joined lists where it passes of each
 pub all_append : {X : Type 0} (p : X → Bool) (xs ys : List X) → list_all p xs ≡ true → list_all p ys ≡ true → list_all p (xs ++ ys) ≡ true
 all_append p [] ys h k = k
-all_append p (x ∷ xs) ys h k = both (p x) _ (both_first (p x) _ h) (all_append p xs ys (both_second (p x) _ h) k)
+all_append p (x ∷ xs) ys h k = and_from (p x) _ (and_first (p x) _ h) (all_append p xs ys (and_second (p x) _ h) k)
 
 pub all_flat_map : {X Y : Type 0} (p : Y → Bool) (f : X → List Y) (xs : List X) → ((x : X) → list_all p (f x) ≡ true) → list_all p (flat_map f xs) ≡ true
 all_flat_map p f [] h = refl
@@ -112,17 +97,8 @@ at_past xs i f e = ap (set_at xs i f) e
 
 -- ---- equal numbers
 
-pub same_number : (m n : ℕ) → (m == n) ≡ true → m ≡ n
-same_number m n e = grind (arith, nat_tests)
-
-pub is_same_number : (n : ℕ) → (n == n) ≡ true
-is_same_number n = grind (arith, nat_tests)
-
-pub other_number : (m n : ℕ) → (m == n) ≡ false → m ≡ n → ⊥
-other_number m n e same = grind (arith, nat_tests)
-
 filtered_by : {X : Type 0} (q : X → Bool) (y : X) (xs : List X) (b : Bool) → q y ≡ b → list_all q (filter q xs) ≡ true → list_all q (cond b (y ∷ filter q xs) (filter q xs)) ≡ true
-filtered_by q y xs true is later = both (q y) _ is later
+filtered_by q y xs true is later = and_from (q y) _ is later
 filtered_by q y xs false is later = later
 
 -- what is kept passes the test
@@ -152,5 +128,5 @@ place_elsewhere P xs v w f other h y read = h y (sym (at_elsewhere xs v w f othe
 
 -- one is, in a way that keeps what holds
 pub place_kept : {X : Type 0} (P : X → Type 0) (xs : List X) (v w : ℕ) (f : X → X) (b : Bool) → (w == v) ≡ b → ((x : X) → slice_get xs w ≡ Some x → P x → P (f x)) → AtPlace P xs w → AtPlace P (at xs v f) w
-place_kept P xs v w f true e keep h = subst (λ u. AtPlace P (at xs u f) w) (same_number w v e) (place_here P P xs w f keep h)
-place_kept P xs v w f false e keep h = place_elsewhere P xs v w f (λ same. other_number w v e (sym same)) h
+place_kept P xs v w f true e keep h = subst (λ u. AtPlace P (at xs u f) w) (eq_tells w v e) (place_here P P xs w f keep h)
+place_kept P xs v w f false e keep h = place_elsewhere P xs v w f (λ same. eq_false_tells w v e (sym same)) h

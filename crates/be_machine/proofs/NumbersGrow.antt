@@ -2,6 +2,7 @@
 use Rattle.std.proofs.Common.{◌≡◌, ℕ, zero, suc, ◌+◌, ◌≤◌, Bool, true, false, List, [], ◌∷◌, length, None, refl, sym, subst, ◌∙◌, arith}
 use Rattle.std.specs.Prelude.{slice_set, ◌==◌}
 use Rattle.std.proofs.lemmas.Option.{same_Some}
+use Rattle.be_facts.proofs.Numbers.{eq_tells, eq_false_tells}
 use Rattle.be_geom.specs.declared.rect.Rect.{Rect}
 use Rattle.be_link.specs.Queues.{Buffer}
 use Rattle.be_message.specs.Messages.{Message}
@@ -10,13 +11,13 @@ use Rattle.be_views.specs.Resizing.{with_frames}
 use Rattle.be_views.specs.Trees.{Tree, View, parent_of}
 use Rattle.be_machine.specs.Lists.{at}
 use Rattle.be_machine.specs.State.{State}
-use Rattle.be_machine.proofs.Lists.{AtPlace, place_here, place_elsewhere, same_number, other_number, length_at}
+use Rattle.be_machine.proofs.Lists.{AtPlace, place_here, place_elsewhere, length_at}
 
 -- ---- lists
 
 place_grows_by : {X : Type 0} (P Q : X → Type 0) (xs : List X) (v w : ℕ) (f : X → X) (b : Bool) → (w == v) ≡ b → ((x : X) → P x → Q x) → ((x : X) → P x → Q (f x)) → AtPlace P xs w → AtPlace Q (at xs v f) w
-place_grows_by P Q xs v w f true e stay change h = subst (λ u. AtPlace Q (at xs u f) w) (same_number w v e) (place_here P Q xs w f (λ x _ k. change x k) h)
-place_grows_by P Q xs v w f false e stay change h = place_elsewhere Q xs v w f (λ same. other_number w v e (sym same)) (λ x read. stay x (h x read))
+place_grows_by P Q xs v w f true e stay change h = subst (λ u. AtPlace Q (at xs u f) w) (eq_tells w v e) (place_here P Q xs w f (λ x _ k. change x k) h)
+place_grows_by P Q xs v w f false e stay change h = place_elsewhere Q xs v w f (λ same. eq_false_tells w v e (sym same)) (λ x read. stay x (h x read))
 
 -- a change at one place, where what holds before becomes what holds afterwards
 pub place_grows : {X : Type 0} (P Q : X → Type 0) (xs : List X) (v w : ℕ) (f : X → X) → ((x : X) → P x → Q x) → ((x : X) → P x → Q (f x)) → AtPlace P xs w → AtPlace Q (at xs v f) w

@@ -48,11 +48,11 @@ use Rattle.be_machine.proofs.NumbersGrow.{Grows, stays, and_then, at_most, ports
 letter_more : (letter : Letter Message) (p : Port Message) → length (with_letter letter p).arrived ≤ length p.arrived + 1
 letter_more letter p = omega (arith, length-append p.arrived (letter ∷ []))
 
-posted_if : (b : Bool) (letter : Letter Message) (p : Port Message) → length (if b then with_letter letter p else p).arrived ≤ length p.arrived + 1
+pub posted_if : (b : Bool) (letter : Letter Message) (p : Port Message) → length (if b then with_letter letter p else p).arrived ≤ length p.arrived + 1
 posted_if true letter p = letter_more letter p
 posted_if false letter p = omega arith
 
-posted_more : (letter : Letter Message) (p : Port Message) → length (posted letter p).arrived ≤ length p.arrived + 1
+pub posted_more : (letter : Letter Message) (p : Port Message) → length (posted letter p).arrived ≤ length p.arrived + 1
 unfolding posted
 posted_more letter p = posted_if (is_accepted (judged p letter.hop)) letter p
 
@@ -220,7 +220,7 @@ ports_with_hold : (ports : List (Port Message)) (o : Option Post) (w m n : ℕ) 
 ports_with_hold ports (Some post) w m n le h = ports_change ports post.window (posted (input_letter post)) 1 (posted_more (input_letter post)) w m n le h
 ports_with_hold ports None w m n le h = ports_stay ports w m n (omega arith) h
 
-length_ports_with : (ports : List (Port Message)) (o : Option Post) → length (ports_with ports o) ≡ length ports
+pub length_ports_with : (ports : List (Port Message)) (o : Option Post) → length (ports_with ports o) ≡ length ports
 length_ports_with ports (Some post) = length_at ports post.window _
 length_ports_with ports None = refl
 

@@ -2,6 +2,9 @@
 use Rattle.std.proofs.Common.{◌≡◌, ℕ, ◌<◌, ◌≤◌, true, List, [], ◌∷◌, ◌++◌, length, refl, sym, ap, subst, ◌∙◌, arith, length-drop}
 use Rattle.std.specs.Prelude.{◌==◌, flat_map}
 use Rattle.std.specs.List.{list_all}
+use Rattle.be_facts.proofs.Truths.{and_first, and_second}
+use Rattle.be_facts.proofs.Lists.{all_at}
+use Rattle.be_facts.proofs.Numbers.{eq_tells}
 use Rattle.be_link.specs.Queues.{Numbered, is_flushed}
 use Rattle.be_message.specs.Messages.{Message}
 use Rattle.be_port.specs.Ports.{Port, queue_of}
@@ -17,7 +20,7 @@ use Rattle.be_machine.specs.Orderly.{Tally, first_tally, tally_from, EndsInStop,
 use Rattle.be_machine.specs.State.{State, opening_state}
 use Rattle.be_machine.specs.Step.{step}
 use Rattle.be_machine.proofs.HasParts.{HasParts, parts_from}
-use Rattle.be_machine.proofs.Lists.{IsThere, there, both_first, both_second, all_get, same_number}
+use Rattle.be_machine.proofs.Lists.{IsThere, there}
 use Rattle.be_machine.proofs.Opening.{parts_opening, tallied_opening}
 use Rattle.be_machine.proofs.OrderlyEntries.{legal_goes}
 use Rattle.be_machine.proofs.Resting.{IsAtRest, at_rest}
@@ -99,7 +102,7 @@ record IsQuiet (s : State) : Type 0 where
   links : list_all (λ link. length link == 0) s.links ≡ true
 
 quiet : (s : State) → all_quiet s ≡ true → IsQuiet s
-quiet s h = record { ports = search (both_first, both_second); buffers = search (both_first, both_second); links = search (both_first, both_second) }
+quiet s h = record { ports = search (and_first, and_second); buffers = search (and_first, and_second); links = search (and_first, and_second) }
 
 empty_at : (d : Declared) (s : State) (w : ℕ) → HasParts d s → all_quiet s ≡ true → w < length d.windows → IsEmptyAt s w
 empty_at d s w parts h inside =
@@ -111,9 +114,9 @@ empty_at d s w parts h inside =
       port = port;
       buffer = buffer;
       link = link;
-      no_letter = same_number _ 0 (all_get (λ (p : Port Message). length (queue_of p) == 0) s.ports w port.element q.ports port.read);
-      no_command = same_number _ 0 (all_get is_flushed s.buffers w buffer.element q.buffers buffer.read);
-      none_waits = same_number _ 0 (all_get (λ (link : List Numbered). length link == 0) s.links w link.element q.links link.read);
+      no_letter = eq_tells _ 0 (all_at (λ (p : Port Message). length (queue_of p) == 0) s.ports w port.element q.ports port.read);
+      no_command = eq_tells _ 0 (all_at is_flushed s.buffers w buffer.element q.buffers buffer.read);
+      none_waits = eq_tells _ 0 (all_at (λ (link : List Numbered). length link == 0) s.links w link.element q.links link.read);
     }
 
 even_at : (s : State) (w : ℕ) (t : Tally) → IsEmptyAt s w → IsTallied s w t → IsEven t

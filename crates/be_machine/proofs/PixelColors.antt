@@ -14,6 +14,7 @@ use Rattle.be_script.specs.declared.InputLine.TheVariants as line
 use Rattle.be_script.specs.Script.{Declared}
 use Rattle.be_span.specs.Screen.{cell_at}
 use Rattle.be_span.specs.declared.Cell.{Cell}
+use Rattle.be_span.proofs.EachLemmas.{cell_by}
 use Rattle.be_update.specs.Sessions.{is_any, cleaned_cell}
 use Rattle.be_machine.specs.Commands.{effect_outcome, without_front, with_effect}
 use Rattle.be_machine.specs.declared.Act.{Act}
@@ -32,7 +33,6 @@ use Rattle.be_machine.specs.Windows.{width_of, owned, corner_at, dirty_of, chang
 use Rattle.be_machine.proofs.Found.{IsJoined, joined, IsTested, tested}
 use Rattle.be_machine.proofs.LegalEntries.{IsMet, met_by}
 use Rattle.be_machine.proofs.PixelHistory.{own_change_leaves, still_leaves, exec_step}
-use Rattle.be_machine.proofs.PixelRules.{cell_by}
 use Rattle.be_machine.proofs.PixelSteps.{same_pixel, quiet_shown, is_quiet}
 
 -- ---- colours

@@ -3,6 +3,8 @@ use Rattle.std.proofs.Common.{◌≡◌, ℕ, ◌+◌, ◌*◌, ◌<◌, true, L
 use Rattle.std.specs.Prelude.{ℤ, pos, negsuc, nat_lt, int_le, int_lt, slice_get}
 use Rattle.std.proofs.lemmas.Bool.Decides.{nat_tests}
 use Rattle.std.proofs.lemmas.List.{length-map}
+use Rattle.be_facts.proofs.Numbers.{index_below}
+use Rattle.be_facts.proofs.Truths.{and_second}
 use Rattle.be_color.specs.declared.colors.Color.{Color}
 use Rattle.be_desk.specs.Changes.{Desk, desk_after, view_here, color_of}
 use Rattle.be_geom.specs.declared.change.Change.{Change}
@@ -23,7 +25,7 @@ use Rattle.be_machine.proofs.FittedDesk.{FitAfter, desk_fit}
 use Rattle.be_machine.proofs.FittedSteps.{AreColored, IsFitted, fitted_after}
 use Rattle.be_machine.proofs.HasParts.{HasParts}
 use Rattle.be_machine.proofs.Histories.{parts_after}
-use Rattle.be_machine.proofs.Lists.{IsThere, there, both_second}
+use Rattle.be_machine.proofs.Lists.{IsThere, there}
 use Rattle.be_machine.proofs.PixelViews.{IsCovered, covered, HasView, view_there, view_colored}
 use Rattle.be_machine.proofs.Sizes.{KeepsCounts, desk_sizes}
 
@@ -54,12 +56,9 @@ sized_again d s r panes windows trees screen h = record {
 -- ---- a cell
 
 on_row : (n a : ℕ) → is_on_screen n (pos a) ≡ true → a < n
-on_row n a e = let lt : nat_lt a n ≡ true = both_second (int_le (pos 0) (pos a)) (int_lt (pos a) (pos n)) e in grind (arith, nat_tests)
+on_row n a e = let lt : nat_lt a n ≡ true = and_second (int_le (pos 0) (pos a)) (int_lt (pos a) (pos n)) e in grind (arith, nat_tests)
 
-in_cells : (x y width height : ℕ) → x < width → y < height → y * width + x < width * height
-in_cells x y width height a b = grind (arith)
-
-cell_if : (width : ℕ) (cells : List Cell) (x y : ℕ) (c : Cell) → nat_lt x width ≡ true → slice_get cells (y * width + x) ≡ Some c → cell_at width cells (pos x) (pos y) ≡ Some c
+pub cell_if : (width : ℕ) (cells : List Cell) (x y : ℕ) (c : Cell) → nat_lt x width ≡ true → slice_get cells (y * width + x) ≡ Some c → cell_at width cells (pos x) (pos y) ≡ Some c
 unfolding cell_at
 cell_if width cells x y c inside read = rw inside read
 
@@ -67,9 +66,9 @@ pub cell_on : (width height : ℕ) (cells : List Cell) (x y : ℤ) → length ce
 cell_on width height cells (pos x) (pos y) long column row =
     let a : x < width = on_row width x column in
     let b : y < height = on_row height y row in
-    let lt : y * width + x < length cells = subst (λ n. y * width + x < n) (sym long) (in_cells x y width height a b) in
+    let lt : y * width + x < length cells = subst (λ n. y * width + x < n) (sym long) (index_below x y width height a b) in
     let c : IsThere cells (y * width + x) = there cells (y * width + x) lt in
-    (c.element, cell_if width cells x y c.element (both_second (int_le (pos 0) (pos x)) (int_lt (pos x) (pos width)) column) c.read)
+    (c.element, cell_if width cells x y c.element (and_second (int_le (pos 0) (pos x)) (int_lt (pos x) (pos width)) column) c.read)
 cell_on width height cells (pos x) (negsuc y) long column row = cc
 cell_on width height cells (negsuc x) y long column row = cc
 

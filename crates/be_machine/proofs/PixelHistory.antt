@@ -45,11 +45,13 @@ use Rattle.be_update.specs.Sessions.{passed, cleaned_cell}
 use Rattle.be_machine.specs.Commands.{sight_at}
 use Rattle.be_machine.specs.Pixels.{pixel_at, owner_in}
 use Rattle.be_machine.specs.Windows.{owned, width_of, view_colors}
-use Rattle.be_machine.proofs.PixelRules.{cell_by, stays_by, executed_stays, cleaned_stays, changed_stays, still_stays, changed_desktop}
+use Rattle.be_machine.proofs.PixelRules.{stays_by, executed_stays, cleaned_stays, changed_stays, still_stays}
 use Rattle.std.specs.Prelude.{◌⊎◌, ◌+◌, ◌*◌, nat_lt, pos, negsuc, replicate}
 use Rattle.be_command.specs.Effects.{Deed}
 use Rattle.std.proofs.Common.{inl, inr}
 use Rattle.be_command.specs.Limits.{is_drawing, is_drawing_effect, is_drawing_deed}
+use Rattle.be_span.proofs.EachLemmas.{cell_by}
+use Rattle.be_desk.proofs.StandLemmas.{no_owner}
 use Rattle.be_machine.specs.Activities.{Activity, runner, twin, activity_of}
 use Rattle.be_machine.specs.Update.{passed_by}
 use Rattle.be_machine.specs.declared.Entry.{Entry}
@@ -79,7 +81,7 @@ change_leaves s w change (Ok new) P sizes stays =
       kept = λ u x y other was now. at x y ∙ stays_by (width_of s) rule s.screen x y (λ old c. stays new u old x y c other was now);
       desktop = λ x y h none.
           let same : cell_at new.windows.width (each_cell (width_of s) rule s.screen) x y ≡ option_map (λ _. desktop_cell) (cell_at (width_of s) s.screen x y) =
-          at x y ∙ rule_pixel (width_of s) rule (λ _. desktop_cell) s.screen x y (λ old c. changed_desktop s.desk new (view_colors s) w change old x y c none) in
+          at x y ∙ rule_pixel (width_of s) rule (λ _. desktop_cell) s.screen x y (λ old c. no_owner s.desk new (view_colors s) w change old x y c none) in
           same ∙ once_desktop (cell_at (width_of s) s.screen x y) ∙ sym (ap (option_map (λ _. desktop_cell)) same);
     }
 

@@ -3,6 +3,7 @@ use Rattle.std.proofs.Common.{◌≡◌, ℕ, ◌*◌, Bool, true, false, List, 
 use Rattle.std.specs.Prelude.{ℤ, ◌-ℤ◌, ◌==◌, slice_get, option_map, option_and_then, if◌then◌else◌}
 use Rattle.std.specs.Option.{option_map_or}
 use Rattle.std.proofs.lemmas.Int.{ints}
+use Rattle.be_facts.proofs.Numbers.{eq_tells}
 use Rattle.be_color.specs.declared.colors.Color.{Color}
 use Rattle.be_color.specs.declared.colors.Color.TheVariants.{Solid, Clear}
 use Rattle.be_command.specs.Effects.{Effect, at_view, changes, ends_update, effect_of}
@@ -10,6 +11,7 @@ use Rattle.be_desk.specs.Changes.{Desk, Motion, still, moving, resizing, motion_
 use Rattle.be_geom.specs.declared.change.Change.{Change}
 use Rattle.be_geom.specs.declared.change.Change.TheVariants.{Activate}
 use Rattle.be_geom.specs.declared.point.Point.{Point}
+use Rattle.be_geom.proofs.Numbered.{number_is}
 use Rattle.be_input.specs.Pointing.{corner_of}
 use Rattle.be_input.specs.Deliveries.{Delivery}
 use Rattle.be_input.specs.declared.Event.TheVariants as event
@@ -20,6 +22,7 @@ use Rattle.be_script.specs.Script.{Declared}
 use Rattle.be_span.specs.Cells.{Lookup, exposed_cell, exposed_as}
 use Rattle.be_span.specs.declared.Cell.{Cell}
 use Rattle.be_span.specs.Screen.{cell_at, each_cell}
+use Rattle.be_span.proofs.EachLemmas.{cell_by}
 use Rattle.be_stack.specs.declared.fault.ChangeFault.{ChangeFault}
 use Rattle.be_stack.specs.Owner.{is_on_screen, owner_at}
 use Rattle.be_stack.specs.Windows.{Windows}
@@ -38,13 +41,10 @@ use Rattle.be_update.specs.Sessions.{is_any}
 use Rattle.be_machine.proofs.FittedSteps.{IsFitted, fitted_after}
 use Rattle.be_machine.proofs.Histories.{parts_after}
 use Rattle.be_machine.proofs.LegalEntries.{IsMet, met_by}
-use Rattle.be_machine.proofs.Lists.{same_number}
 use Rattle.be_machine.proofs.PixelExposed.{IsSized, sized, sized_again, cell_on, change_color}
-use Rattle.be_machine.proofs.PixelRules.{cell_by}
 use Rattle.be_machine.proofs.PixelSteps.{quiet_shown, is_quiet}
 use Rattle.be_machine.proofs.PixelViews.{IsCovered, covered}
 use Rattle.be_machine.proofs.ProgressCases.{by_test, by_option}
-use Rattle.be_machine.proofs.ReadsDirt.{number_is}
 use Rattle.be_machine.proofs.Sizes.{KeepsCounts, desk_sizes}
 
 -- ---- a pixel that a window comes to own
@@ -88,7 +88,7 @@ fresh_own before after colors u resizing old x y c color lost corner is = fresh_
 
 fresh_by : (before after : Desk) (colors : List (List Color)) (w u : ℕ) (motion : Motion) (old : Lookup) (x y : ℤ) (c : Cell) (color : Color) (b : Bool) → (u == w) ≡ b → owns before u x y ≡ false → corner_of after.windows u ≡ corner_of before.windows u → color_of colors u (view_here after u x y) ≡ Some color → (if b then own_cell before after colors w motion old x y c else own_cell before after colors u still old x y c).dirty ≡ true
 fresh_by before after colors w u motion old x y c color true e lost corner is =
-    subst (λ k. (own_cell before after colors k motion old x y c).dirty ≡ true) (same_number u w e) (fresh_own before after colors u motion old x y c color lost corner is)
+    subst (λ k. (own_cell before after colors k motion old x y c).dirty ≡ true) (eq_tells u w e) (fresh_own before after colors u motion old x y c color lost corner is)
 fresh_by before after colors w u motion old x y c color false e lost corner is = fresh_own before after colors u still old x y c color lost corner is
 
 fresh_cell : (before after : Desk) (colors : List (List Color)) (w u : ℕ) (change : Change) (old : Lookup) (x y : ℤ) (c : Cell) (color : Color) → owner_at after.windows x y ≡ Some u → owns before u x y ≡ false → corner_of after.windows u ≡ corner_of before.windows u → color_of colors u (view_here after u x y) ≡ Some color → (changed_cell before after colors w change old x y c).dirty ≡ true

@@ -2,6 +2,7 @@
 use Rattle.std.proofs.Common.{◌≡◌, ℕ, Bool, true, false, List, Option, Some, None, refl, sym, ap, subst, ◌∙◌}
 use Rattle.std.specs.Prelude.{ℤ, ◌&&◌, slice_get, option_map, option_and_then, if◌then◌else◌}
 use Rattle.std.specs.Option.{option_map_or}
+use Rattle.std.proofs.lemmas.Bool.{and_left}
 use Rattle.be_bitmap.specs.Pictures.{Picture}
 use Rattle.be_color.specs.declared.colors.Color.{Color}
 use Rattle.be_command.specs.Effects.{Deed, draws, sets, colors, saves, restores, copies, invalidates, at_view, effect_of}
@@ -9,6 +10,7 @@ use Rattle.be_desk.specs.Changes.{view_here}
 use Rattle.be_geom.specs.declared.point.Point.{Point}
 use Rattle.be_geom.specs.declared.rect.Rect.{Rect}
 use Rattle.be_geom.specs.Places.{at_pixel, less}
+use Rattle.be_geom.proofs.Numbered.{number_is}
 use Rattle.be_input.specs.Pointing.{view_in, view_under}
 use Rattle.be_link.specs.Queues.{Numbered}
 use Rattle.be_paint.specs.Copies.{copied_cell, invalidated_in, invalidated_cell}
@@ -33,7 +35,6 @@ use Rattle.be_machine.specs.Windows.{width_of, owned, corner_at, tree_at}
 use Rattle.be_machine.proofs.Found.{IsMapped, mapped, IsChained, chained, IsJoined, joined}
 use Rattle.be_machine.proofs.PixelHistory.{exec_step, stays_in_window}
 use Rattle.be_machine.proofs.PixelRules.{stays_by}
-use Rattle.be_machine.proofs.ReadsDirt.{number_is}
 
 -- ---- what isn't reached stays
 
@@ -49,13 +50,9 @@ inked_unreached : (owned : ℤ → ℤ → Bool) (reach : Reach) (o : Option Ink
 inked_unreached owned reach (Some ink) old x y c h = painted_unreached owned reach ink old x y c h
 inked_unreached owned reach None old x y c h = refl
 
-first_fails : (a b : Bool) → a ≡ false → (a && b) ≡ false
-first_fails true b h = cc
-first_fails false b h = refl
-
 copied_unreached : (owned : ℤ → ℤ → Bool) (reach : Reach) (source : Rect) (target : Point) (color : Color) (old : Lookup) (x y : ℤ) (c : Cell) → is_reached owned reach x y ≡ false → copied_cell owned reach source target color old x y c ≡ c
 unfolding copied_cell
-copied_unreached owned reach source target color old x y c h = unless _ _ c (first_fails (is_reached owned reach x y) _ h)
+copied_unreached owned reach source target color old x y c h = unless _ _ c (and_left (is_reached owned reach x y) _ h)
 
 deed_unreached : (pictures : List Picture) (owned : ℤ → ℤ → Bool) (reach : Reach) (color : Color) (all : List Color) (deed : Deed) (old : Lookup) (x y : ℤ) (c : Cell) → is_invalidating deed ≡ false → is_reached owned reach x y ≡ false → cell_after pictures owned reach color all deed old x y c ≡ c
 deed_unreached pictures owned reach color all (draws figure) old x y c quiet h = inked_unreached owned reach (ink_of pictures reach.stack.top.state figure) old x y c h

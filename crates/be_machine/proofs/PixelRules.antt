@@ -1,8 +1,8 @@
 -- Rules of pixels on the screen, and what they leave as it was.
-use Rattle.std.proofs.Common.{◌≡◌, ℕ, zero, suc, ◌+◌, ◌*◌, ◌<◌, Bool, true, false, List, [], ◌∷◌, Option, Some, None, refl, sym, ap, ◌∙◌, arith}
-use Rattle.std.specs.Prelude.{ℤ, pos, negsuc, ◌/◌, ◌%◌, ◌==◌, ◌&&◌, nat_lt, slice_get, option_map, if◌then◌else◌}
-use Rattle.std.proofs.lemmas.Bool.Decides.{nat_tests}
-use Rattle.std.proofs.Math.Arith.{digits_mod, digits_div}
+use Rattle.std.proofs.Common.{◌≡◌, ℕ, Bool, true, false, List, [], Option, Some, None, refl, ap, ◌∙◌}
+use Rattle.std.specs.Prelude.{ℤ, ◌==◌, option_map, if◌then◌else◌}
+use Rattle.std.proofs.lemmas.Bool.{and_left}
+use Rattle.be_facts.proofs.Numbers.{eq_tells, eq_self}
 use Rattle.be_geom.specs.Numbers.{is_number}
 use Rattle.be_bitmap.specs.Pictures.{Picture}
 use Rattle.be_color.specs.declared.colors.Color.{Color}
@@ -15,39 +15,16 @@ use Rattle.be_geom.specs.declared.rect.Rect.{Rect}
 use Rattle.be_paint.specs.Copies.{copied_cell, invalidated_cell}
 use Rattle.be_paint.specs.Inks.{Ink, laid_on_cell, painted_cell}
 use Rattle.be_paint.specs.Reach.{Reach, is_reached}
-use Rattle.be_span.specs.Cells.{Lookup, desktop_cell}
-use Rattle.be_span.specs.Screen.{cell_at, each_from, each_cell}
+use Rattle.be_span.specs.Cells.{Lookup}
+use Rattle.be_span.specs.Screen.{cell_at, each_cell}
 use Rattle.be_span.specs.declared.Cell.{Cell}
+use Rattle.be_span.proofs.EachLemmas.{cell_by}
 use Rattle.be_stack.specs.Owner.{owner_at}
 use Rattle.be_twin.specs.Deeds.{ink_of, inked_cell, cell_after}
 use Rattle.be_twin.specs.Executed.{Sight, executed_cell}
 use Rattle.be_update.specs.Sessions.{cleaned_cell}
-use Rattle.be_machine.proofs.Lists.{same_number, is_same_number}
 
 -- ---- the screen
-
-each_get : (k i : ℕ) (f : ℕ → Cell → Cell) (cells : List Cell) → slice_get (each_from k f cells) i ≡ option_map (f (k + i)) (slice_get cells i)
-each_get k i f [] = refl
-each_get k zero f (c ∷ cs) = let same : k + 0 ≡ k = omega arith in ap (λ n. Some (f n c)) (sym same)
-each_get k (suc i) f (c ∷ cs) = let same : k + 1 + i ≡ k + suc i = omega arith in each_get (k + 1) i f cs ∙ ap (λ n. option_map (f n) (slice_get cs i)) same
-
-at_row : (width : ℕ) (rule : Lookup → ℤ → ℤ → Cell → Cell) (cells : List Cell) (x y : ℕ) (b : Bool) → nat_lt x width ≡ b → (if b then slice_get (each_cell width rule cells) (y * width + x) else None) ≡ option_map (rule (cell_at width cells) (pos x) (pos y)) (if b then slice_get cells (y * width + x) else None)
-unfolding each_cell
-at_row width rule cells x y true inside =
-    let within : x < width = grind (arith, nat_tests) in
-    let from_none : 0 + (y * width + x) ≡ y * width + x = omega arith in
-    let column : (0 + (y * width + x)) % width ≡ x = ap (λ n. n % width) from_none ∙ digits_mod y within in
-    let row : (0 + (y * width + x)) / width ≡ y = ap (λ n. n / width) from_none ∙ digits_div y within in
-    each_get 0 (y * width + x) (λ k c. rule (cell_at width cells) (pos (k % width)) (pos (k / width)) c) cells
-    ∙ rw (column, row) refl
-at_row width rule cells x y false inside = refl
-
--- the cell at a pixel is the one that the rule makes of the old one there
-pub cell_by : (width : ℕ) (rule : Lookup → ℤ → ℤ → Cell → Cell) (cells : List Cell) (x y : ℤ) → cell_at width (each_cell width rule cells) x y ≡ option_map (rule (cell_at width cells) x y) (cell_at width cells x y)
-unfolding cell_at
-cell_by width rule cells (pos x) (pos y) = at_row width rule cells x y (nat_lt x width) refl
-cell_by width rule cells (pos x) (negsuc y) = refl
-cell_by width rule cells (negsuc x) y = refl
 
 same_cell : (f : Cell → Cell) (o : Option Cell) → ((c : Cell) → o ≡ Some c → f c ≡ c) → option_map f o ≡ o
 same_cell f (Some c) h = ap Some (h c refl)
@@ -58,10 +35,6 @@ pub stays_by : (width : ℕ) (rule : Lookup → ℤ → ℤ → Cell → Cell) (
 stays_by width rule cells x y h = cell_by width rule cells x y ∙ same_cell (rule (cell_at width cells) x y) (cell_at width cells x y) (λ c e. h (cell_at width cells) c)
 
 -- ---- drawing
-
-unowned : (a b : Bool) → a ≡ false → (a && b) ≡ false
-unowned true b h = cc
-unowned false b h = refl
 
 else_case : {X : Type 0} (b : Bool) (x y : X) → b ≡ false → (if b then x else y) ≡ y
 else_case true x y h = cc
@@ -77,11 +50,11 @@ painted_stays owned reach ink old x y c h = else_case (is_reached owned reach x 
 
 copied_stays : (owned : ℤ → ℤ → Bool) (reach : Reach) (source : Rect) (target : Point) (color : Color) (old : Lookup) (x y : ℤ) (c : Cell) → owned x y ≡ false → copied_cell owned reach source target color old x y c ≡ c
 unfolding copied_cell
-copied_stays owned reach source target color old x y c h = else_case _ _ c (unowned (is_reached owned reach x y) _ (unreached owned reach x y h))
+copied_stays owned reach source target color old x y c h = else_case _ _ c (and_left (is_reached owned reach x y) _ (unreached owned reach x y h))
 
 invalidated_stays : (owned : ℤ → ℤ → Bool) (reach : Reach) (r : Rect) (all : List Color) (old : Lookup) (x y : ℤ) (c : Cell) → owned x y ≡ false → invalidated_cell owned reach r all old x y c ≡ c
 unfolding invalidated_cell
-invalidated_stays owned reach r all old x y c h = else_case _ _ c (unowned (owned x y) _ h)
+invalidated_stays owned reach r all old x y c h = else_case _ _ c (and_left (owned x y) _ h)
 
 inked_stays : (owned : ℤ → ℤ → Bool) (reach : Reach) (o : Option Ink) (old : Lookup) (x y : ℤ) (c : Cell) → owned x y ≡ false → inked_cell owned reach o old x y c ≡ c
 inked_stays owned reach (Some ink) old x y c h = painted_stays owned reach ink old x y c h
@@ -149,11 +122,11 @@ then_case false x y h = cc
 -- what a change leaves at a pixel that its owner keeps, unless the change is the owner's own
 pub kept_still : (before after : Desk) (all : List (List Color)) (u : ℕ) (old : Lookup) (x y : ℤ) (c : Cell) → owner_at before.windows x y ≡ Some u → own_cell before after all u still old x y c ≡ c
 kept_still before after all u old x y c h =
-    let owned : owns before u x y ≡ true = ap (is_number u) h ∙ is_same_number u in
+    let owned : owns before u x y ≡ true = ap (is_number u) h ∙ eq_self u in
     then_case (owns before u x y) c _ owned
 
 other_window : (before after : Desk) (all : List (List Color)) (w u : ℕ) (motion : Motion) (old : Lookup) (x y : ℤ) (c : Cell) (b : Bool) → (u == w) ≡ b → (u ≡ w → ⊥) → owner_at before.windows x y ≡ Some u → (if u == w then own_cell before after all w motion old x y c else own_cell before after all u still old x y c) ≡ c
-other_window before after all w u motion old x y c true e other h = absurd (other (same_number u w e))
+other_window before after all w u motion old x y c true e other h = absurd (other (eq_tells u w e))
 other_window before after all w u motion old x y c false e other h = rw e (kept_still before after all u old x y c h)
 
 -- a pixel that another window keeps
@@ -162,15 +135,10 @@ unfolding changed_cell
 changed_stays before after all w u change old x y c other was is = rw is (other_window before after all w u (motion_of change) old x y c (u == w) refl other was)
 
 own_still : (before after : Desk) (all : List (List Color)) (w u : ℕ) (old : Lookup) (x y : ℤ) (c : Cell) (b : Bool) → (u == w) ≡ b → owner_at before.windows x y ≡ Some u → (if u == w then own_cell before after all w still old x y c else own_cell before after all u still old x y c) ≡ c
-own_still before after all w u old x y c true e h = rw e (kept_still before after all w old x y c (h ∙ ap Some (same_number u w e)))
+own_still before after all w u old x y c true e h = rw e (kept_still before after all w old x y c (h ∙ ap Some (eq_tells u w e)))
 own_still before after all w u old x y c false e h = rw e (kept_still before after all u old x y c h)
 
 -- a change that neither moves nor resizes leaves each pixel that its owner keeps
 pub still_stays : (before after : Desk) (all : List (List Color)) (w u : ℕ) (change : Change) (old : Lookup) (x y : ℤ) (c : Cell) → motion_of change ≡ still → owner_at before.windows x y ≡ Some u → owner_at after.windows x y ≡ Some u → changed_cell before after all w change old x y c ≡ c
 unfolding changed_cell
 still_stays before after all w u change old x y c is_still was is = rw (is, is_still) (own_still before after all w u old x y c (u == w) refl was)
-
--- a pixel that nobody owns after it is the desktop's
-pub changed_desktop : (before after : Desk) (all : List (List Color)) (w : ℕ) (change : Change) (old : Lookup) (x y : ℤ) (c : Cell) → owner_at after.windows x y ≡ None → changed_cell before after all w change old x y c ≡ desktop_cell
-unfolding changed_cell
-changed_desktop before after all w change old x y c is = rw is refl

@@ -33,8 +33,9 @@ use Rattle.be_machine.specs.Windows.{owned, width_of, view_colors}
 use Rattle.be_pane.specs.Panes.{Pane}
 use Rattle.be_update.specs.Sessions.{with_notice}
 use Rattle.std.proofs.lemmas.Option.{same_Some}
-use Rattle.be_machine.proofs.Lists.{same_number}
-use Rattle.be_machine.proofs.PixelRules.{cell_by, stays_by}
+use Rattle.be_facts.proofs.Numbers.{eq_tells}
+use Rattle.be_span.proofs.EachLemmas.{cell_by}
+use Rattle.be_machine.proofs.PixelRules.{stays_by}
 
 -- ---- what is left
 
@@ -171,7 +172,7 @@ is_not_owned : (s : State) (w : ℕ) (x y : ℤ) (o : Option ℕ) → owner_in s
 is_not_owned s w x y o was e = ap (is_number w) was ∙ e
 
 another : (u w : ℕ) (b : Bool) → (u == w) ≡ b → (w ≡ u → ⊥) → (u == w) ≡ false
-another u w true e other = absurd (other (sym (same_number u w e)))
+another u w true e other = absurd (other (sym (eq_tells u w e)))
 another u w false e other = e
 
 -- a rule that leaves the pixels that window w doesn't own

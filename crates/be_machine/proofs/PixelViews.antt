@@ -1,11 +1,13 @@
 -- A pixel that a window owns has a cell, a view and a colour; one that it comes to own is marked.
-use Rattle.std.proofs.Common.{◌≡◌, ℕ, zero, suc, ◌+◌, ◌<◌, ◌≤◌, Bool, true, false, List, [], ◌∷◌, reverse, length, Option, Some, None, refl, sym, ap, subst, ◌∙◌, arith}
+use Rattle.std.proofs.Common.{◌≡◌, ℕ, suc, ◌+◌, ◌<◌, ◌≤◌, Bool, true, false, List, [], ◌∷◌, reverse, length, Option, Some, None, refl, sym, ap, subst, ◌∙◌, arith}
 use Rattle.std.specs.Prelude.{ℤ, pos, ◌-ℤ◌, ◌&&◌, nat_lt, find, slice_get, option_map, option_and_then, if◌then◌else◌}
 use Rattle.std.specs.List.{list_all}
 use Rattle.std.proofs.lemmas.Bool.Decides.{nat_tests}
 use Rattle.std.proofs.lemmas.Int.{ints}
 use Rattle.std.proofs.lemmas.List.{reverse-append}
 use Rattle.std.proofs.lemmas.Option.{slice_get_within}
+use Rattle.be_facts.proofs.Numbers.{nat_lt_tells}
+use Rattle.be_facts.proofs.Truths.{and_first, and_second}
 use Rattle.be_color.specs.declared.colors.Color.{Color}
 use Rattle.be_desk.specs.Changes.{Desk, view_here, color_of}
 use Rattle.be_geom.specs.declared.point.Point.{Point}
@@ -21,9 +23,11 @@ use Rattle.be_stack.specs.Windows.{Windows, is_shown_window, passes}
 use Rattle.be_views.specs.Pixels.{last_child_at, descended, view_below, view_at}
 use Rattle.be_views.specs.Resizing.{root_frame}
 use Rattle.be_views.specs.Trees.{Tree, View, children_from, children_of, left_top}
+use Rattle.be_views.proofs.RunLemmas.{view_in as at_root}
+use Rattle.be_desk.proofs.PlanLemmas.{below_there}
 use Rattle.be_machine.proofs.Fitted.{IsFit, AreFit}
 use Rattle.be_machine.proofs.FittedSteps.{AreColored}
-use Rattle.be_machine.proofs.Lists.{IsThere, there, both_first, both_second, all_append, all_find, find_passes}
+use Rattle.be_machine.proofs.Lists.{IsThere, there, all_append, all_find, find_passes}
 
 -- ---- the window that owns a pixel
 
@@ -40,7 +44,7 @@ on_by true false o w e f = cc
 on_by false b o w e f = cc
 
 covered_by : (windows : Windows) (w : ℕ) (x y : ℤ) (o : Option Window) → slice_get windows.windows w ≡ o → passes (covers_pixel x y) o ≡ true → is_on_screen windows.width x ≡ true → is_on_screen windows.height y ≡ true → IsCovered windows w x y
-covered_by windows w x y (Some window) read e column row = record { window = window; is = read; inside = both_second (is_shown_window window) _ e; column = column; row = row }
+covered_by windows w x y (Some window) read e column row = record { window = window; is = read; inside = and_second (is_shown_window window) _ e; column = column; row = row }
 covered_by windows w x y None read e column row = cc
 
 pub covered : (windows : Windows) (w : ℕ) (x y : ℤ) → owner_at windows x y ≡ Some w → IsCovered windows w x y
@@ -53,7 +57,7 @@ covered windows w x y e =
 
 all_reverse : {X : Type 0} (p : X → Bool) (xs : List X) → list_all p xs ≡ true → list_all p (reverse xs) ≡ true
 all_reverse p [] h = refl
-all_reverse p (x ∷ xs) h = ap (list_all p) (reverse-append (x ∷ []) xs) ∙ all_append p (reverse xs) (x ∷ []) (all_reverse p xs (both_second (p x) _ h)) (one_passes (p x) (both_first (p x) _ h))
+all_reverse p (x ∷ xs) h = ap (list_all p) (reverse-append (x ∷ []) xs) ∙ all_append p (reverse xs) (x ∷ []) (all_reverse p xs (and_second (p x) _ h)) (one_passes (p x) (and_first (p x) _ h))
   where
     one_passes : (b : Bool) → b ≡ true → (b && true) ≡ true
     one_passes true e = refl
@@ -70,18 +74,11 @@ children_below k n v (view ∷ rest) le = child_by (is_number v view.parent) (ch
     child_by true h = rw first_below h
     child_by false h = h
 
-is_below : (a n : ℕ) → nat_lt a n ≡ true → a < n
-is_below a n e = grind (arith, nat_tests)
-
 view_by : (steps : ℕ) (tree : Tree) (v : ℕ) (x y : ℤ) (o : Option (ℕ × View)) → last_child_at tree v x y ≡ o → v < length tree → ((u : ℕ) (a b : ℤ) → u < length tree → view_below steps tree u a b < length tree) → descended (view_below steps tree) v x y o < length tree
 view_by steps tree v x y None e lt deeper = lt
 view_by steps tree v x y (Some child) e lt deeper =
     let all : list_all (λ (c : ℕ × View). nat_lt c.0 (length tree)) (reverse (children_of tree v)) ≡ true = all_reverse (λ (c : ℕ × View). nat_lt c.0 (length tree)) (children_of tree v) (children_below 0 (length tree) v tree (omega arith)) in
-    deeper child.0 _ _ (is_below child.0 (length tree) (all_find (λ (c : ℕ × View). nat_lt c.0 (length tree)) (λ (c : ℕ × View). rect_has c.1.frame x y) (reverse (children_of tree v)) child all e))
-
-view_inside : (steps : ℕ) (tree : Tree) (v : ℕ) (x y : ℤ) → v < length tree → view_below steps tree v x y < length tree
-view_inside zero tree v x y lt = lt
-view_inside (suc steps) tree v x y lt = view_by steps tree v x y (last_child_at tree v x y) refl lt (λ u a b. view_inside steps tree u a b)
+    deeper child.0 _ _ (nat_lt_tells child.0 (length tree) (all_find (λ (c : ℕ × View). nat_lt c.0 (length tree)) (λ (c : ℕ × View). rect_has c.1.frame x y) (reverse (children_of tree v)) child all e))
 
 seen_from : (low z high : ℤ) → between low z high ≡ true → between (pos 0) (z -ℤ low) (high -ℤ low) ≡ true
 unfolding between
@@ -90,19 +87,11 @@ seen_from low z high h = grind (arith, ints)
 -- a rectangle as seen from its left top
 within_root : (r : Rect) (x y : ℤ) → rect_has r x y ≡ true → rect_has (root_frame (r.right -ℤ r.left) (r.bottom -ℤ r.top)) (x -ℤ r.left) (y -ℤ r.top) ≡ true
 within_root r x y e =
-    two_hold (between (pos 0) (x -ℤ r.left) (r.right -ℤ r.left)) _ (seen_from r.left x r.right (both_first (between r.left x r.right) _ e)) (seen_from r.top y r.bottom (both_second (between r.left x r.right) _ e))
+    two_hold (between (pos 0) (x -ℤ r.left) (r.right -ℤ r.left)) _ (seen_from r.left x r.right (and_first (between r.left x r.right) _ e)) (seen_from r.top y r.bottom (and_second (between r.left x r.right) _ e))
   where
     two_hold : (a b : Bool) → a ≡ true → b ≡ true → (a && b) ≡ true
     two_hold true b h k = k
     two_hold false b h k = h
-
-root_if : (tree : Tree) (x y : ℤ) (b : Bool) → b ≡ true → (if b then Some (view_below (length tree) tree 0 x y) else None) ≡ Some (view_below (length tree) tree 0 x y)
-root_if tree x y true e = refl
-root_if tree x y false e = cc
-
-at_root : (tree : Tree) (root : View) (x y : ℤ) → slice_get tree 0 ≡ Some root → rect_has root.frame x y ≡ true → view_at tree x y ≡ Some (view_below (length tree) tree 0 x y)
-unfolding view_at
-at_root tree root x y read inside = ap (option_and_then (λ root. if rect_has root.frame x y then Some (view_below (length tree) tree 0 x y) else None)) read ∙ root_if tree x y (rect_has root.frame x y) inside
 
 some_view : (tree : Tree) (root : View) → slice_get tree 0 ≡ Some root → 0 < length tree
 some_view [] root e = cc
@@ -137,7 +126,7 @@ view_there desk w x y many fit owner =
       there = tree.read;
       view = view_below (length tree.element) tree.element 0 (x -ℤ is.window.frame.left) (y -ℤ is.window.frame.top);
       is = view_under_is desk w x y is.window tree.element is.is tree.read ∙ at_root tree.element root.root (x -ℤ is.window.frame.left) (y -ℤ is.window.frame.top) root.first fits;
-      below = view_inside (length tree.element) tree.element 0 (x -ℤ is.window.frame.left) (y -ℤ is.window.frame.top) (some_view tree.element root.root root.first);
+      below = below_there (length tree.element) tree.element 0 (x -ℤ is.window.frame.left) (y -ℤ is.window.frame.top) (some_view tree.element root.root root.first);
     }
 
 -- ---- its colour

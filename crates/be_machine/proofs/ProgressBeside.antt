@@ -7,10 +7,10 @@ use Rattle.be_desk.specs.Changes.{Desk, desk_after}
 use Rattle.be_geom.specs.declared.change.Change.{Change}
 use Rattle.be_geom.specs.declared.change.Change.TheVariants.{Show, Hide, MoveTo, MoveBy, ResizeTo, Activate, Behind, Focus, Close}
 use Rattle.be_input.specs.declared.Event.TheVariants as event
-use Rattle.be_input.specs.Deliveries.{Post, Delivery}
+use Rattle.be_input.specs.Deliveries.{Delivery}
 use Rattle.be_link.specs.Queues.{Numbered, shortened}
 use Rattle.be_message.specs.Messages.{Message}
-use Rattle.be_port.specs.Ports.{Port, with_letter, posted, closed_port}
+use Rattle.be_port.specs.Ports.{Port, with_letter, closed_port}
 use Rattle.be_script.specs.declared.InputLine.{InputLine}
 use Rattle.be_script.specs.declared.InputLine.TheVariants as line
 use Rattle.be_script.specs.Script.{Declared}
@@ -18,12 +18,13 @@ use Rattle.be_stack.specs.declared.fault.ChangeFault.{ChangeFault}
 use Rattle.be_twin.specs.Executed.{pane_after, without_session}
 use Rattle.be_update.specs.Sessions.{with_notice}
 use Rattle.be_machine.specs.Commands.{sight_at, done_at_view, with_effect, without_front, executed_command, executed}
-use Rattle.be_machine.specs.Input.{input_letter, ports_with, delivery_of, used, with_under, activated, with_delivery, with_event}
+use Rattle.be_machine.specs.Input.{ports_with, delivery_of, used, with_under, activated, with_delivery, with_event}
 use Rattle.be_machine.specs.Port.{notice, notified}
 use Rattle.be_machine.specs.State.{State}
 use Rattle.be_machine.specs.Windows.{ports_after, changed_to, changed}
 use Rattle.be_machine.proofs.ProgressCases.{by_option}
 use Rattle.be_machine.proofs.Lists.{length_at}
+use Rattle.be_machine.proofs.NumbersSteps.{length_ports_with}
 
 -- of ports, links and panes there are as many as before
 pub record Beside (s t : State) : Type 0 where
@@ -93,10 +94,6 @@ beside_notified s w = record { loopers = refl; buffers = refl; apps = refl; even
 
 -- ---- input
 
-ports_posted : (ports : List (Port Message)) (o : Option Post) → length (ports_with ports o) ≡ length ports
-ports_posted ports (Some post) = length_at ports post.window (posted (input_letter post))
-ports_posted ports None = refl
-
 activated_by : (s : State) (o : Option ℕ) → Beside s (activated s o)
 activated_by s (Some w) = beside_changed s w Activate
 activated_by s None = beside_itself s
@@ -104,7 +101,7 @@ activated_by s None = beside_itself s
 delivered_by : (s : State) (delivery : Delivery) → Beside (used s) (with_delivery s delivery)
 delivered_by s delivery =
     let t : State = record (used s) { ports = ports_with (ports_with s.ports delivery.first) delivery.second; desk = with_under delivery s.desk } in
-    let h : Beside (used s) t = record { loopers = refl; buffers = refl; apps = refl; events = refl; stopped = refl; ports = ports_posted (ports_with s.ports delivery.first) delivery.second ∙ ports_posted s.ports delivery.first; links = refl; panes = refl } in
+    let h : Beside (used s) t = record { loopers = refl; buffers = refl; apps = refl; events = refl; stopped = refl; ports = length_ports_with (ports_with s.ports delivery.first) delivery.second ∙ length_ports_with s.ports delivery.first; links = refl; panes = refl } in
     beside_then (used s) t (activated t delivery.activate) h (activated_by t delivery.activate)
 
 -- beside that one more event is used

@@ -2,6 +2,7 @@
 use Rattle.std.proofs.Common.{◌≡◌, ℕ, Bool, true, false, length, Option, Some, None, refl, sym, ap, subst, ◌∙◌}
 use Rattle.std.specs.Prelude.{slice_get, ◌==◌, option_and_then, if◌then◌else◌}
 use Rattle.std.specs.Option.{option_map_or}
+use Rattle.be_facts.proofs.Numbers.{eq_tells}
 use Rattle.be_actor.specs.declared.Instruction.{Instruction}
 use Rattle.be_actor.specs.declared.Instruction.TheVariants.{Note, Post, Send, Reply, Forward, Lock, Unlock, Flush, Sync, Draw}
 use Rattle.be_actor.specs.declared.Wish.{Wish}
@@ -34,7 +35,6 @@ use Rattle.be_machine.proofs.LegalEntries.{maker}
 use Rattle.be_machine.proofs.ProgressBeside.{Beside, beside_executed, beside_event}
 use Rattle.be_machine.proofs.ProgressCalm.{is_free_looper, AreCalm, calm_looper, calm_freed, calm_flushed, calm_drawn}
 use Rattle.be_machine.proofs.ProgressStands.{AppStands, LooperStands, app_stands, looper_stands, Handles, handles, ends_empty}
-use Rattle.be_machine.proofs.Lists.{same_number}
 use Rattle.be_machine.proofs.WaitingGranted.{position_passes}
 use Rattle.be_machine.proofs.WaitingBodies.{no_unlock}
 use Rattle.be_machine.proofs.WaitingSteps.{Takes, take_tells, taken_is}
@@ -65,7 +65,7 @@ none_in : (s : State) (w : ℕ) (b : Buffer) (o : Option ℕ) → o ≡ Some w �
 none_in s w b o at read e =
     let count : option_map_or (λ (x : Buffer). length x.commands) (option_and_then (λ v. slice_get s.buffers v) o) 0 ≡ length b.commands =
     ap (λ p. option_map_or (λ (x : Buffer). length x.commands) (option_and_then (λ v. slice_get s.buffers v) p) 0) at ∙ ap (λ p. option_map_or (λ (x : Buffer). length x.commands) p 0) read in
-    sym count ∙ same_number _ 0 e
+    sym count ∙ eq_tells _ 0 e
 
 unlocked_by : (d : Declared) (s : State) (m : ℕ) (o : Option ℕ) (is : AppStands d s m wish.Unlock) → locked_by s m ≡ o → IsCalmState s → IsCalmState (option_map_or (freed s) o s)
 unlocked_by d s m (Some w) is found h =

@@ -3,6 +3,9 @@ use Rattle.std.proofs.Common.{◌≡◌, ℕ, ◌+◌, ◌<◌, ◌≤◌, true,
 use Rattle.std.specs.Prelude.{slice_get, nat_le, nat_lt, ◌==◌, option_map, option_and_then, if◌then◌else◌}
 use Rattle.std.specs.Option.{option_map_or}
 use Rattle.std.proofs.lemmas.Bool.Decides.{nat_tests}
+use Rattle.be_facts.proofs.Numbers.{nat_lt_tells}
+use Rattle.be_facts.proofs.Truths.{and_first}
+use Rattle.be_facts.proofs.Lists.{all_at}
 use Rattle.be_actor.specs.declared.Instruction.{Instruction}
 use Rattle.be_actor.specs.declared.Instruction.TheVariants.{Note, Post, Send, Reply, Forward, Lock, Unlock, Flush, Sync, Draw}
 use Rattle.be_actor.specs.declared.Place.{Place}
@@ -31,7 +34,7 @@ use Rattle.be_machine.specs.State.{State, Stage, in_body, beginning, in_update, 
 use Rattle.be_machine.specs.Update.{owes_notice}
 use Rattle.be_machine.specs.Wants.{Want, begins, flushes, draws_end, ends, asks_or, end_want, draw_end_want, stage_want}
 use Rattle.be_machine.proofs.ProgressCases.{by_outcome}
-use Rattle.be_machine.proofs.Lists.{IsThere, there, both_first, all_get}
+use Rattle.be_machine.proofs.Lists.{IsThere, there}
 use Rattle.be_machine.proofs.Programs.{body_steps, update_steps}
 use Rattle.be_machine.proofs.HasParts.{HasParts}
 use Rattle.be_machine.proofs.ProgressStands.{draw_step_is}
@@ -100,13 +103,10 @@ can_unlock s who w own = can_some _ (act.Unlock w) (ap (option_and_then (λ v. S
 
 -- ---- posts
 
-pub is_below : (w n : ℕ) → nat_lt w n ≡ true → w < n
-is_below w n e = grind (arith, nat_tests)
-
 -- a post always happens
 pub can_post : (d : Declared) (s : State) (v hop : ℕ) (target : Target) → HasParts d s → is_address d v target ≡ true → Can (post_act s v hop)
 can_post d s v hop target parts address =
-    let inside : v < length d.windows = is_below v (length d.windows) (both_first (nat_lt v (length d.windows)) _ address) in
+    let inside : v < length d.windows = nat_lt_tells v (length d.windows) (and_first (nat_lt v (length d.windows)) _ address) in
     let ports : length s.ports ≡ length d.windows = parts.ports in
     let port : IsThere s.ports v = there s.ports v (omega (arith, inside, ports)) in
     can_some _ _ (ap (option_map (λ p. act.Post v (judged p hop))) port.read)
@@ -117,7 +117,7 @@ can_post d s v hop target parts address =
 pub locked_can : (d : Declared) (s : State) (m w part : ℕ) (i : Instruction) → HasParts d s → Owns s (app m) w → is_locked_step d w i ≡ true → Can (wish_act s (app m) (wish_at part None (buffered s (app m)) i))
 unfolding wish_act
 locked_can d s m w part (Note word) parts own h = can_some _ _ refl
-locked_can d s m w part (Post v target draft) parts own h = can_post d s v 0 target parts (both_first (is_address d v target) _ h)
+locked_can d s m w part (Post v target draft) parts own h = can_post d s v 0 target parts (and_first (is_address d v target) _ h)
 locked_can d s m w part (Send v target draft) parts own h = cc
 locked_can d s m w part (Reply draft) parts own h = cc
 locked_can d s m w part (Forward v target) parts own h = cc
@@ -134,7 +134,7 @@ can_reply s w hand read = can_some _ _ (ap (option_map (λ (h : Hand Message). a
 body_can : (d : Declared) (s : State) (w part : ℕ) (now : Option Message) (hand : Hand Message) (i : Instruction) → HasParts d s → Owns s (looper w) w → hand_of s (looper w) ≡ Some hand → is_body_step d w i ≡ true → Can (wish_act s (looper w) (wish_at part now (buffered s (looper w)) i))
 unfolding wish_act
 body_can d s w part now hand (Note word) parts own read h = can_some _ _ refl
-body_can d s w part now hand (Post v target draft) parts own read h = can_post d s v (hop_of s (looper w)) target parts (both_first (is_address d v target) _ h)
+body_can d s w part now hand (Post v target draft) parts own read h = can_post d s v (hop_of s (looper w)) target parts (and_first (is_address d v target) _ h)
 body_can d s w part now hand (Send v target draft) parts own read h = cc
 body_can d s w part now hand (Reply draft) parts own read h = can_reply s w hand read
 body_can d s w part now hand (Forward v target) parts own read h = can_post d s v (hop_of s (looper w)) target parts h
@@ -171,9 +171,9 @@ pub handling_can : (d : Declared) (s : State) (w : ℕ) (hand : Hand Message) (s
 unfolding wish_of
 handling_can d s w hand (in_body place) limits parts own read =
     let program = letter_program d w hand in
-    asks_can d s w hand program place (end_want s w) (slice_get program place.step) parts own read refl (λ i next. all_get (is_body_step d w) program place.step i (body_steps d w hand.letter.body.what hand.route limits) next) (end_can d s w hand own read)
+    asks_can d s w hand program place (end_want s w) (slice_get program place.step) parts own read refl (λ i next. all_at (is_body_step d w) program place.step i (body_steps d w hand.letter.body.what hand.route limits) next) (end_can d s w hand own read)
 handling_can d s w hand beginning limits parts own read = begin_can d s w own.quiet
 handling_can d s w hand (in_update views place) limits parts own read =
     let program = update_program d w views in
-    asks_can d s w hand program place (draw_end_want s w) (slice_get program place.step) parts own read refl (λ i next. draw_step_is d w i (all_get (is_draw_step d w) program place.step i (update_steps d w views limits) next)) (draw_end_can d s w own)
+    asks_can d s w hand program place (draw_end_want s w) (slice_get program place.step) parts own read refl (λ i next. draw_step_is d w i (all_at (is_draw_step d w) program place.step i (update_steps d w views limits) next)) (draw_end_can d s w own)
 handling_can d s w hand ending limits parts own read = end_can d s w hand own read

@@ -3,6 +3,7 @@ use Rattle.std.proofs.Common.{◌≡◌, ℕ, ◌+◌, ◌<◌, Bool, true, fals
 use Rattle.std.specs.Prelude.{slice_get, ◌==◌}
 use Rattle.std.proofs.lemmas.List.Quantifiers.{position-Some}
 use Rattle.std.proofs.lemmas.Option.{same_Some, slice_get_within}
+use Rattle.be_facts.proofs.Numbers.{eq_false, eq_self, eq_tells}
 use Rattle.be_actor.specs.declared.Instruction.{Instruction}
 use Rattle.be_actor.specs.declared.Instruction.TheVariants.{Note, Post, Send, Reply, Forward, Lock, Unlock, Flush, Sync, Draw}
 use Rattle.be_actor.specs.declared.Place.{Place}
@@ -17,8 +18,8 @@ use Rattle.be_machine.specs.Lists.{at}
 use Rattle.be_machine.specs.Program.{lock_before, app_program, buffered, is_locked_by, locked_by, app_gone_on}
 use Rattle.be_machine.specs.State.{State, Looper, free, locked, handling, App}
 use Rattle.be_machine.proofs.ProgressCases.{neither}
-use Rattle.be_machine.proofs.Lists.{IsThere, there, length_at, same_number}
-use Rattle.be_machine.proofs.ProgressPlaces.{each_at, each_kept, same_place, other_place}
+use Rattle.be_machine.proofs.Lists.{IsThere, there, length_at}
+use Rattle.be_machine.proofs.ProgressPlaces.{each_at, each_kept}
 use Rattle.be_machine.proofs.ProgressLocks.{lock_after, HasLock, Follows, IsKnown, AreLocked, StepKeeps, step_keeps, has_kept}
 use Rattle.be_machine.proofs.ProgressStands.{AppStands}
 use Rattle.be_machine.proofs.WaitingApps.{gone_to}
@@ -65,13 +66,10 @@ next_placed d s m accepted x is i same next =
 
 -- ---- a lock
 
-other_app : (j m : ℕ) → (j ≡ m → ⊥) → (j == m) ≡ false
-other_app j m other = other_place j m other
-
 new_lock : (loopers : List Looper) (m v : ℕ) → slice_get loopers v ≡ Some free → HasLock loopers m None → HasLock (at loopers v (λ _. locked m)) m (Some v)
 new_lock loopers m v read h = record {
   inside = let inside : v < length loopers = slice_get_within loopers v free read in let same : length (at loopers v (λ _. locked m)) ≡ length loopers = length_at loopers v (λ _. locked m) in omega (arith, inside, same);
-  alone = each_at (λ u l. is_locked_by m l ≡ is_number u None) (λ u l. is_locked_by m l ≡ is_number u (Some v)) loopers v (λ _. locked m) (λ u l other e. e ∙ sym (other_place v u (λ same. other (sym same)))) (λ l there e. same_place m ∙ sym (same_place v)) h.alone;
+  alone = each_at (λ u l. is_locked_by m l ≡ is_number u None) (λ u l. is_locked_by m l ≡ is_number u (Some v)) loopers v (λ _. locked m) (λ u l other e. e ∙ sym (eq_false v u (λ same. other (sym same)))) (λ l there e. eq_self m ∙ sym (eq_self v)) h.alone;
 }
 
 locked_here : (d : Declared) (s : State) (m v : ℕ) (is : AppStands d s m (wish.Lock v)) (lock : Option ℕ) → is.step ≡ Lock v → slice_get s.loopers v ≡ Some free → HasLock s.loopers m lock → StepKeeps d lock (Lock v) (drop (is.it.place.step + 1) (app_program d m)) → Follows d (at s.loopers v (λ _. locked m)) m (app_gone_on d m false (wish.Lock v) is.it)
@@ -85,7 +83,7 @@ lock_locks d s m v is read inside h = record {
       (λ j a other old. record {
         lock = old.lock;
         placed = old.placed;
-        has = has_kept s.loopers v j (λ _. locked m) old.lock (λ l there. other_app j m other ∙ ap (is_locked_by j) (same_Some free l (sym read ∙ there))) old.has;
+        has = has_kept s.loopers v j (λ _. locked m) old.lock (λ l there. eq_false j m other ∙ ap (is_locked_by j) (same_Some free l (sym read ∙ there))) old.has;
         keeps = old.keeps;
       })
       (λ a there old.
@@ -95,7 +93,7 @@ lock_locks d s m v is read inside h = record {
       let now : StepKeeps d old.lock (Lock v) (drop (is.it.place.step + 1) (app_program d m)) = step_keeps d old.lock (app_program d m) is.it.place.step (Lock v) (is.next ∙ ap Some step) keeps in
       subst (λ b. Follows d (at s.loopers v (λ _. locked m)) m (app_gone_on d m false (wish.Lock v) b)) same (locked_here d s m v is old.lock step read old.has now))
       h.follows;
-  known = each_kept (λ u l. IsKnown d l) s.loopers v (λ _. locked m) (λ l there known k e. subst (λ j. j < length d.apps) (sym (same_number k m e)) inside) h.known;
+  known = each_kept (λ u l. IsKnown d l) s.loopers v (λ _. locked m) (λ l there known k e. subst (λ j. j < length d.apps) (sym (eq_tells k m e)) inside) h.known;
 }
 
 -- ---- a lock that is given back
@@ -103,18 +101,18 @@ lock_locks d s m v is read inside h = record {
 no_lock : (loopers : List Looper) (m w : ℕ) → HasLock loopers m (Some w) → HasLock (at loopers w (λ _. free)) m None
 no_lock loopers m w h = record {
   inside = tt;
-  alone = each_at (λ u l. is_locked_by m l ≡ is_number u (Some w)) (λ u l. is_locked_by m l ≡ is_number u None) loopers w (λ _. free) (λ u l other e. e ∙ other_place w u (λ same. other (sym same))) (λ l there e. refl) h.alone;
+  alone = each_at (λ u l. is_locked_by m l ≡ is_number u (Some w)) (λ u l. is_locked_by m l ≡ is_number u None) loopers w (λ _. free) (λ u l other e. e ∙ eq_false w u (λ same. other (sym same))) (λ l there e. refl) h.alone;
 }
 
 unlocked_here : (d : Declared) (s : State) (m w : ℕ) (is : AppStands d s m wish.Unlock) (lock : Option ℕ) → is.step ≡ Unlock → is_number w lock ≡ true → HasLock s.loopers m lock → StepKeeps d lock Unlock (drop (is.it.place.step + 1) (app_program d m)) → Follows d (at s.loopers w (λ _. free)) m (app_gone_on d m false wish.Unlock is.it)
 unfolding place_after
 unlocked_here d s m w is None step at has keeps = cc
 unlocked_here d s m w is (Some v) step at has keeps =
-    let here : HasLock s.loopers m (Some w) = subst (λ u. HasLock s.loopers m (Some u)) (same_number v w at) has in
+    let here : HasLock s.loopers m (Some w) = subst (λ u. HasLock s.loopers m (Some u)) (eq_tells v w at) has in
     record { lock = None; placed = sym (next_placed d s m false wish.Unlock is Unlock step refl); has = no_lock s.loopers m w here; keeps = next_keeps d s m false wish.Unlock is None refl keeps.behind }
 
 other_lock : (j m : ℕ) (l : Looper) → (j ≡ m → ⊥) → is_locked_by m l ≡ true → is_locked_by j l ≡ false
-other_lock j m (locked n) other e = let same : m ≡ n = same_number m n e in other_place j n (λ k. other (k ∙ sym same))
+other_lock j m (locked n) other e = let same : m ≡ n = eq_tells m n e in eq_false j n (λ k. other (k ∙ sym same))
 other_lock j m free other e = cc
 other_lock j m (handling hand stage) other e = cc
 

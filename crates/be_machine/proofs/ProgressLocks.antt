@@ -2,6 +2,7 @@
 use Rattle.std.proofs.Common.{◌≡◌, ℕ, zero, suc, ◌+◌, ◌<◌, Bool, true, false, List, [], ◌∷◌, drop, length, Option, Some, None, refl, sym, ap, subst, ◌∙◌, arith}
 use Rattle.std.specs.Prelude.{slice_get, ◌==◌, if◌then◌else◌}
 use Rattle.std.proofs.lemmas.Option.{same_Some}
+use Rattle.be_facts.proofs.Truths.{and_first, and_second}
 use Rattle.be_actor.specs.declared.Instruction.{Instruction}
 use Rattle.be_actor.specs.declared.Instruction.TheVariants.{Note, Post, Send, Reply, Forward, Lock, Unlock, Flush, Sync, Draw}
 use Rattle.be_actor.specs.declared.Place.{Place}
@@ -16,7 +17,7 @@ use Rattle.be_machine.specs.Lists.{at}
 use Rattle.be_machine.specs.Program.{lock_before, app_program, buffered, is_locked_by, app_gone_on}
 use Rattle.be_machine.specs.State.{State, Looper, App}
 use Rattle.be_machine.proofs.ProgressCases.{by_test}
-use Rattle.be_machine.proofs.Lists.{both_first, both_second, length_at}
+use Rattle.be_machine.proofs.Lists.{length_at}
 use Rattle.be_machine.proofs.ProgressPlaces.{Each, each_kept, drop_read}
 use Rattle.be_machine.proofs.ProgressStands.{AppStands}
 use Rattle.be_machine.proofs.WaitingApps.{gone_to}
@@ -91,8 +92,8 @@ pub record StepKeeps (d : Declared) (lock : Option ℕ) (i : Instruction) (rest 
   pub behind : is_rest_of_app d (lock_behind lock i) rest ≡ true
 
 step_by : (d : Declared) (lock : Option ℕ) (i : Instruction) (rest : List Instruction) → is_rest_of_app d lock (i ∷ rest) ≡ true → StepKeeps d lock i rest
-step_by d None i rest h = record { here = both_first (is_app_step d None i) _ h; behind = both_second (is_app_step d None i) _ h }
-step_by d (Some w) i rest h = record { here = both_first (is_app_step d (Some w) i) _ h; behind = both_second (is_app_step d (Some w) i) _ h }
+step_by d None i rest h = record { here = and_first (is_app_step d None i) _ h; behind = and_second (is_app_step d None i) _ h }
+step_by d (Some w) i rest h = record { here = and_first (is_app_step d (Some w) i) _ h; behind = and_second (is_app_step d (Some w) i) _ h }
 
 pub step_keeps : (d : Declared) (lock : Option ℕ) (program : List Instruction) (k : ℕ) (i : Instruction) → slice_get program k ≡ Some i → is_rest_of_app d lock (drop k program) ≡ true → StepKeeps d lock i (drop (k + 1) program)
 step_keeps d lock program k i next h = step_by d lock i (drop (k + 1) program) (sym (ap (is_rest_of_app d lock) (drop_read program k i next)) ∙ h)

@@ -1,20 +1,21 @@
 -- What holds of each element of a list, by its place.
-use Rattle.std.proofs.Common.{◌≡◌, ℕ, zero, suc, ◌+◌, ◌<◌, ◌≤◌, get_or, Bool, true, false, List, [], ◌∷◌, drop, length, Some, None, refl, sym, ap, subst, ◌∙◌, arith}
+use Rattle.std.proofs.Common.{◌≡◌, ℕ, zero, suc, ◌+◌, ◌<◌, get_or, Bool, true, false, List, [], ◌∷◌, drop, length, Some, None, refl, sym, ap, subst, ◌∙◌, arith}
 use Rattle.std.specs.Prelude.{slice_get, ◌==◌, position}
-use Rattle.std.specs.List.{list_all, range_with_len, position_or_len}
+use Rattle.std.specs.List.{list_all, position_or_len}
 use Rattle.std.proofs.lemmas.Bool.Decides.{nat_tests}
 use Rattle.std.proofs.lemmas.List.Sums.{position_or_len_is}
 use Rattle.std.proofs.lemmas.Option.{same_Some, slice_get-get_or}
+use Rattle.be_facts.proofs.Numbers.{eq_false, eq_self, eq_tells, eq_false_tells}
 use Rattle.be_machine.specs.Lists.{at}
-use Rattle.be_machine.proofs.Lists.{AtPlace, place_here, at_elsewhere, same_number, other_number}
+use Rattle.be_machine.proofs.Lists.{AtPlace, place_here, at_elsewhere}
 
 -- what holds of each element and its place
 abbrev pub Each : {X : Type 0} → (ℕ → X → Type 0) → List X → Type 0
 Each {X} P xs = (w : ℕ) → AtPlace (P w) xs w
 
 each_by : {X : Type 0} (P Q : ℕ → X → Type 0) (xs : List X) (v w : ℕ) (f : X → X) (b : Bool) → (w == v) ≡ b → ((u : ℕ) (x : X) → (u ≡ v → ⊥) → P u x → Q u x) → ((x : X) → slice_get xs v ≡ Some x → P v x → Q v (f x)) → Each P xs → AtPlace (Q w) (at xs v f) w
-each_by P Q xs v w f true e keep change h = subst (λ u. AtPlace (Q u) (at xs v f) u) (sym (same_number w v e)) (place_here (P v) (Q v) xs v f change (h v))
-each_by P Q xs v w f false e keep change h = λ x read. keep w x (other_number w v e) (h w x (sym (at_elsewhere xs v w f (λ same. other_number w v e (sym same))) ∙ read))
+each_by P Q xs v w f true e keep change h = subst (λ u. AtPlace (Q u) (at xs v f) u) (sym (eq_tells w v e)) (place_here (P v) (Q v) xs v f change (h v))
+each_by P Q xs v w f false e keep change h = λ x read. keep w x (eq_false_tells w v e) (h w x (sym (at_elsewhere xs v w f (λ same. eq_false_tells w v e (sym same))) ∙ read))
 
 -- after a change at a place: what holds of the changed one, and of those at other places
 pub each_at : {X : Type 0} (P Q : ℕ → X → Type 0) (xs : List X) (v : ℕ) (f : X → X) → ((u : ℕ) (x : X) → (u ≡ v → ⊥) → P u x → Q u x) → ((x : X) → slice_get xs v ≡ Some x → P v x → Q v (f x)) → Each P xs → Each Q (at xs v f)
@@ -26,12 +27,6 @@ each_kept P xs v f change h = each_at P P xs v f (λ u x other k. k) change h
 
 -- ---- places
 
-pub same_place : (j : ℕ) → (j == j) ≡ true
-same_place j = grind (arith, nat_tests)
-
-pub other_place : (j w : ℕ) → (j ≡ w → ⊥) → (j == w) ≡ false
-other_place j w other = grind (arith, nat_tests)
-
 position_some : {X : Type 0} (p : X → Bool) (xs : List X) (w : ℕ) → position_or_len p xs ≡ w → w < length xs → position p xs ≡ Some w
 position_some p xs w e h = grind (arith, nat_tests)
 
@@ -42,20 +37,13 @@ each_or P xs k d each h = each k (get_or xs k d) (slice_get-get_or xs k d h)
 pub position_is : {X : Type 0} (p : X → Bool) (xs : List X) (w : ℕ) → w < length xs → Each (λ j x. p x ≡ (w == j)) xs → position p xs ≡ Some w
 position_is p [] w inside each = absurd (omega arith)
 position_is p (x ∷ xs) w inside each =
-    position_some p (x ∷ xs) w (position_or_len_is p (x ∷ xs) w x (omega arith) (λ k h. each_or (λ j y. p y ≡ (w == j)) (x ∷ xs) k x each (omega arith) ∙ other_place w k (λ e. omega arith)) (λ h. each_or (λ j y. p y ≡ (w == j)) (x ∷ xs) w x each h ∙ same_place w)) inside
+    position_some p (x ∷ xs) w (position_or_len_is p (x ∷ xs) w x (omega arith) (λ k h. each_or (λ j y. p y ≡ (w == j)) (x ∷ xs) k x each (omega arith) ∙ eq_false w k (λ e. omega arith)) (λ h. each_or (λ j y. p y ≡ (w == j)) (x ∷ xs) w x each h ∙ eq_self w)) inside
 
 -- ---- tests of all elements
 
 pub all_pass : {X : Type 0} (p : X → Bool) (xs : List X) → Each (λ j x. p x ≡ true) xs → list_all p xs ≡ true
 all_pass p [] each = refl
 all_pass p (x ∷ xs) each = rw (each 0 x refl) (all_pass p xs (λ j. each (suc j)))
-
-pub all_pass_from : (p : ℕ → Bool) (k n : ℕ) → ((j : ℕ) → j < k + n → p j ≡ true) → list_all p (range_with_len k n) ≡ true
-all_pass_from p k zero each = refl
-all_pass_from p k (suc n) each = rw (each k (omega arith)) (all_pass_from p (k + 1) n (λ j h. each j (omega arith)))
-
-pub all_pass_below : (p : ℕ → Bool) (n : ℕ) → ((j : ℕ) → j < n → p j ≡ true) → list_all p (range_with_len 0 n) ≡ true
-all_pass_below p n each = all_pass_from p 0 n (λ j h. each j (omega arith))
 
 -- ---- the rest of a list
 
@@ -71,8 +59,3 @@ drop_past [] zero e = refl
 drop_past [] (suc k) e = refl
 drop_past (y ∷ ys) zero e = cc
 drop_past (y ∷ ys) (suc k) e = drop_past ys k e
-
-pub get_past : {X : Type 0} (xs : List X) (k : ℕ) → slice_get xs k ≡ None → length xs ≤ k
-get_past [] k e = omega arith
-get_past (y ∷ ys) zero e = cc
-get_past (y ∷ ys) (suc k) e = let rest : length ys ≤ k = get_past ys k e in omega (arith, rest)

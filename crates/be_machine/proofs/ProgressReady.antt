@@ -4,6 +4,7 @@ use Rattle.std.specs.Prelude.{slice_get, ◌==◌, option_map, option_and_then, 
 use Rattle.std.specs.List.{range_with_len, cons_option}
 use Rattle.std.proofs.lemmas.Nat.{mod_below}
 use Rattle.std.proofs.lemmas.Option.{same_Some}
+use Rattle.be_facts.proofs.Lists.{get_range}
 use Rattle.be_script.specs.Script.{Declared}
 use Rattle.be_machine.specs.Activities.{activities, activity_of}
 use Rattle.be_machine.specs.declared.Act.{Act}
@@ -45,11 +46,6 @@ none_given : {X Y : Type 0} (f : X → Option Y) (xs : List X) → ((a : X) → 
 none_given f [] none = refl
 none_given f (x ∷ xs) none = ap (λ o. cons_option o (filter_map f xs)) (none x) ∙ none_given f xs none
 
-in_range : (j n k : ℕ) → k < n → slice_get (range_with_len j n) k ≡ Some (j + k)
-in_range j zero k h = absurd (omega arith)
-in_range j (suc n) zero h = let same : j ≡ j + 0 = omega arith in ap Some same
-in_range j (suc n) (suc k) h = let same : j + 1 + k ≡ j + suc k = omega arith in in_range (j + 1) n k (omega arith) ∙ ap Some same
-
 -- ---- what is ready
 
 entry_legal : (d : Declared) (s : State) (a : ℕ) (e : Entry) (o : Option Act) → legal_act d s a ≡ o → option_map (entry_by a) o ≡ Some e → IsLegal d s e
@@ -75,7 +71,7 @@ pub ready_some : (d : Declared) (s : State) (e : Entry) → IsLegal d s e → 0 
 unfolding ready
 ready_some d s e legal =
     let inside : e.actor < activities d = by_number d s e legal (either e.actor (activities d)) in
-    let place : slice_get (range_with_len 0 (activities d)) e.actor ≡ Some (0 + e.actor) = in_range 0 (activities d) e.actor inside in
+    let place : slice_get (range_with_len 0 (activities d)) e.actor ≡ Some (0 + e.actor) = get_range 0 (activities d) e.actor inside in
     let same : 0 + e.actor ≡ e.actor = omega arith in
     some_given (λ a. option_map (entry_by a) (legal_act d s a)) (range_with_len 0 (activities d)) e.actor e.actor (entry_by e.actor e.act) (place ∙ ap Some same) (ap (option_map (entry_by e.actor)) legal)
 

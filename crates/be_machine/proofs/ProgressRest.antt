@@ -1,10 +1,12 @@
 -- Where all has come to rest, and the machine has stopped, nobody has a legal act.
-use Rattle.std.proofs.Common.{◌≡◌, ℕ, zero, suc, ◌+◌, ◌<◌, ◌≤◌, Bool, true, false, List, [], ◌∷◌, drop, length, Option, Some, None, refl, sym, ap, ◌∙◌, arith}
-use Rattle.std.specs.Prelude.{slice_get, nat_le, not, ◌==◌, ◌&&◌, option_map, option_and_then, if◌then◌else◌}
+use Rattle.std.proofs.Common.{◌≡◌, ℕ, zero, suc, ◌+◌, ◌<◌, Bool, true, false, List, [], ◌∷◌, drop, length, Option, Some, None, refl, sym, ap, ◌∙◌, arith}
+use Rattle.std.specs.Prelude.{slice_get, not, ◌==◌, ◌&&◌, option_map, option_and_then, if◌then◌else◌}
 use Rattle.std.specs.List.{list_all, range_with_len}
 use Rattle.std.specs.Option.{option_map_or}
-use Rattle.std.proofs.lemmas.Bool.Decides.{nat_tests}
 use Rattle.std.proofs.lemmas.Option.{slice_get_within, slice_get_past}
+use Rattle.be_facts.proofs.Truths.{not_true, and_first, and_second}
+use Rattle.be_facts.proofs.Numbers.{nat_le_tells, eq_tells}
+use Rattle.be_facts.proofs.Lists.{all_at}
 use Rattle.be_actor.specs.Wishes.{wish_at, wish_of, is_at_end}
 use Rattle.be_command.specs.Effects.{effect_of}
 use Rattle.be_link.specs.Queues.{Numbered, is_flushed}
@@ -24,15 +26,14 @@ use Rattle.be_machine.specs.Program.{app_program, app_wish, buffered, has_ended}
 use Rattle.be_machine.specs.State.{State, Looper, free, locked, handling, App}
 use Rattle.be_machine.specs.Update.{owes, owes_notice}
 use Rattle.be_machine.specs.Wants.{asks, notifies, executes, uses, looper_want, want_of}
-use Rattle.be_machine.proofs.Lists.{both_first, both_second, all_get, same_number}
 use Rattle.be_machine.proofs.ProgressStuck.{NoAct}
 
 -- ---- tests of all numbers below one
 
 passes_from : (p : ℕ → Bool) (k n j : ℕ) → list_all p (range_with_len k n) ≡ true → j < n → p (k + j) ≡ true
 passes_from p k zero j all inside = absurd (omega arith)
-passes_from p k (suc n) zero all inside = let same : k + 0 ≡ k = omega arith in ap p same ∙ both_first (p k) _ all
-passes_from p k (suc n) (suc j) all inside = let same : k + suc j ≡ k + 1 + j = omega arith in ap p same ∙ passes_from p (k + 1) n j (both_second (p k) _ all) (omega arith)
+passes_from p k (suc n) zero all inside = let same : k + 0 ≡ k = omega arith in ap p same ∙ and_first (p k) _ all
+passes_from p k (suc n) (suc j) all inside = let same : k + suc j ≡ k + 1 + j = omega arith in ap p same ∙ passes_from p (k + 1) n j (and_second (p k) _ all) (omega arith)
 
 passes_below : (p : ℕ → Bool) (n j : ℕ) → list_all p (range_with_len 0 n) ≡ true → j < n → p j ≡ true
 passes_below p n j all inside = let same : j ≡ 0 + j = omega arith in ap p same ∙ passes_from p 0 n j all inside
@@ -55,22 +56,19 @@ rest_tells d s done quiet =
     let buffers = list_all is_flushed s.buffers in
     let links = list_all (λ link. length link == 0) s.links in
     let owed = list_all (λ w. not (owes_notice s w)) (range_with_len 0 (length s.panes)) in
-    let four : (loopers && ports && buffers && links) ≡ true = both_first (loopers && ports && buffers && links) owed quiet in
-    let three : (loopers && ports && buffers) ≡ true = both_first (loopers && ports && buffers) links four in
-    let two : (loopers && ports) ≡ true = both_first (loopers && ports) buffers three in
+    let four : (loopers && ports && buffers && links) ≡ true = and_first (loopers && ports && buffers && links) owed quiet in
+    let three : (loopers && ports && buffers) ≡ true = and_first (loopers && ports && buffers) links four in
+    let two : (loopers && ports) ≡ true = and_first (loopers && ports) buffers three in
     record {
-      ended = both_first (list_all (has_ended d s) (range_with_len 0 (length s.apps))) _ done;
-      used = both_second (list_all (has_ended d s) (range_with_len 0 (length s.apps))) _ done;
-      loopers = both_first loopers ports two;
-      ports = both_second loopers ports two;
-      links = both_second (loopers && ports && buffers) links four;
-      owed = both_second (loopers && ports && buffers && links) owed quiet;
+      ended = and_first (list_all (has_ended d s) (range_with_len 0 (length s.apps))) _ done;
+      used = and_second (list_all (has_ended d s) (range_with_len 0 (length s.apps))) _ done;
+      loopers = and_first loopers ports two;
+      ports = and_second loopers ports two;
+      links = and_second (loopers && ports && buffers) links four;
+      owed = and_second (loopers && ports && buffers && links) owed quiet;
     }
 
 -- ---- nobody has an act
-
-past : (n k : ℕ) → nat_le n k ≡ true → n ≤ k
-past n k e = grind (arith, nat_tests)
 
 app_rests : (d : Declared) (s : State) (m : ℕ) (o : Option App) → slice_get s.apps m ≡ o → IsAtRest d s → option_and_then (λ (a : App). wish_of (app_program d m) a.place None (buffered s (app m))) o ≡ None
 unfolding wish_of
@@ -78,7 +76,7 @@ app_rests d s m None read rest = refl
 app_rests d s m (Some a) read rest =
     let here : has_ended d s m ≡ true = passes_below (has_ended d s) (length s.apps) m rest.ended (slice_get_within s.apps m a read) in
     let at_end : is_at_end (app_program d m) a.place ≡ true = sym (ap (λ o. option_map_or (λ (x : App). is_at_end (app_program d m) x.place) o false) read) ∙ here in
-    ap (option_map (wish_at a.place.part None (buffered s (app m)))) (slice_get_past (app_program d m) a.place.step (past _ _ at_end))
+    ap (option_map (wish_at a.place.part None (buffered s (app m)))) (slice_get_past (app_program d m) a.place.step (nat_le_tells _ _ at_end))
 
 free_is : (l : Looper) → is_free l ≡ true → l ≡ free
 free_is free e = refl
@@ -93,19 +91,15 @@ none_left (x ∷ xs) (suc k) e = none_left xs k e
 port_rests : (d : Declared) (s : State) (w : ℕ) (o : Option (Port Message)) → slice_get s.ports w ≡ o → IsAtRest d s → with_both take_act (Some free) o ≡ None
 port_rests d s w None read rest = refl
 port_rests d s w (Some p) read rest =
-    let empty : (length (queue_of p) == 0) ≡ true = all_get (λ (p : Port Message). length (queue_of p) == 0) s.ports w p rest.ports read in
-    ap (option_map (λ letter. act.Take (p.taken + 1))) (none_left p.arrived p.taken (same_number _ 0 empty))
+    let empty : (length (queue_of p) == 0) ≡ true = all_at (λ (p : Port Message). length (queue_of p) == 0) s.ports w p rest.ports read in
+    ap (option_map (λ letter. act.Take (p.taken + 1))) (none_left p.arrived p.taken (eq_tells _ 0 empty))
 
 looper_rests : (d : Declared) (s : State) (w : ℕ) (o : Option Looper) → slice_get s.loopers w ≡ o → IsAtRest d s → option_and_then (want_act d s) (option_map (looper_want d s w) o) ≡ None
 unfolding want_act
 looper_rests d s w None read rest = refl
 looper_rests d s w (Some l) read rest =
-    let is : l ≡ free = free_is l (all_get is_free s.loopers w l rest.loopers read) in
+    let is : l ≡ free = free_is l (all_at is_free s.loopers w l rest.loopers read) in
     ap (λ x. want_act d s (looper_want d s w x)) is ∙ ap (λ o. with_both take_act o (slice_get s.ports w)) (read ∙ ap Some is) ∙ port_rests d s w (slice_get s.ports w) refl rest
-
-not_true : (b : Bool) → not b ≡ true → b ≡ false
-not_true true e = cc
-not_true false e = refl
 
 owes_without : (s : State) (w : ℕ) (o : Option Window) → owes s w o None ≡ false
 owes_without s w (Some window) = refl
@@ -124,8 +118,8 @@ front_rests : (d : Declared) (s : State) (w : ℕ) (o : Option (List Numbered)) 
 front_rests d s w None read rest = refl
 front_rests d s w (Some []) read rest = refl
 front_rests d s w (Some (c ∷ cs)) read rest =
-    let empty : (length (c ∷ cs) == 0) ≡ true = all_get (λ (link : List Numbered). length link == 0) s.links w (c ∷ cs) rest.links read in
-    let none : length (c ∷ cs) ≡ 0 = same_number _ 0 empty in
+    let empty : (length (c ∷ cs) == 0) ≡ true = all_at (λ (link : List Numbered). length link == 0) s.links w (c ∷ cs) rest.links read in
+    let none : length (c ∷ cs) ≡ 0 = eq_tells _ 0 empty in
     absurd (omega (arith, none))
 
 command_rests : (d : Declared) (s : State) (w : ℕ) → IsAtRest d s → exec_act d s w ≡ None
@@ -143,7 +137,7 @@ who_rests d s (runner (app m)) rest stopped = ap (λ o. option_and_then (want_ac
 who_rests d s (runner (looper w)) rest stopped = looper_rests d s w (slice_get s.loopers w) refl rest
 who_rests d s (twin w) rest stopped = ap (λ b. want_act d s (if b then notifies w else executes w)) (notice_rests d s w (slice_get s.panes w) refl rest) ∙ command_rests d s w rest
 who_rests d s input rest stopped =
-    let used : s.events ≡ length d.input = same_number _ _ rest.used in
+    let used : s.events ≡ length d.input = eq_tells _ _ rest.used in
     ap (λ o. option_and_then (want_act d s) (option_map uses o)) (slice_get_past d.input s.events (omega (arith, used)))
 who_rests d s closing rest stopped = cannot_stop s.stopped (all_done d s) (all_quiet s) stopped
 

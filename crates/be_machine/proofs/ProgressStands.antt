@@ -2,6 +2,8 @@
 use Rattle.std.proofs.Common.{◌≡◌, ℕ, Bool, true, false, List, Option, Some, None, refl, sym}
 use Rattle.std.specs.Prelude.{◌==◌, slice_get, option_map, option_and_then, if◌then◌else◌}
 use Rattle.std.proofs.lemmas.Option.{same_Some}
+use Rattle.be_facts.proofs.Truths.{and_first}
+use Rattle.be_facts.proofs.Lists.{all_at}
 use Rattle.be_actor.specs.declared.Instruction.{Instruction}
 use Rattle.be_actor.specs.declared.Instruction.TheVariants.{Note, Post, Send, Reply, Forward, Lock, Unlock, Flush, Sync, Draw}
 use Rattle.be_actor.specs.declared.Place.{Place}
@@ -17,7 +19,6 @@ use Rattle.be_machine.specs.Program.{app_wish, body_wish, app_program, letter_pr
 use Rattle.be_machine.specs.State.{State, App, Looper, free, locked, handling, Stage, in_body, beginning, in_update, ending}
 use Rattle.be_machine.specs.Wants.{Want, asks, takes, flushes, draws_end, ends, asks_or, end_want, draw_end_want, stage_want, looper_want, want_of}
 use Rattle.be_machine.proofs.ProgressCases.{neither}
-use Rattle.be_machine.proofs.Lists.{both_first, all_get}
 use Rattle.be_machine.proofs.Programs.{body_steps, update_steps}
 
 -- ---- applications
@@ -58,7 +59,7 @@ draw_step_is d w (Lock v) h = cc
 draw_step_is d w Unlock h = cc
 draw_step_is d w Flush h = refl
 draw_step_is d w Sync h = refl
-draw_step_is d w (Draw c) h = both_first (is_command_for d w c) _ h
+draw_step_is d w (Draw c) h = and_first (is_command_for d w c) _ h
 
 -- the letter in the looper's hand, and the instruction
 pub record LooperStands (d : Declared) (s : State) (w : ℕ) (wish : Wish) : Type 0 where
@@ -86,11 +87,11 @@ stage_stands : (d : Declared) (s : State) (w : ℕ) (wish : Wish) (hand : Hand M
 unfolding wish_of
 stage_stands d s w wish hand (in_body place) limits read e =
     let program = letter_program d w hand in
-    body_at d s w wish hand (in_body place) place program (end_want s w) (slice_get program place.step) read refl (λ i next. all_get (is_body_step d w) program place.step i (body_steps d w hand.letter.body.what hand.route limits) next) (end_asks s w wish) e
+    body_at d s w wish hand (in_body place) place program (end_want s w) (slice_get program place.step) read refl (λ i next. all_at (is_body_step d w) program place.step i (body_steps d w hand.letter.body.what hand.route limits) next) (end_asks s w wish) e
 stage_stands d s w wish hand beginning limits read e = cc
 stage_stands d s w wish hand (in_update views place) limits read e =
     let program = update_program d w views in
-    body_at d s w wish hand (in_update views place) place program (draw_end_want s w) (slice_get program place.step) read refl (λ i next. draw_step_is d w i (all_get (is_draw_step d w) program place.step i (update_steps d w views limits) next)) (draw_end_asks s w wish) e
+    body_at d s w wish hand (in_update views place) place program (draw_end_want s w) (slice_get program place.step) read refl (λ i next. draw_step_is d w i (all_at (is_draw_step d w) program place.step i (update_steps d w views limits) next)) (draw_end_asks s w wish) e
 stage_stands d s w wish hand ending limits read e = absurd (end_asks s w wish e)
 
 looper_by : (d : Declared) (s : State) (w : ℕ) (wish : Wish) (l : Looper) → IsWithinLimits d → slice_get s.loopers w ≡ Some l → looper_want d s w l ≡ asks (looper w) wish → LooperStands d s w wish

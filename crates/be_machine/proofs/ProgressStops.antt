@@ -1,6 +1,7 @@
 -- Who stops the machine, and that it is finished then.
 use Rattle.std.proofs.Common.{◌≡◌, ℕ, ◌+◌, Bool, true, false, List, length, Option, Some, None, refl, sym, ap, ◌∙◌}
 use Rattle.std.specs.Prelude.{slice_get, not, ◌==◌, ◌&&◌, option_map, option_and_then, if◌then◌else◌}
+use Rattle.be_facts.proofs.Truths.{and_first, and_second}
 use Rattle.be_actor.specs.declared.Wish.{Wish}
 use Rattle.be_actor.specs.declared.Wish.TheVariants as wish
 use Rattle.be_command.specs.Effects.{effect_of}
@@ -29,7 +30,6 @@ use Rattle.be_machine.specs.State.{State, Looper, free, locked, handling}
 use Rattle.be_machine.specs.Step.{met, step}
 use Rattle.be_machine.specs.Wants.{Want, asks, takes, begins, flushes, draws_end, ends, notifies, executes, uses, stops}
 use Rattle.be_machine.proofs.LegalEntries.{IsMet, met_by}
-use Rattle.be_machine.proofs.Lists.{both_first, both_second}
 use Rattle.be_machine.proofs.ProgressBeside.{beside_event}
 use Rattle.be_machine.proofs.ProgressParts.{same_met}
 
@@ -43,9 +43,9 @@ pub record Stops (d : Declared) (s : State) (a : Act) : Type 0 where
 
 stop_by : (d : Declared) (s : State) (a : Act) (b : Bool) → (not s.stopped && all_done d s && all_quiet s) ≡ b → (if b then Some act.Stop else None) ≡ Some a → Stops d s a
 stop_by d s a true is e =
-    let two : (not s.stopped && all_done d s) ≡ true = both_first (not s.stopped && all_done d s) (all_quiet s) is in
+    let two : (not s.stopped && all_done d s) ≡ true = and_first (not s.stopped && all_done d s) (all_quiet s) is in
     let same : act.Stop ≡ a = cc in
-    record { stop = sym same; done = both_second (not s.stopped) (all_done d s) two; quiet = both_second (not s.stopped && all_done d s) (all_quiet s) is }
+    record { stop = sym same; done = and_second (not s.stopped) (all_done d s) two; quiet = and_second (not s.stopped && all_done d s) (all_quiet s) is }
 stop_by d s a false is e = cc
 
 stop_tells : (d : Declared) (s : State) (a : Act) → stop_act d s ≡ Some a → Stops d s a

@@ -2,10 +2,12 @@
 use Rattle.std.proofs.Common.{◌≡◌, ℕ, ◌+◌, ◌<◌, Bool, true, false, List, [], ◌∷◌, drop, length, Option, Some, None, refl, sym, ap, ◌∙◌, arith}
 use Rattle.std.specs.Prelude.{slice_get, option_map, option_and_then, if◌then◌else◌}
 use Rattle.std.proofs.lemmas.Option.{slice_get_within}
+use Rattle.be_facts.proofs.Numbers.{eq_self}
 use Rattle.be_actor.specs.declared.Instruction.{Instruction}
 use Rattle.be_actor.specs.Wishes.{wish_at, wish_of}
 use Rattle.be_command.specs.Effects.{effect_of}
 use Rattle.be_geom.specs.Numbers.{is_number}
+use Rattle.be_geom.proofs.Numbered.{number_is}
 use Rattle.be_link.specs.Queues.{Numbered, Buffer}
 use Rattle.be_message.specs.Messages.{Message}
 use Rattle.be_pane.specs.Panes.{Pane}
@@ -23,13 +25,13 @@ use Rattle.be_machine.specs.Program.{app_program, buffered, is_locked_by, locked
 use Rattle.be_machine.specs.State.{State, Looper, free, locked, handling, App}
 use Rattle.be_machine.specs.Update.{owes_notice}
 use Rattle.be_machine.specs.Wants.{asks, takes, notifies, executes, looper_want, want_of}
-use Rattle.be_machine.proofs.Lists.{IsThere, there, same_number}
+use Rattle.be_machine.proofs.Lists.{IsThere, there}
 use Rattle.be_machine.proofs.ProgressAfter.{IsSettled}
 use Rattle.be_machine.proofs.ProgressCalm.{IsCalm}
 use Rattle.be_machine.proofs.ProgressCan.{IsQuiet, Owns, can_some, handling_can, locked_can}
 use Rattle.be_machine.proofs.ProgressLocks.{Follows, StepKeeps, step_keeps}
 use Rattle.be_machine.proofs.ProgressNumbers.{app_number, looper_number, twin_number, input_number, closing_number}
-use Rattle.be_machine.proofs.ProgressPlaces.{position_is, same_place, drop_past}
+use Rattle.be_machine.proofs.ProgressPlaces.{position_is, drop_past}
 
 -- ---- who has no act
 
@@ -94,10 +96,6 @@ app_act d s m a i read next =
     ap (λ o. option_and_then (want_act d s) (option_map (asks (app m)) (option_and_then (λ (x : App). wish_of (app_program d m) x.place None (buffered s (app m))) o))) read
     ∙ ap (λ o. option_and_then (want_act d s) (option_map (asks (app m)) (option_map (wish_at a.place.part None (buffered s (app m))) o))) next
 
-the_lock : (w : ℕ) (lock : Option ℕ) → is_number w lock ≡ true → lock ≡ Some w
-the_lock w (Some v) e = ap Some (same_number v w e)
-the_lock w None e = cc
-
 under_lock : (d : Declared) (s : State) (m w : ℕ) (a : App) (o : Option Instruction) → IsSettled d s → slice_get s.apps m ≡ Some a → slice_get (app_program d m) a.place.step ≡ o → is_rest_of_app d (Some w) (drop a.place.step (app_program d m)) ≡ true → Owns s (app m) w → NoAct d s (runner (app m)) → ⊥
 under_lock d s m w a None h read next keeps own none =
     let rest : is_rest_of_app d (Some w) [] ≡ true = ap (is_rest_of_app d (Some w)) (sym (drop_past (app_program d m) a.place.step next)) ∙ keeps in
@@ -109,11 +107,11 @@ under_lock d s m w a (Some i) h read next keeps own none =
 -- an application that has a lock can go on
 locked_some : (d : Declared) (s : State) (m w : ℕ) (quiet : IsQuiet s w) (buffer : IsThere s.buffers w) → IsSettled d s → NobodyActs d s → slice_get s.loopers w ≡ Some (locked m) → ⊥
 locked_some d s m w quiet buffer h none read =
-    let inside : m < length d.apps = h.locks.known w (locked m) read m (same_place m) in
+    let inside : m < length d.apps = h.locks.known w (locked m) read m (eq_self m) in
     let apps : length s.apps ≡ length d.apps = h.parts.apps in
     let a : IsThere s.apps m = there s.apps m (omega (arith, inside, apps)) in
     let follows : Follows d s.loopers m a.element = h.locks.follows m a.element a.read in
-    let lock : follows.lock ≡ Some w = the_lock w follows.lock (sym (follows.has.alone w (locked m) read) ∙ same_place m) in
+    let lock : follows.lock ≡ Some w = number_is w follows.lock (sym (follows.has.alone w (locked m) read) ∙ eq_self m) in
     let at_lock : locked_by s m ≡ Some w = position_is (is_locked_by m) s.loopers w (slice_get_within s.loopers w (locked m) read) (λ u l there. follows.has.alone u l there ∙ ap (is_number u) lock) in
     let keeps : is_rest_of_app d (Some w) (drop a.element.place.step (app_program d m)) ≡ true = ap (λ o. is_rest_of_app d o (drop a.element.place.step (app_program d m))) (sym lock) ∙ follows.keeps in
     let calm : IsCalm (locked m) buffer.element = h.calm w (locked m) read buffer.element buffer.read in

@@ -13,13 +13,13 @@ use Rattle.be_port.specs.Ports.{Port}
 use Rattle.be_span.specs.Cells.{Lookup, exposed_as}
 use Rattle.be_span.specs.declared.Cell.{Cell}
 use Rattle.be_span.specs.Screen.{cell_at, each_cell}
+use Rattle.be_span.proofs.EachLemmas.{cell_by}
 use Rattle.be_stack.specs.declared.fault.ChangeFault.{ChangeFault}
 use Rattle.be_stack.specs.Owner.{owner_at}
 use Rattle.be_machine.specs.Pixels.{owner_in, pixel_at}
 use Rattle.be_machine.specs.State.{State}
 use Rattle.be_machine.specs.Touched.{Part, desk, input, cell, looper, port, link, pane, SamePixels, SamePart, TouchesPanes}
 use Rattle.be_machine.specs.Windows.{width_of, view_colors, ports_after, changed, changed_to}
-use Rattle.be_machine.proofs.PixelRules.{cell_by}
 use Rattle.be_machine.proofs.PixelSteps.{IsDesktopAt}
 use Rattle.be_machine.proofs.Sizes.{KeepsCounts, desk_sizes}
 use Rattle.be_machine.proofs.TouchedWants.{dec_owner}

@@ -3,9 +3,13 @@ use Rattle.std.proofs.Common.{◌≡◌, ℕ, suc, ◌+◌, Bool, true, false, L
 use Rattle.std.specs.Prelude.{ℤ, pos, ◌/◌, ◌%◌, ◌&&◌, not, nat_lt, int_le, int_lt, is_none, slice_get, if◌then◌else◌}
 use Rattle.std.proofs.lemmas.Nat.{div-add-mod'}
 use Rattle.std.proofs.lemmas.Option.{same_Some}
+use Rattle.std.proofs.lemmas.Bool.{false_from_ne_true}
+use Rattle.be_facts.proofs.Truths.{and_first, and_second}
+use Rattle.be_facts.proofs.Numbers.{eq_self}
 use Rattle.be_geom.specs.declared.point.Point.{Point}
 use Rattle.be_geom.specs.Numbers.{is_number}
 use Rattle.be_geom.specs.Places.{at_pixel}
+use Rattle.be_geom.proofs.Numbered.{number_is}
 use Rattle.be_pane.specs.Panes.{Pane}
 use Rattle.be_span.specs.declared.Cell.{Cell}
 use Rattle.be_span.specs.Screen.{cell_at}
@@ -19,16 +23,12 @@ use Rattle.be_machine.specs.Touched.{SamePixels, SamePart}
 use Rattle.be_machine.specs.Touched as part
 use Rattle.be_machine.specs.Update.{owes, owes_notice}
 use Rattle.be_machine.specs.Windows.{width_of, owned, dirty_of}
-use Rattle.be_machine.proofs.Lists.{both_first, both_second, find_passes, same_number, is_same_number}
+use Rattle.be_machine.proofs.Lists.{find_passes}
 
 -- ---- who owns a pixel
 
-pub number_is : (w : ℕ) (o : Option ℕ) → is_number w o ≡ true → o ≡ Some w
-number_is w (Some v) e = ap Some (same_number v w e)
-number_is w None e = cc
-
 pub is_owned : (s : State) (w : ℕ) (x y : ℤ) → owner_in s x y ≡ Some w → owned s w x y ≡ true
-is_owned s w x y e = ap (is_number w) e ∙ is_same_number w
+is_owned s w x y e = ap (is_number w) e ∙ eq_self w
 
 same_number_by : (w : ℕ) (a b : Option ℕ) (t u : Bool) → is_number w a ≡ t → is_number w b ≡ u → ((a ≡ Some w) ⊎ (b ≡ Some w) → b ≡ a) → is_number w b ≡ is_number w a
 same_number_by w a b true u e k same = ap (is_number w) (same (inl (number_is w a e)))
@@ -51,7 +51,7 @@ else_none false o x P e f = cc
 on_screen : (windows : Windows) (w x : ℕ) (y : ℤ) → owner_at windows (pos x) y ≡ Some w → nat_lt x windows.width ≡ true
 unfolding owner_at
 on_screen windows w x y e =
-    else_none (is_on_screen windows.width (pos x) && is_on_screen windows.height y) _ w _ e (λ h found. both_second (int_le (pos 0) (pos x)) (int_lt (pos x) (pos windows.width)) (both_first (is_on_screen windows.width (pos x)) (is_on_screen windows.height y) h))
+    else_none (is_on_screen windows.width (pos x) && is_on_screen windows.height y) _ w _ e (λ h found. and_second (int_le (pos 0) (pos x)) (int_lt (pos x) (pos windows.width)) (and_first (is_on_screen windows.width (pos x)) (is_on_screen windows.height y) h))
 
 pub numbered_cell : (width : ℕ) (cells : List Cell) (i : ℕ) → nat_lt (i % width) width ≡ true → cell_at width cells (pos (i % width)) (pos (i / width)) ≡ slice_get cells i
 unfolding cell_at
@@ -90,17 +90,13 @@ first_dirty x y true other p ps qs same cell rest =
     ap (λ (c : Cell). if c.dirty && other then p ∷ qs else qs) one ∙ ap (λ b. if x.dirty && b then p ∷ qs else qs) same ∙ ap (λ ts. if x.dirty && true then p ∷ ts else ts) rest
 first_dirty x y false other p ps qs same cell rest = unowned y.dirty other (p ∷ qs) qs same ∙ rest ∙ sym (unowned x.dirty false (p ∷ ps) ps refl)
 
-not_true : (b : Bool) → (b ≡ true → ⊥) → b ≡ false
-not_true true h = absurd (h refl)
-not_true false h = refl
-
 same_dirt : (width k : ℕ) (own other : ℤ → ℤ → Bool) (xs ys : List Cell) → ((x y : ℤ) → other x y ≡ own x y) → SameCells width k own xs ys → dirty_from width k other ys ≡ dirty_from width k own xs
 same_dirt width k own other [] [] owner same = refl
 same_dirt width k own other (x ∷ xs) [] owner same =
-    let none : own (pos (k % width)) (pos (k / width)) ≡ false = not_true (own (pos (k % width)) (pos (k / width))) (λ e. let no : None ≡ Some x = same 0 (here width k own e) in cc) in
+    let none : own (pos (k % width)) (pos (k / width)) ≡ false = false_from_ne_true (own (pos (k % width)) (pos (k / width))) (λ e. let no : None ≡ Some x = same 0 (here width k own e) in cc) in
     same_dirt width (suc k) own other xs [] owner (behind_one width k own x xs same) ∙ sym (unowned x.dirty (own (pos (k % width)) (pos (k / width))) (at_pixel (pos (k % width)) (pos (k / width)) ∷ dirty_from width (suc k) own xs) (dirty_from width (suc k) own xs) none)
 same_dirt width k own other [] (y ∷ ys) owner same =
-    let none : own (pos (k % width)) (pos (k / width)) ≡ false = not_true (own (pos (k % width)) (pos (k / width))) (λ e. let no : Some y ≡ None = same 0 (here width k own e) in cc) in
+    let none : own (pos (k % width)) (pos (k / width)) ≡ false = false_from_ne_true (own (pos (k % width)) (pos (k / width))) (λ e. let no : Some y ≡ None = same 0 (here width k own e) in cc) in
     unowned y.dirty (other (pos (k % width)) (pos (k / width))) (at_pixel (pos (k % width)) (pos (k / width)) ∷ dirty_from width (suc k) other ys) (dirty_from width (suc k) other ys) (owner (pos (k % width)) (pos (k / width)) ∙ none) ∙ same_dirt width (suc k) own other [] ys owner (behind_other width k own y ys same)
 same_dirt width k own other (x ∷ xs) (y ∷ ys) owner same =
     first_dirty x y (own (pos (k % width)) (pos (k / width))) (other (pos (k % width)) (pos (k / width))) (at_pixel (pos (k % width)) (pos (k / width))) (dirty_from width (suc k) own xs) (dirty_from width (suc k) other ys)
@@ -124,7 +120,7 @@ same_dirty s r w width h =
 -- ---- a notice
 
 owned_by : {P : Type 0} (b own : Bool) (dirty : Bool) (p : Point) (ps : List Point) → (dirty && own) ≡ b → (own ≡ true → P) → (is_any ps ≡ true → P) → is_any (if b then p ∷ ps else ps) ≡ true → P
-owned_by true own dirty p ps is now later h = now (both_second dirty own is)
+owned_by true own dirty p ps is now later h = now (and_second dirty own is)
 owned_by false own dirty p ps is now later h = later h
 
 any_owned : (width k : ℕ) (own : ℤ → ℤ → Bool) (cells : List Cell) (P : Type 0) → ((x y : ℤ) → own x y ≡ true → P) → is_any (dirty_from width k own cells) ≡ true → P
@@ -143,7 +139,7 @@ not_closed true c e = cc
 not_closed false c e = refl
 
 covered_open : (x y : ℤ) (o : Option Window) → passes (covers_pixel x y) o ≡ true → IsOpen o
-covered_open x y (Some window) e = record { window = window; is = refl; open_still = not_closed window.closed _ (both_first _ _ e) }
+covered_open x y (Some window) e = record { window = window; is = refl; open_still = not_closed window.closed _ (and_first _ _ e) }
 covered_open x y None e = cc
 
 owner_open : (windows : Windows) (w : ℕ) (x y : ℤ) → owner_at windows x y ≡ Some w → IsOpen (slice_get windows.windows w)
@@ -164,14 +160,6 @@ owed_by dirty None = false
 owes_open : (s : State) (w : ℕ) (o : Option Window) (p : Option Pane) → IsOpen o → owes s w o p ≡ owed_by (dirty_of s w) p
 owes_open s w o (Some pane) is = ap (λ v. owes s w v (Some pane)) is.is ∙ ap (λ b. is_owed b (dirty_of s w) pane) is.open_still
 owes_open s w o None is = ap (λ v. owes s w v None) is.is
-
-and_false : (a b : Bool) → b ≡ false → (a && b) ≡ false
-and_false true b e = e
-and_false false b e = refl
-
-false_and : (a b : Bool) → a ≡ false → (a && b) ≡ false
-false_and true b e = cc
-false_and false b e = refl
 
 owes_clean : (s : State) (w : ℕ) (o : Option Window) (p : Option Pane) → is_any (dirty_of s w) ≡ false → owes s w o p ≡ owed_by (dirty_of s w) p
 owes_clean s w (Some window) (Some pane) e = ap (λ b. not window.closed && b && is_none pane.session && not pane.notified) e ∙ none_owed (not window.closed) (is_none pane.session) (not pane.notified) ∙ sym (ap (λ b. b && is_none pane.session && not pane.notified) e)

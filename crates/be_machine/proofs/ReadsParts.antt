@@ -2,6 +2,7 @@
 use Rattle.std.proofs.Common.{◌≡◌, ℕ, Bool, true, false, List, Option, Some, None, ◌⊎◌, inl, inr, refl, sym, ap, subst, ◌∙◌}
 use Rattle.std.specs.Prelude.{ℤ, ◌+◌, ◌==◌, slice_get, option_map, if◌then◌else◌}
 use Rattle.std.specs.Option.{option_map_or}
+use Rattle.be_facts.proofs.Numbers.{eq_tells, eq_false_tells}
 use Rattle.be_input.specs.Deliveries.{Delivery}
 use Rattle.be_link.specs.Queues.{Buffer, Numbered}
 use Rattle.be_message.specs.Messages.{Message}
@@ -10,6 +11,8 @@ use Rattle.be_port.specs.Ports.{Port}
 use Rattle.be_span.specs.Cells.{Lookup}
 use Rattle.be_span.specs.declared.Cell.{Cell}
 use Rattle.be_span.specs.Screen.{each_cell}
+use Rattle.be_span.proofs.EachLemmas.{cell_by}
+use Rattle.be_paint.proofs.PaintLemmas.{same_mapped}
 use Rattle.be_machine.specs.Closing.{stopped}
 use Rattle.be_machine.specs.Input.{used, with_under}
 use Rattle.be_machine.specs.Lists.{at}
@@ -17,8 +20,7 @@ use Rattle.be_machine.specs.Pixels.{owner_in, pixel_at}
 use Rattle.be_machine.specs.State.{State, App, Looper}
 use Rattle.be_machine.specs.Touched.{Part, desk, input, cell, looper, port, link, pane, SamePixels, SamePart}
 use Rattle.be_machine.specs.Windows.{width_of}
-use Rattle.be_machine.proofs.Lists.{at_here, at_elsewhere, at_past, same_number, other_number}
-use Rattle.be_machine.proofs.PixelRules.{cell_by}
+use Rattle.be_machine.proofs.Lists.{at_here, at_elsewhere, at_past}
 
 -- each part that is the same in the first two states is the same in the other two
 abbrev pub Keeps : State → State → State → State → Type 0
@@ -38,22 +40,18 @@ pub found_keeps : {X : Type 0} (s r : State) (f g : X → State) (o : Option X) 
 found_keeps s r f g (Some x) each = each x refl
 found_keeps s r f g None each = none_keeps s r
 
--- the same in the second state, where it is another way of writing it
-pub keeps_as : (s r t u v : State) → u ≡ v → Keeps s r t u → Keeps s r t v
-keeps_as s r t u v same h = subst (Keeps s r t) same h
-
 -- ---- one list changes at one place
 
-at_is : {X : Type 0} (xs : List X) (i : ℕ) (f : X → X) (o : Option X) → slice_get xs i ≡ o → slice_get (at xs i f) i ≡ option_map f o
+pub at_is : {X : Type 0} (xs : List X) (i : ℕ) (f : X → X) (o : Option X) → slice_get xs i ≡ o → slice_get (at xs i f) i ≡ option_map f o
 at_is xs i f (Some x) e = at_here xs i f x e
 at_is xs i f None e = ap (λ ys. slice_get ys i) (at_past xs i f e) ∙ e
 
 same_at_by : {X : Type 0} (xs ys : List X) (i j : ℕ) (f : X → X) (b : Bool) → (j == i) ≡ b → slice_get ys j ≡ slice_get xs j → slice_get (at ys i f) j ≡ slice_get (at xs i f) j
 same_at_by xs ys i j f true e same =
-    subst (λ k. slice_get (at ys k f) j ≡ slice_get (at xs k f) j) (same_number j i e)
+    subst (λ k. slice_get (at ys k f) j ≡ slice_get (at xs k f) j) (eq_tells j i e)
     (at_is ys j f (slice_get ys j) refl ∙ ap (option_map f) same ∙ sym (at_is xs j f (slice_get xs j) refl))
 same_at_by xs ys i j f false e same =
-    let other : i ≡ j → ⊥ = λ k. other_number j i e (sym k) in
+    let other : i ≡ j → ⊥ = λ k. eq_false_tells j i e (sym k) in
     at_elsewhere ys i j f other ∙ same ∙ sym (at_elsewhere xs i j f other)
 
 pub same_at : {X : Type 0} (xs ys : List X) (i j : ℕ) (f : X → X) → slice_get ys j ≡ slice_get xs j → slice_get (at ys i f) j ≡ slice_get (at xs i f) j
@@ -143,10 +141,6 @@ under_keeps s r x (link w) same = same
 under_keeps s r x (pane w) same = same
 
 -- ---- the screen
-
-same_mapped : (f g : Cell → Cell) (o : Option Cell) → ((c : Cell) → f c ≡ g c) → option_map f o ≡ option_map g o
-same_mapped f g (Some c) h = ap Some (h c)
-same_mapped f g None h = refl
 
 was_owned : (s r : State) (u : ℕ) (x y : ℤ) → SamePixels s r u → (owner_in s x y ≡ Some u) ⊎ (owner_in r x y ≡ Some u) → owner_in s x y ≡ Some u
 was_owned s r u x y h (inl was) = was

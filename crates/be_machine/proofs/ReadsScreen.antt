@@ -1,5 +1,5 @@
 -- The screen keeps its size and its pixels, whatever they show, and there are as many windows, view trees and focuses.
-use Rattle.std.proofs.Common.{◌≡◌, ℕ, suc, ◌+◌, List, [], ◌∷◌, length, Option, Some, None, Result, Ok, Err, refl, sym, ap, subst, ◌∙◌}
+use Rattle.std.proofs.Common.{◌≡◌, ℕ, List, [], ◌∷◌, length, Option, Some, None, Result, Ok, Err, refl, sym, ap, subst, ◌∙◌}
 use Rattle.std.specs.Prelude.{ℤ, slice_get, option_map, option_and_then}
 use Rattle.be_bitmap.specs.Pictures.{Picture}
 use Rattle.be_command.specs.Effects.{Effect, at_view, changes, ends_update, effect_of}
@@ -13,11 +13,12 @@ use Rattle.be_script.specs.declared.InputLine.TheVariants as line
 use Rattle.be_script.specs.Script.{Declared}
 use Rattle.be_span.specs.Cells.{Lookup, desktop_cell}
 use Rattle.be_span.specs.declared.Cell.{Cell}
-use Rattle.be_span.specs.Screen.{cell_at, each_cell, each_from}
+use Rattle.be_span.specs.Screen.{cell_at, each_cell}
 use Rattle.be_stack.specs.declared.fault.ChangeFault.{ChangeFault}
 use Rattle.be_stack.specs.Windows.{Windows}
 use Rattle.be_twin.specs.Executed.{executed_cell, without_session}
 use Rattle.be_views.specs.Trees.{Tree}
+use Rattle.be_span.proofs.EachLemmas.{ruled_length, cell_by}
 use Rattle.be_update.specs.Sessions.{is_any, passed, cleaned_cell}
 use Rattle.be_machine.specs.Commands.{with_effect, done_at_view, executed_command, executed, sight_at}
 use Rattle.be_machine.specs.declared.Entry.{Entry}
@@ -31,7 +32,6 @@ use Rattle.be_machine.specs.Update.{begun, opened, passed_by}
 use Rattle.be_machine.specs.Wants.{Want, asks, takes, begins, flushes, draws_end, ends, notifies, executes, uses, stops}
 use Rattle.be_machine.specs.Windows.{owned, width_of, view_colors, corner_at, dirty_of, changed, changed_to}
 use Rattle.be_machine.proofs.LegalEntries.{IsMet, met_by}
-use Rattle.be_machine.proofs.PixelRules.{cell_by}
 use Rattle.be_machine.proofs.PixelSteps.{IsShown, shown, same_pixel, quiet_shown, colors_kept}
 use Rattle.be_machine.proofs.ProgressCases.{by_test, by_option}
 use Rattle.be_machine.proofs.Sizes.{IsAsMany, KeepsCounts, as_many, desk_sizes}
@@ -86,14 +86,6 @@ shown_screen s r is = record {
 same_shape : (f : Cell → Cell) (o : Option Cell) → shape (option_map f o) ≡ shape o
 same_shape f (Some c) = refl
 same_shape f None = refl
-
-each_length : (k : ℕ) (f : ℕ → Cell → Cell) (cells : List Cell) → length (each_from k f cells) ≡ length cells
-each_length k f [] = refl
-each_length k f (c ∷ cs) = ap suc (each_length (k + 1) f cs)
-
-ruled_length : (width : ℕ) (rule : Lookup → ℤ → ℤ → Cell → Cell) (cells : List Cell) → length (each_cell width rule cells) ≡ length cells
-unfolding each_cell
-ruled_length width rule cells = each_length 0 _ cells
 
 ruled_screen : (s r : State) (rule : Lookup → ℤ → ℤ → Cell → Cell) → IsAsMany s.desk r.desk → r.screen ≡ each_cell (width_of s) rule s.screen → SameScreen s r
 ruled_screen s r rule desk screen = record {

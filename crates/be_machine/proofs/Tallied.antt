@@ -1,6 +1,7 @@
 -- The tally of a window is that of its port, its looper, its buffer and its link.
 use Rattle.std.proofs.Common.{◌≡◌, ℕ, ◌+◌, ◌≤◌, Bool, true, false, List, [], ◌∷◌, ◌++◌, length, Option, None, refl, sym, subst, arith}
 use Rattle.std.specs.Prelude.{◌==◌, if◌then◌else◌}
+use Rattle.be_facts.proofs.Numbers.{eq_tells, eq_false_tells}
 use Rattle.be_link.specs.Queues.{Numbered, Buffer}
 use Rattle.be_looper.specs.Duties.{waiter}
 use Rattle.be_message.specs.Messages.{Message}
@@ -8,7 +9,7 @@ use Rattle.be_port.specs.Ports.{Port}
 use Rattle.be_machine.specs.Happenings.{Happening}
 use Rattle.be_machine.specs.Orderly.{Tally, counted, tally_from, AreInTurn}
 use Rattle.be_machine.specs.State.{State, Looper, free, locked, handling}
-use Rattle.be_machine.proofs.Lists.{AtPlace, same_number, other_number}
+use Rattle.be_machine.proofs.Lists.{AtPlace}
 
 -- ---- what the parts show
 
@@ -99,5 +100,5 @@ numbered_append n (x ∷ xs) ys h k =
 
 -- what happens at window v happens at window w only where the two are one
 pub at_window : (s : State) (w v : ℕ) (t : Tally) (happenings : List Happening) (b : Bool) → (w == v) ≡ b → (w ≡ v → GoesOn s v t happenings) → ((w ≡ v → ⊥) → IsTallied s w t) → GoesOn s w t (if b then happenings else [])
-at_window s w v t happenings true e here elsewhere = let same : w ≡ v = same_number w v e in subst (λ u. GoesOn s u t happenings) (sym same) (here same)
-at_window s w v t happenings false e here elsewhere = nothing_happens s w t (elsewhere (other_number w v e))
+at_window s w v t happenings true e here elsewhere = let same : w ≡ v = eq_tells w v e in subst (λ u. GoesOn s u t happenings) (sym same) (here same)
+at_window s w v t happenings false e here elsewhere = nothing_happens s w t (elsewhere (eq_false_tells w v e))

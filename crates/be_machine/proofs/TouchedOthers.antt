@@ -1,6 +1,7 @@
 -- A change of one window leaves all others, and their views.
-use Rattle.std.proofs.Common.{◌≡◌, ℕ, zero, suc, Bool, true, false, List, [], ◌∷◌, Option, Some, None, refl, ap, Result, Ok, Err}
-use Rattle.std.specs.Prelude.{slice_get, slice_set, ◌-ℤ◌, ◌==◌, option_and_then, if◌then◌else◌}
+use Rattle.std.proofs.Common.{◌≡◌, ℕ, Bool, true, false, [], Option, Some, None, refl, Result, Ok, Err}
+use Rattle.std.specs.Prelude.{slice_get, ◌-ℤ◌, ◌==◌, option_and_then, if◌then◌else◌}
+use Rattle.be_facts.proofs.Lists.{set_other}
 use Rattle.be_desk.specs.Changes.{Desk, desk_after, desk_with, desk_unless, with_tree}
 use Rattle.be_geom.specs.declared.change.Change.{Change}
 use Rattle.be_geom.specs.declared.change.Change.TheVariants.{Show, Hide, MoveTo, MoveBy, ResizeTo, Activate, Behind, Focus, Close}
@@ -14,20 +15,13 @@ use Rattle.be_stack.specs.Windows.{Windows}
 use Rattle.be_views.specs.Resizing.{resized}
 use Rattle.be_views.specs.Trees.{Tree}
 
-set_leaves : {X : Type 0} (xs : List X) (i j : ℕ) (y : X) → (j ≡ i → ⊥) → slice_get (slice_set xs i y) j ≡ slice_get xs j
-set_leaves [] i j y other = refl
-set_leaves (z ∷ zs) zero zero y other = absurd (other refl)
-set_leaves (z ∷ zs) zero (suc j) y other = refl
-set_leaves (z ∷ zs) (suc i) zero y other = refl
-set_leaves (z ∷ zs) (suc i) (suc j) y other = set_leaves zs i j y (λ e. other (ap suc e))
-
 -- the windows with this one as it was
 abbrev KeepsOther : ℕ → Windows → Result Windows ChangeFault → Type 0
 KeepsOther u s (Ok t) = slice_get t.windows u ≡ slice_get s.windows u
 KeepsOther u s (Err f) = Unit {0}
 
 framed_keeps : (s : Windows) (w u : ℕ) (window : Window) (r : Result Rect ChangeFault) → (u ≡ w → ⊥) → KeepsOther u s (stack.framed s w window r)
-framed_keeps s w u window (Ok frame) other = set_leaves s.windows w u _ other
+framed_keeps s w u window (Ok frame) other = set_other s.windows w u _ other
 framed_keeps s w u window (Err f) other = tt
 
 behind_keeps : (u : ℕ) (b : Bool) (s t : Windows) → slice_get t.windows u ≡ slice_get s.windows u → slice_get (if b then s else t).windows u ≡ slice_get s.windows u
@@ -35,15 +29,15 @@ behind_keeps u true s t h = refl
 behind_keeps u false s t h = h
 
 change_keeps : (s : Windows) (w u : ℕ) (window : Window) (change : Change) → (u ≡ w → ⊥) → KeepsOther u s (stack.changed s w window change)
-change_keeps s w u window Show other = set_leaves s.windows w u _ other
-change_keeps s w u window Hide other = set_leaves s.windows w u _ other
+change_keeps s w u window Show other = set_other s.windows w u _ other
+change_keeps s w u window Hide other = set_other s.windows w u _ other
 change_keeps s w u window (MoveTo corner) other = framed_keeps s w u window (within_range (moved_rect window.frame (corner.x -ℤ window.frame.left) (corner.y -ℤ window.frame.top))) other
 change_keeps s w u window (MoveBy dx dy) other = framed_keeps s w u window (within_range (moved_rect window.frame dx dy)) other
 change_keeps s w u window (ResizeTo width height) other = framed_keeps s w u window (within_range (resized_rect window.frame width height)) other
 change_keeps s w u window Activate other = refl
 change_keeps s w u window (Behind front) other = behind_keeps u (w == front) s _ refl
 change_keeps s w u window (Focus view) other = refl
-change_keeps s w u window Close other = set_leaves s.windows w u _ other
+change_keeps s w u window Close other = set_other s.windows w u _ other
 
 at_keeps : (s : Windows) (w u : ℕ) (o : Option Window) (change : Change) → (u ≡ w → ⊥) → KeepsOther u s (stack.changed_at s w o change)
 at_keeps s w u (Some window) change other = change_keeps s w u window change other
@@ -63,7 +57,7 @@ DeskKeepsOther u desk (Ok new) = (slice_get new.windows.windows u ≡ slice_get 
 DeskKeepsOther u desk (Err f) = Unit {0}
 
 tree_keeps : (desk : Desk) (windows : Windows) (w u : ℕ) (o : Option Tree) → (u ≡ w → ⊥) → slice_get windows.windows u ≡ slice_get desk.windows.windows u → DeskKeepsOther u desk (with_tree desk windows w o)
-tree_keeps desk windows w u (Some tree) other h = (h, set_leaves desk.pointing.trees w u tree other)
+tree_keeps desk windows w u (Some tree) other h = (h, set_other desk.pointing.trees w u tree other)
 tree_keeps desk windows w u None other h = tt
 
 with_keeps : (desk : Desk) (w u : ℕ) (windows : Windows) (change : Change) → (u ≡ w → ⊥) → slice_get windows.windows u ≡ slice_get desk.windows.windows u → DeskKeepsOther u desk (desk_with desk w windows change)

@@ -33,8 +33,9 @@ use Rattle.be_machine.specs.Touched.{Part, SamePixels, IsOf, TouchesPanes, Touch
 use Rattle.be_handler.specs.declared.Route.{Route}
 use Rattle.be_handler.specs.declared.Route.TheVariants.{Skipped, Handler, Unknown}
 use Rattle.be_machine.specs.Update.{passed_by, begun, opened}
-use Rattle.be_machine.proofs.Lists.{at_elsewhere, same_number, other_number}
+use Rattle.be_machine.proofs.Lists.{at_elsewhere}
 use Rattle.std.proofs.lemmas.Option.{same_Some}
+use Rattle.be_facts.proofs.Numbers.{eq_tells, eq_false_tells}
 use Rattle.be_bitmap.specs.Pictures.{Picture}
 use Rattle.be_command.specs.Effects.{Effect, Deed, at_view, changes, ends_update, effect_of}
 use Rattle.be_machine.proofs.PixelSteps.{Leaves, own_leaves}
@@ -109,8 +110,8 @@ dec_some a b (inl same) = inl (ap Some same)
 dec_some a b (inr differs) = inr (λ e. differs (same_Some a b e))
 
 dec_number : (a b : ℕ) (t : Bool) → (a == b) ≡ t → (a ≡ b) ⊎ (a ≡ b → ⊥)
-dec_number a b true e = inl (same_number a b e)
-dec_number a b false e = inr (other_number a b e)
+dec_number a b true e = inl (eq_tells a b e)
+dec_number a b false e = inr (eq_false_tells a b e)
 
 pub dec_owner : (a b : Option ℕ) → (a ≡ b) ⊎ (a ≡ b → ⊥)
 dec_owner None None = inl refl

@@ -2,6 +2,7 @@
 use Rattle.std.proofs.Common.{◌≡◌, ℕ, ◌+◌, ◌<◌, ◌≤◌, Bool, true, false, List, [], ◌∷◌, ◌++◌, length, Option, Some, None, refl, sym, ap, subst, ◌∙◌, arith, length-append}
 use Rattle.std.specs.Prelude.{slice_get, ◌==◌}
 use Rattle.std.proofs.lemmas.Option.{same_Some, slice_get_within}
+use Rattle.be_facts.proofs.Numbers.{eq_tells, eq_false_tells}
 use Rattle.be_handler.specs.declared.Route.{Route}
 use Rattle.be_looper.specs.Duties.{in_hand}
 use Rattle.be_message.specs.Messages.{Message}
@@ -12,15 +13,15 @@ use Rattle.be_script.specs.Script.{Declared}
 use Rattle.be_machine.specs.Lists.{at}
 use Rattle.be_machine.specs.State.{Looper, free, handling, Stage, App}
 use Rattle.be_machine.proofs.ProgressCases.{by_test}
-use Rattle.be_machine.proofs.Lists.{AtPlace, place_here, place_kept, place_elsewhere, at_here, at_elsewhere, at_past, same_number, other_number}
+use Rattle.be_machine.proofs.Lists.{AtPlace, place_here, place_kept, place_elsewhere, at_here, at_elsewhere, at_past}
 use Rattle.be_machine.proofs.Waiting.{total, one_where, owes, owed_by_letter, owed_by_port, owed_by_looper, owed_in, due_in, due_to, is_busy, IsBusyByPlace, IsTakenInTime, Waits}
 use Rattle.be_machine.proofs.WaitingSums.{total_at, total_kept, total_more, total_front}
 
 -- ---- all elements of a list
 
 placed_by : {X : Type 0} (P : X → Type 0) (xs : List X) (v w : ℕ) (f : X → X) (b : Bool) → (w == v) ≡ b → ((x : X) → slice_get xs v ≡ Some x → P x → P (f x)) → ((w : ℕ) → AtPlace P xs w) → AtPlace P (at xs v f) w
-placed_by P xs v w f true e keep h = subst (λ u. AtPlace P (at xs v f) u) (sym (same_number w v e)) (place_here P P xs v f keep (h v))
-placed_by P xs v w f false e keep h = place_elsewhere P xs v w f (λ same. other_number w v e (sym same)) (h w)
+placed_by P xs v w f true e keep h = subst (λ u. AtPlace P (at xs v f) u) (sym (eq_tells w v e)) (place_here P P xs v f keep (h v))
+placed_by P xs v w f false e keep h = place_elsewhere P xs v w f (λ same. eq_false_tells w v e (sym same)) (h w)
 
 -- one is changed in a way that keeps what holds of it
 pub place_all : {X : Type 0} (P : X → Type 0) (xs : List X) (v : ℕ) (f : X → X) → ((x : X) → slice_get xs v ≡ Some x → P x → P (f x)) → ((w : ℕ) → AtPlace P xs w) → (w : ℕ) → AtPlace P (at xs v f) w
@@ -79,21 +80,21 @@ notice_kept d ports loopers apps v letter nothing h = ports_kept d ports loopers
 -- ---- applications
 
 due_here : (apps : List App) (m n : ℕ) (g : App → App) (a : App) → slice_get apps m ≡ Some a → (n == m) ≡ true → due_to (slice_get (at apps m g) n) ≡ due_in (g a).cell
-due_here apps m n g a read e = subst (λ k. due_to (slice_get (at apps m g) k) ≡ due_in (g a).cell) (sym (same_number n m e)) (ap due_to (at_here apps m g a read))
+due_here apps m n g a read e = subst (λ k. due_to (slice_get (at apps m g) k) ≡ due_in (g a).cell) (sym (eq_tells n m e)) (ap due_to (at_here apps m g a read))
 
 due_there : (apps : List App) (m n : ℕ) (g : App → App) → (n == m) ≡ false → due_to (slice_get (at apps m g) n) ≡ due_to (slice_get apps n)
-due_there apps m n g e = ap due_to (at_elsewhere apps m n g (λ same. other_number n m e (sym same)))
+due_there apps m n g e = ap due_to (at_elsewhere apps m n g (λ same. eq_false_tells n m e (sym same)))
 
 due_same : (apps : List App) (m n : ℕ) (g : App → App) (a : App) (b : Bool) → slice_get apps m ≡ Some a → (n == m) ≡ b → due_in (g a).cell ≡ due_in a.cell → due_to (slice_get (at apps m g) n) ≡ due_to (slice_get apps n)
 due_same apps m n g a true read e keep =
-    due_here apps m n g a read e ∙ keep ∙ sym (ap due_to (ap (slice_get apps) (same_number n m e) ∙ read))
+    due_here apps m n g a read e ∙ keep ∙ sym (ap due_to (ap (slice_get apps) (eq_tells n m e) ∙ read))
 due_same apps m n g a false read e keep = due_there apps m n g e
 
 busy_at : (d : Declared) (apps : List App) (m n : ℕ) (g : App → App) (a : App) (b : Bool) → slice_get apps m ≡ Some a → (n == m) ≡ b → (IsBusyByPlace d m a → IsBusyByPlace d m (g a)) → AtPlace (IsBusyByPlace d n) apps n → AtPlace (IsBusyByPlace d n) (at apps m g) n
 busy_at d apps m n g a true read e busy h =
-    subst (λ k. AtPlace (IsBusyByPlace d k) apps k → AtPlace (IsBusyByPlace d k) (at apps m g) k) (sym (same_number n m e))
+    subst (λ k. AtPlace (IsBusyByPlace d k) apps k → AtPlace (IsBusyByPlace d k) (at apps m g) k) (sym (eq_tells n m e))
     (λ old. place_here (IsBusyByPlace d m) (IsBusyByPlace d m) apps m g (λ x there k. subst (λ y. IsBusyByPlace d m y → IsBusyByPlace d m (g y)) (same_Some a x (sym read ∙ there)) busy k) old) h
-busy_at d apps m n g a false read e busy h = λ x there. h x (sym (at_elsewhere apps m n g (λ same. other_number n m e (sym same))) ∙ there)
+busy_at d apps m n g a false read e busy h = λ x there. h x (sym (at_elsewhere apps m n g (λ same. eq_false_tells n m e (sym same))) ∙ there)
 
 -- an application goes on, and is due what it was
 pub apps_kept : (d : Declared) (ports : List (Port Message)) (loopers : List Looper) (apps : List App) (m : ℕ) (g : App → App) (a : App) → slice_get apps m ≡ Some a → (IsBusyByPlace d m a → IsBusyByPlace d m (g a)) → due_in (g a).cell ≡ due_in a.cell → Waits d ports loopers apps → Waits d ports loopers (at apps m g)
@@ -108,7 +109,7 @@ sent_sum d ports loopers apps v m n letter p g a true port accepted duty read e 
     let sum : total (owed_by_port n) (at ports v (posted letter)) + owed_by_port n p ≡ total (owed_by_port n) ports + owed_by_port n (posted letter p) = total_at (owed_by_port n) ports v (posted letter) p port in
     let more : owed_by_port n (posted letter p) ≡ owed_by_port n p + owes n letter.duty = ap (owed_by_port n) accepted ∙ more_owed n letter p (h.taken v p port) in
     let one : owes n letter.duty ≡ 1 = ap (owes n) duty ∙ ap one_where e in
-    let old : owed_in ports loopers n ≡ 0 = h.owed n ∙ ap due_to (ap (slice_get apps) (same_number n m e) ∙ read) ∙ before in
+    let old : owed_in ports loopers n ≡ 0 = h.owed n ∙ ap due_to (ap (slice_get apps) (eq_tells n m e) ∙ read) ∙ before in
     let new : due_to (slice_get (at apps m g) n) ≡ 1 = due_here apps m n g a read e ∙ after in
     omega (arith, sum, more, one, old, new)
 sent_sum d ports loopers apps v m n letter p g a false port accepted duty read e before after h =
@@ -183,7 +184,7 @@ answered_place d apps m n message b e h = place_kept (IsBusyByPlace d n) apps m 
 
 due_answered : (apps : List App) (m n : ℕ) (message : Message) (o : Option App) → slice_get apps m ≡ o → (n == m) ≡ true → due_to (slice_get (at apps m (with_answer message)) n) ≡ 0
 due_answered apps m n message (Some a) read e = due_here apps m n (with_answer message) a read e ∙ none_due message a.cell
-due_answered apps m n message None read e = ap (λ xs. due_to (slice_get xs n)) (at_past apps m (with_answer message) read) ∙ ap due_to (ap (slice_get apps) (same_number n m e) ∙ read)
+due_answered apps m n message None read e = ap (λ xs. due_to (slice_get xs n)) (at_past apps m (with_answer message) read) ∙ ap due_to (ap (slice_get apps) (eq_tells n m e) ∙ read)
 
 at_most_one : (o : Option App) → due_to o ≤ 1
 at_most_one (Some a) = at_most_one_in a.cell

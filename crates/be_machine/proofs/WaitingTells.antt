@@ -1,13 +1,13 @@
 -- Where a letter in a hand owes a reply, who waits for it is there and has none yet.
 use Rattle.std.proofs.Common.{◌≡◌, ℕ, ◌≤◌, Option, Some, None, refl, ap, ◌∙◌, arith}
 use Rattle.std.specs.Prelude.{slice_get}
+use Rattle.be_facts.proofs.Numbers.{eq_self}
 use Rattle.be_looper.specs.Duties.{Hand}
 use Rattle.be_message.specs.Messages.{Message}
 use Rattle.be_port.specs.declared.Duty.TheVariants.{Owed}
 use Rattle.be_reply.specs.Cells as reply
 use Rattle.be_script.specs.Script.{Declared}
 use Rattle.be_machine.specs.State.{State, handling, Stage, App}
-use Rattle.be_machine.proofs.Lists.{is_same_number}
 use Rattle.be_machine.proofs.Waiting.{total, one_where, owes, owed_by_looper, owed_in, due_to, IsWaiting}
 use Rattle.be_machine.proofs.WaitingSums.{one_of_all}
 
@@ -39,7 +39,7 @@ most_due None = omega arith
 pub hand_waits : (d : Declared) (s : State) (w m : ℕ) (hand : Hand Message) (stage : Stage) → IsWaiting d s → slice_get s.loopers w ≡ Some (handling hand stage) → hand.duty ≡ Owed m → WaitsForReply s m
 hand_waits d s w m hand stage h read duty =
     let here : owed_by_looper m (handling hand stage) ≤ total (owed_by_looper m) s.loopers = one_of_all (owed_by_looper m) s.loopers w (handling hand stage) read in
-    let one : owed_by_looper m (handling hand stage) ≡ 1 = ap (owes m) duty ∙ ap one_where (is_same_number m) in
+    let one : owed_by_looper m (handling hand stage) ≡ 1 = ap (owes m) duty ∙ ap one_where (eq_self m) in
     let owed : owed_in s.ports s.loopers m ≡ due_to (slice_get s.apps m) = h.owed m in
     let most : due_to (slice_get s.apps m) ≤ 1 = most_due (slice_get s.apps m) in
     due_waits s m (slice_get s.apps m) refl (omega (arith, here, one, owed, most))

@@ -43,7 +43,7 @@ append_fits what [] ys h k i post e = k i post e
 append_fits what (x ∷ xs) ys h k zero post e = h zero post e
 append_fits what (x ∷ xs) ys h k (suc i) post e = append_fits what xs ys (λ j. h (suc j)) k i post e
 
-option_alone : (o : Option Post) → slice_get (option_to_list o) 1 ≡ None
+pub option_alone : (o : Option Post) → slice_get (option_to_list o) 1 ≡ None
 option_alone (Some p) = refl
 option_alone None = refl
 

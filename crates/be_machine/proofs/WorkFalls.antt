@@ -2,6 +2,7 @@
 use Rattle.std.proofs.Common.{◌≡◌, ℕ, ◌<◌, Bool, true, false, List, length, Option, Some, None, refl, sym, ap, subst, arith}
 use Rattle.std.specs.Prelude.{slice_get, option_map, option_and_then, not, ◌&&◌, if◌then◌else◌}
 use Rattle.std.proofs.lemmas.Option.{same_Some}
+use Rattle.be_facts.proofs.Lists.{all_at}
 use Rattle.be_actor.specs.declared.Instruction.{Instruction}
 use Rattle.be_actor.specs.declared.Place.{Place}
 use Rattle.be_actor.specs.Wishes.{wish_at, wish_of}
@@ -22,7 +23,6 @@ use Rattle.be_machine.specs.State.{State, App, Looper, free, locked, handling, S
 use Rattle.be_machine.specs.Step.{met, step}
 use Rattle.be_machine.specs.Wants.{Want, asks, uses, stops, asks_or, end_want, draw_end_want, stage_want, looper_want, twin_want, want_of}
 use Rattle.be_machine.proofs.LegalEntries.{IsMet, met_by}
-use Rattle.be_machine.proofs.Lists.{all_get}
 use Rattle.be_machine.proofs.NumbersGrow.{AreRooted}
 use Rattle.be_machine.proofs.WorkActors.{app_instruction}
 use Rattle.be_machine.proofs.WorkInput.{uses_falls}
@@ -58,12 +58,12 @@ app_falls d s m want e = app_by d s m (slice_get s.apps m) want refl e
 
 body_at : (d : Declared) (s : State) (w : ℕ) (hand : Hand Message) (place : Place) (o : Option Instruction) → IsWithinLimits d → slice_get s.loopers w ≡ Some (handling hand (in_body place)) → slice_get (letter_program d w hand) place.step ≡ o → Falls d s (asks_or (looper w) (option_map (wish_at place.part (Some hand.letter.body) (buffered s (looper w))) o) (end_want s w))
 body_at d s w hand place (Some i) limits read at_i =
-    body_instruction d s w hand place i read at_i (all_get (is_body_step d w) (letter_program d w hand) place.step i (body_steps d w hand.letter.body.what hand.route limits) at_i)
+    body_instruction d s w hand place i read at_i (all_at (is_body_step d w) (letter_program d w hand) place.step i (body_steps d w hand.letter.body.what hand.route limits) at_i)
 body_at d s w hand place None limits read at_i = end_falls d s w hand (in_body place) read (omega arith)
 
 update_at : (d : Declared) (s : State) (w : ℕ) (hand : Hand Message) (views : List ℕ) (place : Place) (o : Option Instruction) → IsWithinLimits d → slice_get s.loopers w ≡ Some (handling hand (in_update views place)) → slice_get (update_program d w views) place.step ≡ o → Falls d s (asks_or (looper w) (option_map (wish_at place.part (Some hand.letter.body) (buffered s (looper w))) o) (draw_end_want s w))
 update_at d s w hand views place (Some i) limits read at_i =
-    draw_instruction d s w hand views place i read at_i (all_get (is_draw_step d w) (update_program d w views) place.step i (update_steps d w views limits) at_i)
+    draw_instruction d s w hand views place i read at_i (all_at (is_draw_step d w) (update_program d w views) place.step i (update_steps d w views limits) at_i)
 update_at d s w hand views place None limits read at_i = draw_end_falls d s w hand (in_update views place) read (omega arith)
 
 stage_falls : (d : Declared) (s : State) (w : ℕ) (hand : Hand Message) (stage : Stage) → IsWithinLimits d → HasShape d s → slice_get s.loopers w ≡ Some (handling hand stage) → Falls d s (stage_want d s w hand stage)

@@ -22,7 +22,7 @@ use Rattle.be_machine.specs.State.{State}
 use Rattle.be_machine.specs.Step.{met}
 use Rattle.be_machine.specs.Wants.{uses}
 use Rattle.be_machine.specs.Windows.{changed}
-use Rattle.be_machine.proofs.Lists.{at_past, length_at}
+use Rattle.be_machine.proofs.Lists.{at_past}
 use Rattle.be_machine.proofs.WorkDeliveries.{Fits, MayFit, One, press_one, release_one, key_one, move_first, move_second, release_quiet, move_quiet, key_quiet}
 use Rattle.be_machine.proofs.WorkEffects.{change_adds_updates}
 use Rattle.be_machine.proofs.WorkInstructions.{Falls}
@@ -30,6 +30,7 @@ use Rattle.be_machine.proofs.WorkMessages.{message_within}
 use Rattle.be_machine.proofs.WorkParts.{ports_posted, input_used}
 use Rattle.be_machine.specs.Shares.{letter_share, ports_share, dirt_share, is_dirty, potential}
 use Rattle.be_machine.proofs.WorkTwins.{by_dirt, changed_only}
+use Rattle.be_machine.proofs.NumbersSteps.{length_ports_with}
 
 -- ---- messages
 
@@ -54,10 +55,6 @@ post_within : (d : Declared) (what : ℕ) (ports : List (Port Message)) (o : Opt
 post_within d what ports (Some post) limits shape fits = post_by d what ports post (slice_get ports post.window) limits shape (fits post refl) refl
 post_within d what ports None limits shape fits = omega arith
 
-same_length : (ports : List (Port Message)) (o : Option Post) → length (ports_with ports o) ≡ length ports
-same_length ports (Some post) = length_at ports post.window (posted (input_letter post))
-same_length ports None = refl
-
 one_within : (d : Declared) (what : ℕ) (ports : List (Port Message)) (first second : Option Post) → IsWithinLimits d → length ports ≡ length d.windows → One what first second → ports_share d (ports_with (ports_with ports first) second) ≤ ports_share d ports + most_cost d (updates_cost d) what
 one_within d what ports first second limits shape one =
     let alone : ports_share d (ports_with (ports_with ports first) second) ≡ ports_share d (ports_with ports first) = ap (λ o. ports_share d (ports_with (ports_with ports first) o)) one.alone in
@@ -65,7 +62,7 @@ one_within d what ports first second limits shape one =
 
 two_within : (d : Declared) (what : ℕ) (ports : List (Port Message)) (first second : Option Post) → IsWithinLimits d → length ports ≡ length d.windows → MayFit what first → MayFit what second → ports_share d (ports_with (ports_with ports first) second) ≤ ports_share d ports + 2 * most_cost d (updates_cost d) what
 two_within d what ports first second limits shape a b =
-    omega (arith, post_within d what ports first limits shape a, post_within d what (ports_with ports first) second limits (same_length ports first ∙ shape) b)
+    omega (arith, post_within d what ports first limits shape a, post_within d what (ports_with ports first) second limits (length_ports_with ports first ∙ shape) b)
 
 -- ---- events
 

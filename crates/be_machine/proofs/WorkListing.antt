@@ -2,10 +2,10 @@
 use Rattle.std.proofs.Common.{◌≡◌, ℕ, zero, suc, ◌+◌, ◌<◌, ◌≤◌, Bool, true, false, List, [], ◌∷◌, ◌++◌, length, sum_by, Option, Some, None, refl, ap, subst, ◌∙◌, arith}
 use Rattle.std.specs.Prelude.{◌==◌, flat_map, option_and_then, if◌then◌else◌}
 use Rattle.std.proofs.lemmas.List.Sums.{sum_by-append, sum_by-cons}
+use Rattle.be_facts.proofs.Numbers.{eq_tells}
 use Rattle.be_geom.specs.Numbers.{is_number}
 use Rattle.be_views.specs.Trees.{Tree, View, children_from, children_of, parent_of, preorder_from, preorder}
 use Rattle.be_machine.specs.Orderly.{one_if}
-use Rattle.be_machine.proofs.Lists.{same_number}
 use Rattle.be_machine.proofs.NumbersGrow.{IsRooted}
 
 -- ---- how often a view stands in the preorder
@@ -50,7 +50,7 @@ over_if f true c cs = refl
 over_if f false c cs = omega arith
 
 other_by : (m n : ℕ) (b : Bool) → (m == n) ≡ b → (m ≡ n → ⊥) → one_if b ≡ 0
-other_by m n true e h = absurd (h (same_number m n e))
+other_by m n true e h = absurd (h (eq_tells m n e))
 other_by m n false e h = refl
 
 other_one : (m n : ℕ) → (m ≡ n → ⊥) → one_if (m == n) ≡ 0
@@ -157,7 +157,7 @@ preorder_climbs (suc steps) tree u v = omega (
 
 root_by : (steps : ℕ) (tree : Tree) (x : ℕ) (b : Bool) → (x == 0) ≡ b → IsRooted tree → climbs steps tree (parent_of tree x) 0 ≤ 1 → one_if b + climbs steps tree (parent_of tree x) 0 ≤ 1
 root_by steps tree x true e h le =
-    let at_root : x ≡ 0 = same_number x 0 e in
+    let at_root : x ≡ 0 = eq_tells x 0 e in
     let none : parent_of tree x ≡ None = ap (parent_of tree) at_root ∙ h in
     rw none (omega (arith, climbs_none steps tree 0))
 root_by steps tree x false e h le = omega arith

@@ -2,6 +2,7 @@
 use Rattle.std.proofs.Common.{◌≡◌, ℕ, ◌+◌, ◌≤◌, Bool, true, false, List, Option, Some, None, refl, sym, ap, subst, ◌∙◌, arith}
 use Rattle.std.specs.Prelude.{slice_get, option_and_then, if◌then◌else◌}
 use Rattle.std.specs.Option.{option_map_or}
+use Rattle.be_facts.proofs.Truths.{and_second}
 use Rattle.be_actor.specs.declared.Instruction.{Instruction}
 use Rattle.be_actor.specs.declared.Instruction.TheVariants as instruction
 use Rattle.be_actor.specs.declared.Place.{Place}
@@ -26,7 +27,7 @@ use Rattle.be_machine.specs.Program.{letter_program, update_program, hop_of, han
 use Rattle.be_machine.specs.State.{State, handling, Stage, in_body, in_update}
 use Rattle.be_machine.specs.Step.{granted, is_accepted_wish, met}
 use Rattle.be_machine.specs.Wants.{asks}
-use Rattle.be_machine.proofs.Lists.{at_here, both_second}
+use Rattle.be_machine.proofs.Lists.{at_here}
 use Rattle.be_machine.proofs.WorkGranted.{post_pays, told_keeps, duty_keeps}
 use Rattle.be_machine.proofs.WorkInstructions.{Falls, Runs, note_falls, post_falls, flush_falls, sync_falls, draw_falls}
 use Rattle.be_machine.proofs.WorkMoves.{next_falls, body_moves, update_moves}
@@ -142,4 +143,4 @@ draw_instruction d s w hand views place instruction.Unlock read at_i may = cc
 draw_instruction d s w hand views place instruction.Flush read at_i may = flush_falls d s (looper w) draw_cost (update_program d w views) place at_i (update_runs d s w hand views place read) refl
 draw_instruction d s w hand views place instruction.Sync read at_i may = sync_falls d s (looper w) draw_cost (update_program d w views) place at_i (update_runs d s w hand views place read) refl
 draw_instruction d s w hand views place (instruction.Draw c) read at_i may = draw_falls d s (looper w) draw_cost (update_program d w views) place c at_i (update_runs d s w hand views place read)
-    (omega (arith, effect_costs 0 (effect_of c), drawing_command (updates_cost d) c (both_second (is_command_for d w c) (is_drawing c) may)))
+    (omega (arith, effect_costs 0 (effect_of c), drawing_command (updates_cost d) c (and_second (is_command_for d w c) (is_drawing c) may)))

@@ -1,6 +1,8 @@
 -- Which rules of pixels leave a window clean that was clean, and what becomes of the panes' share.
 use Rattle.std.proofs.Common.{◌≡◌, ℕ, ◌+◌, ◌≤◌, Bool, true, false, List, Option, Some, None, refl, ap, subst, ◌∙◌, arith}
 use Rattle.std.specs.Prelude.{ℤ, pos, ◌/◌, ◌%◌, ◌==◌, ◌&&◌, not, slice_get, if◌then◌else◌}
+use Rattle.be_facts.proofs.Truths.{and_false}
+use Rattle.be_facts.proofs.Numbers.{eq_self}
 use Rattle.be_bitmap.specs.Pictures.{Picture}
 use Rattle.be_color.specs.declared.colors.Color.{Color}
 use Rattle.be_command.specs.Effects.{Deed, draws, sets, colors, saves, restores, copies, invalidates}
@@ -18,24 +20,20 @@ use Rattle.be_span.specs.declared.Cell.{Cell}
 use Rattle.be_span.specs.Screen.{each_cell, cell_at}
 use Rattle.be_stack.specs.Owner.{owner_at}
 use Rattle.be_state.specs.declared.State.{State}
+use Rattle.be_paint.proofs.PaintLemmas.{mark_left}
 use Rattle.be_twin.specs.Deeds.{ink_of, inked_cell, cell_after}
 use Rattle.be_twin.specs.Executed.{Sight, executed_cell, is_done, pane_by, pane_after}
 use Rattle.be_twin.specs.Deeds.{deed_outcome}
 use Rattle.be_update.specs.Sessions.{is_any, dirty_pixels, cleaned_cell, with_notice}
 use Rattle.be_machine.specs.Lists.{at}
-use Rattle.be_machine.proofs.Lists.{is_same_number}
 use Rattle.be_machine.proofs.WorkDirt.{KeepsClean, still_clean, none_from}
 use Rattle.be_machine.proofs.WorkWeights.{weight_at, weight_at_there}
 use Rattle.be_machine.specs.Shares.{dirt, dirt_share, is_dirty}
 
 -- ---- drawing keeps marks
 
-laid_mark : (s : State) (c : Cell) (o : Option Color) → (laid_on_cell s c o).dirty ≡ c.dirty
-laid_mark s c (Some source) = refl
-laid_mark s c None = refl
-
 painted_if : (b : Bool) (s : State) (c : Cell) (o : Option Color) → (if b then laid_on_cell s c o else c).dirty ≡ c.dirty
-painted_if true s c o = laid_mark s c o
+painted_if true s c o = mark_left s c o
 painted_if false s c o = refl
 
 inked_mark : (owned : ℤ → ℤ → Bool) (reach : Reach) (o : Option Ink) (old : Lookup) (x y : ℤ) (c : Cell) → (inked_cell owned reach o old x y c).dirty ≡ c.dirty
@@ -69,13 +67,9 @@ drawing_keeps pictures desk w u all deed o screen h e =
 
 -- ---- an update's begin cleans
 
-no_mark : (m : Bool) → (m && false) ≡ false
-no_mark true = refl
-no_mark false = refl
-
 cleaned_if : (b : Bool) (c : Cell) → ((if b then record c { dirty = false } else c).dirty && b) ≡ false
 cleaned_if true c = refl
-cleaned_if false c = no_mark c.dirty
+cleaned_if false c = and_false c.dirty
 
 pub cleaned_none : (desk : Desk) (w : ℕ) (screen : List Cell) → is_dirty desk (each_cell desk.windows.width (cleaned_cell (owns desk w)) screen) w ≡ false
 unfolding is_dirty dirty_pixels each_cell
@@ -97,7 +91,7 @@ still_cell before after all w t old x y c true e owner =
     let mine : owns before w x y ≡ true = ap (is_number w) owner ∙ e in
     rw mine refl
 still_cell before after all w t old x y c false e owner =
-    let mine : owns before t x y ≡ true = ap (is_number t) owner ∙ is_same_number t in
+    let mine : owns before t x y ≡ true = ap (is_number t) owner ∙ eq_self t in
     rw mine refl
 
 focus_cell : (before after : Desk) (all : List (List Color)) (w u : ℕ) (old : Lookup) (x y : ℤ) (c : Cell) (o : Option ℕ) → owner_at before.windows x y ≡ o → ((cell_of before after all w still o old x y c).dirty && is_number u o) ≡ true → (c.dirty && is_number u o) ≡ true

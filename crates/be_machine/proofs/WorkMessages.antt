@@ -4,6 +4,7 @@ use Rattle.std.specs.Prelude.{fold, max, flat_map, nat_lt}
 use Rattle.std.specs.List.{range_with_len}
 use Rattle.std.proofs.lemmas.Bool.Decides.{nat_tests}
 use Rattle.std.proofs.Math.Nat.{le-max_left, le-max_right}
+use Rattle.be_facts.proofs.Numbers.{nat_lt_tells}
 use Rattle.be_handler.specs.declared.Route as route
 use Rattle.be_handler.specs.Routes.{route_of}
 use Rattle.be_message.specs.declared.target.Target.{Target}
@@ -65,9 +66,6 @@ missing_by d updates w v what (inr same) = rw same (omega arith)
 missing_view : (d : Declared) (updates w v what : ℕ) → IsWithinLimits d → view_count d w ≤ v → message_cost d updates w (target.View v) what ≤ message_cost d updates w target.Window what
 missing_view d updates w v what limits past = missing_by d updates w v what (view_route d w v what limits past)
 
-below : (v n : ℕ) → nat_lt v n ≡ true → v < n
-below v n e = grind (arith, nat_tests)
-
 not_below : (v n : ℕ) → nat_lt v n ≡ false → n ≤ v
 not_below v n e = grind (arith, nat_tests)
 
@@ -75,7 +73,7 @@ view_by : (d : Declared) (updates w v what b : ℕ) (there : Bool) → nat_lt v 
 view_by d updates w v what b true lt limits =
     let same : 0 + v ≡ v = omega arith in
     let f : Target → ℕ = λ t. message_cost d updates w t what in
-    subst (λ u. f (target.View u) ≤ fold max b (map f (targets_of d w))) same (in_views (max b (f target.Window)) v 0 (length (view_lines d w) + 1) f (below v (view_count d w) lt))
+    subst (λ u. f (target.View u) ≤ fold max b (map f (targets_of d w))) same (in_views (max b (f target.Window)) v 0 (length (view_lines d w) + 1) f (nat_lt_tells v (view_count d w) lt))
 view_by d updates w v what b false lt limits =
     let f : Target → ℕ = λ t. message_cost d updates w t what in
     omega (arith, missing_view d updates w v what limits (not_below v (view_count d w) lt), fold_first b (f target.Window) (map f (map target.View (range_with_len 0 (length (view_lines d w) + 1)))))

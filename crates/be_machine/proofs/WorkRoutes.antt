@@ -5,6 +5,8 @@ use Rattle.std.specs.List.{list_all, list_any}
 use Rattle.std.proofs.lemmas.Bool.Decides.{nat_tests}
 use Rattle.std.proofs.lemmas.List.{length-map}
 use Rattle.std.proofs.lemmas.Option.{slice_get_past}
+use Rattle.be_facts.proofs.Truths.{and_first, and_second}
+use Rattle.be_facts.proofs.Numbers.{eq_tells}
 use Rattle.be_handler.specs.declared.Route as route
 use Rattle.be_handler.specs.declared.Rule.{Rule}
 use Rattle.be_handler.specs.declared.Rule.TheVariants.{Skip, Pass, Redirect}
@@ -18,7 +20,6 @@ use Rattle.be_script.specs.Limits.{IsWithinLimits, is_list, is_filter_line, is_b
 use Rattle.be_script.specs.Programs.{view_count, is_handler_of}
 use Rattle.be_script.specs.Script.{Declared}
 use Rattle.be_script.specs.Windows.{view_lines, declared_filter, declared_body, chain_of}
-use Rattle.be_machine.proofs.Lists.{both_first, both_second, same_number}
 
 -- ---- filters that see no target of their own
 
@@ -53,11 +54,11 @@ not_own d w v (Some (target.Plain h)) is past = refl
 not_own d w v None is past = refl
 
 filter_list : (d : Declared) (line : FilterLine) → is_filter_line d line ≡ true → is_list d line.window line.list ≡ true
-filter_list d line h = search (both_first, both_second)
+filter_list d line h = search (and_first, and_second)
 
 own_by : (d : Declared) (w v : ℕ) (line : FilterLine) (rest : List FilterLine) (b : Bool) → (line.window == w) ≡ b → is_list d line.window line.list ≡ true → view_count d w ≤ v → filter (λ f. is_own (target.View v) f.list) (map declared_filter rest) ≡ [] → filter (λ f. is_own (target.View v) f.list) (map declared_filter (cond b (line ∷ rest) rest)) ≡ []
 own_by d w v line rest true here is past later =
-    let window : line.window ≡ w = same_number line.window w here in
+    let window : line.window ≡ w = eq_tells line.window w here in
     let other : is_own (target.View v) line.list ≡ false = not_own d w v line.list (subst (λ n. is_list d n line.list ≡ true) window is) past in
     rw other later
 own_by d w v line rest false here is past later = later
@@ -65,8 +66,8 @@ own_by d w v line rest false here is past later = later
 own_none : (d : Declared) (w v : ℕ) (lines : List FilterLine) → list_all (is_filter_line d) lines ≡ true → view_count d w ≤ v → filter (λ f. is_own (target.View v) f.list) (map declared_filter (filter (λ line. line.window == w) lines)) ≡ []
 own_none d w v [] all past = refl
 own_none d w v (line ∷ lines) all past =
-    own_by d w v line (filter (λ x. x.window == w) lines) (line.window == w) refl (filter_list d line (both_first (is_filter_line d line) (list_all (is_filter_line d) lines) all)) past
-    (own_none d w v lines (both_second (is_filter_line d line) (list_all (is_filter_line d) lines) all) past)
+    own_by d w v line (filter (λ x. x.window == w) lines) (line.window == w) refl (filter_list d line (and_first (is_filter_line d line) (list_all (is_filter_line d) lines) all)) past
+    (own_none d w v lines (and_second (is_filter_line d line) (list_all (is_filter_line d) lines) all) past)
 
 other_body : (d : Declared) (w v : ℕ) (t : Target) → is_handler_of d w t ≡ true → view_count d w ≤ v → same_target t (target.View v) ≡ false
 other_body d w v target.Window is past = refl
@@ -74,11 +75,11 @@ other_body d w v (target.View u) is past = not_below u v (view_count d w) is pas
 other_body d w v (target.Plain h) is past = refl
 
 body_target : (d : Declared) (line : BodyLine) → is_body_line d line ≡ true → is_handler_of d line.window line.target ≡ true
-body_target d line h = search (both_first, both_second)
+body_target d line h = search (and_first, and_second)
 
 body_by : (d : Declared) (w v what : ℕ) (line : BodyLine) (rest : List BodyLine) (b : Bool) → (line.window == w) ≡ b → is_handler_of d line.window line.target ≡ true → view_count d w ≤ v → list_any (λ x. same_target x.target (target.View v) && x.what == what) (map declared_body rest) ≡ false → list_any (λ x. same_target x.target (target.View v) && x.what == what) (map declared_body (cond b (line ∷ rest) rest)) ≡ false
 body_by d w v what line rest true here is past later =
-    let window : line.window ≡ w = same_number line.window w here in
+    let window : line.window ≡ w = eq_tells line.window w here in
     let other : same_target line.target (target.View v) ≡ false = other_body d w v line.target (subst (λ n. is_handler_of d n line.target ≡ true) window is) past in
     rw other later
 body_by d w v what line rest false here is past later = later
@@ -86,8 +87,8 @@ body_by d w v what line rest false here is past later = later
 body_none : (d : Declared) (w v what : ℕ) (lines : List BodyLine) → list_all (is_body_line d) lines ≡ true → view_count d w ≤ v → list_any (λ x. same_target x.target (target.View v) && x.what == what) (map declared_body (filter (λ line. line.window == w) lines)) ≡ false
 body_none d w v what [] all past = refl
 body_none d w v what (line ∷ lines) all past =
-    body_by d w v what line (filter (λ x. x.window == w) lines) (line.window == w) refl (body_target d line (both_first (is_body_line d line) (list_all (is_body_line d) lines) all)) past
-    (body_none d w v what lines (both_second (is_body_line d line) (list_all (is_body_line d) lines) all) past)
+    body_by d w v what line (filter (λ x. x.window == w) lines) (line.window == w) refl (body_target d line (and_first (is_body_line d line) (list_all (is_body_line d) lines) all)) past
+    (body_none d w v what lines (and_second (is_body_line d line) (list_all (is_body_line d) lines) all) past)
 
 parents_short : (d : Declared) (w v : ℕ) → view_count d w ≤ v → length (chain_of d w).parents ≤ v
 unfolding chain_of

@@ -2,14 +2,15 @@
 use Rattle.std.proofs.Common.{◌≡◌, ℕ, suc, ◌+◌, ◌<◌, ◌≤◌, Bool, true, false, List, [], ◌∷◌, map, Option, Some, None, refl, sym, ap, subst, ◌∙◌, arith}
 use Rattle.std.specs.Prelude.{ℤ, pos, ◌/◌, ◌%◌, slice_get, find, option_map, option_and_then, ◌==◌, ◌&&◌, if◌then◌else◌}
 use Rattle.std.specs.Option.{option_map_or}
+use Rattle.be_facts.proofs.Truths.{and_second}
 use Rattle.be_actor.specs.Wishes.{first_place, has_no_room}
 use Rattle.be_command.specs.declared.Command.TheVariants.{EndUpdate}
 use Rattle.be_desk.specs.Changes.{owns}
 use Rattle.be_geom.specs.declared.point.Point.{Point}
 use Rattle.be_geom.specs.declared.rect.Rect.{Rect}
 use Rattle.be_handler.specs.Routes.{route_of}
-use Rattle.be_geom.specs.Numbers.{is_number}
 use Rattle.be_geom.specs.Places.{at_pixel}
+use Rattle.be_geom.proofs.Numbered.{number_is}
 use Rattle.be_looper.specs.Duties.{Hand, EndTelling, nobody, no_reply, not_understood, end_telling, in_hand}
 use Rattle.be_message.specs.Messages.{Message}
 use Rattle.be_message.specs.Words.{no_reply_word, not_understood_word}
@@ -35,7 +36,7 @@ use Rattle.be_machine.specs.Step.{met}
 use Rattle.be_machine.specs.Update.{listing_of, at_stage, opened, passed_by, begun}
 use Rattle.be_machine.specs.Wants.{takes, begins, flushes, draws_end, ends, end_want, draw_end_want}
 use Rattle.be_machine.specs.Windows.{corner_at, dirty_of}
-use Rattle.be_machine.proofs.Lists.{both_second, same_number, find_passes}
+use Rattle.be_machine.proofs.Lists.{find_passes}
 use Rattle.be_machine.proofs.NumbersGrow.{AreRooted}
 use Rattle.be_machine.proofs.WorkActors.{not_none}
 use Rattle.be_machine.proofs.WorkBodies.{listing_cost}
@@ -98,14 +99,10 @@ any_owned : (P : Type 0) (width k : ℕ) (owned : ℤ → ℤ → Bool) (cells :
 any_owned P width k owned [] f e = cc
 any_owned P width k owned (c ∷ cs) f e =
     any_by P (c.dirty && owned (pos (k % width)) (pos (k / width))) (at_pixel (pos (k % width)) (pos (k / width))) (dirty_from width (suc k) owned cs)
-    (λ h. f (pos (k % width)) (pos (k / width)) (both_second c.dirty (owned (pos (k % width)) (pos (k / width))) h))
+    (λ h. f (pos (k % width)) (pos (k / width)) (and_second c.dirty (owned (pos (k % width)) (pos (k / width))) h))
     (any_owned P width (suc k) owned cs f) e
 
-number_is : (w : ℕ) (o : Option ℕ) → is_number w o ≡ true → o ≡ Some w
-number_is w (Some v) e = ap Some (same_number v w e)
-number_is w None e = cc
-
-found_if : (b : Bool) (windows : Windows) (x y : ℤ) (w : ℕ) → (if b then find (covers windows.windows x y) windows.order else None) ≡ Some w → covers windows.windows x y w ≡ true
+pub found_if : (b : Bool) (windows : Windows) (x y : ℤ) (w : ℕ) → (if b then find (covers windows.windows x y) windows.order else None) ≡ Some w → covers windows.windows x y w ≡ true
 found_if true windows x y w e = find_passes (covers windows.windows x y) windows.order w e
 found_if false windows x y w e = cc
 

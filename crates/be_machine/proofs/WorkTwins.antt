@@ -2,6 +2,7 @@
 use Rattle.std.proofs.Common.{◌≡◌, ℕ, ◌+◌, ◌<◌, ◌≤◌, Bool, true, false, List, length, Option, Some, None, refl, sym, ap, ◌∙◌, arith}
 use Rattle.std.specs.Prelude.{slice_get, option_and_then, is_none, not, ◌&&◌, Result, Ok, Err, if◌then◌else◌}
 use Rattle.std.specs.Option.{option_map_or}
+use Rattle.be_facts.proofs.Truths.{not_true, and_first, and_second}
 use Rattle.be_bitmap.specs.Pictures.{Picture}
 use Rattle.be_command.specs.Effects.{Effect, at_view, changes, ends_update, effect_of, Deed}
 use Rattle.be_desk.specs.Changes.{Desk, desk_after}
@@ -24,7 +25,6 @@ use Rattle.be_machine.specs.Step.{met}
 use Rattle.be_machine.specs.Update.{owes, owes_notice}
 use Rattle.be_machine.specs.Wants.{notifies, executes, twin_want}
 use Rattle.be_machine.specs.Windows.{dirty_of, changed, changed_to}
-use Rattle.be_machine.proofs.Lists.{both_first, both_second}
 use Rattle.be_machine.proofs.WorkEffects.{dirt_in, effect_adds}
 use Rattle.be_machine.proofs.WorkInstructions.{Falls}
 use Rattle.be_machine.proofs.WorkMarks.{panes_noticed}
@@ -32,10 +32,6 @@ use Rattle.be_machine.proofs.WorkParts.{ports_noticed, ports_changed, links_shor
 use Rattle.be_machine.specs.Shares.{exposure, going, is_dirty, apps_share, loopers_share, ports_share, buffers_share, links_share, input_share, potential}
 
 -- ---- notices
-
-not_false : (b : Bool) → not b ≡ true → b ≡ false
-not_false true e = cc
-not_false false e = refl
 
 dirty_is : (s : State) (w : ℕ) → is_any (dirty_of s w) ≡ true → is_dirty s.desk s.screen w ≡ true
 unfolding dirty_of is_dirty
@@ -47,9 +43,9 @@ noticed_falls d s w pane read dirty quiet = omega (arith, ports_noticed d s.port
 
 owed_falls : (d : Declared) (s : State) (w : ℕ) (closed : Bool) (pane : Pane) → slice_get s.panes w ≡ Some pane → is_owed closed (dirty_of s w) pane ≡ true → potential d (notified s w) < potential d s
 owed_falls d s w closed pane read e =
-    let first : (not closed && is_any (dirty_of s w) && is_none pane.session) ≡ true = both_first (not closed && is_any (dirty_of s w) && is_none pane.session) (not pane.notified) e in
-    let dirty : is_any (dirty_of s w) ≡ true = both_second (not closed) (is_any (dirty_of s w)) (both_first (not closed && is_any (dirty_of s w)) (is_none pane.session) first) in
-    noticed_falls d s w pane read (dirty_is s w dirty) (not_false pane.notified (both_second (not closed && is_any (dirty_of s w) && is_none pane.session) (not pane.notified) e))
+    let first : (not closed && is_any (dirty_of s w) && is_none pane.session) ≡ true = and_first (not closed && is_any (dirty_of s w) && is_none pane.session) (not pane.notified) e in
+    let dirty : is_any (dirty_of s w) ≡ true = and_second (not closed) (is_any (dirty_of s w)) (and_first (not closed && is_any (dirty_of s w)) (is_none pane.session) first) in
+    noticed_falls d s w pane read (dirty_is s w dirty) (not_true pane.notified (and_second (not closed && is_any (dirty_of s w) && is_none pane.session) (not pane.notified) e))
 
 owes_falls : (d : Declared) (s : State) (w : ℕ) (v : Option Window) (p : Option Pane) → slice_get s.panes w ≡ p → owes s w v p ≡ true → potential d (notified s w) < potential d s
 owes_falls d s w (Some window) (Some pane) read e = owed_falls d s w window.closed pane read e

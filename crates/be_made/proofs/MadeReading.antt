@@ -6,7 +6,7 @@ use Rattle.std.proofs.Common.{append_assoc, length-append}
 use Rattle.std.proofs.lemmas.Bool.Decides.{nat_tests}
 use Rattle.be_lex.specs.Lines.{Line, lines_of, is_printable}
 use Rattle.be_lex.specs.Words.{words_of, is_passed_over}
-use Rattle.be_lex.proofs.LineLemmas.{lines_of-ended}
+use Rattle.be_lex.proofs.LineLemmas.{lines_of-ended, not_passed}
 use Rattle.be_line.specs.FirstWords.{statement_of}
 use Rattle.be_reader.specs.Grammar.{read_line, read_known, read_lines}
 use Rattle.be_reader.proofs.LineLemmas.{goes_on}
@@ -61,11 +61,6 @@ read_plain : (text word : List ℕ) (words : List (List ℕ)) (old : SoFar) →
     read_known old (statement_of word) (record { words = words; window = None; text = text })
 unfolding read_line
 read_plain text word words old short end shown some is = rw (short, end, shown, some, is) refl
-
-not_passed : (text word : List ℕ) (words : List (List ℕ)) → words_of text ≡ word ∷ words →
-    eqb (get_or word 0 0) 35 ≡ false → is_passed_over text ≡ false
-unfolding is_passed_over
-not_passed text word words is begins = rw is begins
 
 -- how long it is at most
 line_length : (word : List ℕ) (words : List (List ℕ)) → is_plain word ≡ true →

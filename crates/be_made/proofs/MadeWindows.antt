@@ -1,12 +1,13 @@
 -- The lines of a made script's windows are read.
 use Rattle.std.proofs.Common.{◌≡◌, ℕ, ◌+◌, ◌/◌, ◌%◌, ◌^◌, ◌<◌, ◌≤◌, pos, true, false}
-use Rattle.std.proofs.Common.{nat_le, nat_lt, List, [], ◌∷◌, ◌++◌, length, map, take, codes}
+use Rattle.std.proofs.Common.{nat_le, List, [], ◌∷◌, ◌++◌, length, map, take, codes}
 use Rattle.std.proofs.Common.{Some, None, Ok, refl, sym, ap, ◌∙◌, subst, arith, length-append}
 use Rattle.std.specs.Fmt.{decimal}
 use Rattle.std.specs.Prelude.{◌-ℤ◌}
 use Rattle.std.proofs.lemmas.Bool.Decides.{nat_tests}
 use Rattle.std.proofs.lemmas.Int.{ints}
 use Rattle.std.proofs.lemmas.List.{map-append}
+use Rattle.be_facts.proofs.Bytes.{small_byte}
 use Rattle.be_color.specs.declared.colors.Color.{Color}
 use Rattle.be_color.specs.declared.colors.Color.TheVariants.{Solid}
 use Rattle.be_color.specs.declared.colors.Rgb.{Rgb}
@@ -111,11 +112,8 @@ screen_reads =
 abbrev pub rgb_made : ℕ → Rgb
 rgb_made c = record { red = c / 65536; green = c / 256 % 256; blue = c % 256 }
 
-byte_test : (n : ℕ) → n < 256 → nat_lt n 256 ≡ true
-byte_test n h = grind (arith, nat_tests)
-
 three_bytes : (r g b : ℕ) → r < 256 → g < 256 → b < 256 → are_bytes (r ∷ g ∷ b ∷ []) ≡ true
-three_bytes r g b hr hg hb = rw (byte_test r hr, byte_test g hg, byte_test b hb) refl
+three_bytes r g b hr hg hb = rw (small_byte r hr, small_byte g hg, small_byte b hb) refl
 
 pub bytes_made : (c : ℕ) → c < 16777216 →
     are_bytes (c / 65536 ∷ c / 256 % 256 ∷ c % 256 ∷ []) ≡ true

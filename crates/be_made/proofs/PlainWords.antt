@@ -110,13 +110,6 @@ plain-hex front bytes h few three each =
     plain-from (front ++ hex_text bytes) (all_append is_plain_byte front (hex_text bytes) h all)
     (omega arith) (omega arith)
 
-pub plain-append : (front word : List ℕ) → list_all is_plain_byte front ≡ true →
-    list_all is_plain_byte word ≡ true → 0 < length word → length front + length word ≤ 20 →
-    is_plain (front ++ word) ≡ true
-plain-append front word h k some short =
-    let many = length-append front word in
-    plain-from (front ++ word) (all_append is_plain_byte front word h k) (omega arith) (omega arith)
-
 -- ---- a line of them
 
 abbrev pub joined : List (List ℕ) → List ℕ

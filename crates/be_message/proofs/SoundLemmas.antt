@@ -2,8 +2,8 @@
 use Rattle.std.proofs.Common.{◌≡◌, ℕ, suc, zero, ◌<◌, ◌≤◌, inl, inr, Bool, true, false, not, cond, List, [], ◌∷◌, ◌++◌, length, set, Some, arith, refl, sym, ap, ◌∙◌}
 use Rattle.std.specs.List.{list_any, filter}
 use Rattle.std.specs.Str.{bytes_eq}
-use Rattle.std.proofs.lemmas.Bool.{or_parts, and_parts, and_from, cond-true, cond-false, cases_Bool, false_from_ne_true, both_ways, not_from_false, eqb-true}
-use Rattle.std.proofs.lemmas.Slice.Eq.{bytes_eq-Decides}
+use Rattle.std.proofs.lemmas.Bool.{or_parts, and_parts, and_from, cond-true, cond-false, cases_Bool, not_from_false, eqb-true}
+use Rattle.be_facts.proofs.Bytes.{bytes_differ_turned}
 use Rattle.be_message.specs.declared.kind.Kind.{Kind}
 use Rattle.be_message.specs.Codes.{numbered_kind, kind_again}
 use Rattle.be_message.specs.Kinds.{kind_number, is_kind}
@@ -114,10 +114,6 @@ filtered_is_no_longer p (f ∷ fs) =
           rw e (omega (arith, filtered_is_no_longer p fs))
     ]
 
-differs_back : (a b : List ℕ) → bytes_eq a b ≡ false → bytes_eq b a ≡ false
-differs_back a b h =
-    false_from_ne_true _ (λ t. both_ways (bytes_eq a b) h ((bytes_eq-Decides a b).1 (sym ((bytes_eq-Decides b a).0 t))))
-
 new_with_last : (n : List ℕ) (fs : List Field) (g : Field) → is_new n (all_fields fs) ≡ true → bytes_eq g.name n ≡ false → is_new n (all_fields (fs ++ g ∷ [])) ≡ true
 new_with_last n [] g h e = and_from _ _ (not_from_false _ e) refl
 new_with_last n (f ∷ fs) g h e =
@@ -128,7 +124,7 @@ pub sound_with_last : (fs : List Field) (g : Field) → IsSoundField g → list_
 sound_with_last [] g one h s = sound_cons g [] one refl tt
 sound_with_last (f ∷ fs) g one h s =
     let p = or_parts (has_name g.name f) (list_any (has_name g.name) fs) h in
-    sound_cons f (fs ++ g ∷ []) (sound_head f fs s) (new_with_last f.name fs g s.1 (differs_back f.name g.name p.0)) (sound_with_last fs g one p.1 s.5)
+    sound_cons f (fs ++ g ∷ []) (sound_head f fs s) (new_with_last f.name fs g s.1 (bytes_differ_turned f.name g.name p.0)) (sound_with_last fs g one p.1 s.5)
 
 -- ---- what a message makes of its fields
 

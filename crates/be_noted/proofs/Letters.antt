@@ -1,5 +1,5 @@
 -- A letter that a looper takes.
-use Rattle.std.proofs.Common.{◌≡◌, ℕ, ◌+◌, List, [], ◌∷◌, Some, None, refl, sym, ap, ◌∙◌}
+use Rattle.std.proofs.Common.{◌≡◌, ℕ, ◌+◌, List, [], ◌∷◌, Some, sym, ap, ◌∙◌}
 use Rattle.std.specs.Prelude.{option_map, option_and_then, option_to_list, slice_get, if◌then◌else◌}
 use Rattle.std.specs.Option.{option_map_or}
 use Rattle.be_asking.proofs.InHand.{port_read}
@@ -9,7 +9,6 @@ use Rattle.be_asking.specs.declared.want.Want.TheVariants as want
 use Rattle.be_hall.specs.Hands.{meant, part_at}
 use Rattle.be_hall.specs.Machine.{Fits}
 use Rattle.be_looper.specs.Duties.{Hand, in_hand}
-use Rattle.be_machine.proofs.Lists.{is_same_number}
 use Rattle.be_machine.specs.Port.{letter_route}
 use Rattle.be_machine.specs.State.{State}
 use Rattle.be_machine.specs.Touched as part
@@ -22,13 +21,12 @@ use Rattle.be_parts.specs.declared.part.Part.TheVariants as kinds
 use Rattle.be_port.specs.Laws.{TakesAsPort}
 use Rattle.be_port.specs.Ports.{Letter, Port, front}
 use Rattle.be_port.specs.Queues.{Queue}
-use Rattle.be_port.specs.StandsFor.{PortStandsFor}
 use Rattle.be_port.specs.declared.letter.Letter as held
-use Rattle.be_ready.proofs.Fronts.{port_there}
+use Rattle.be_ready.proofs.Fronts.{port_there, port_of}
 use Rattle.be_rules.proofs.Lawfully.{back}
 use Rattle.be_rules.specs.Places.{place_of}
 use Rattle.be_rules.specs.Rules.{IsSound}
-use Rattle.be_rules.specs.Slices.{Slice, cell, desk, input, link, looper, pane, port, port_in, state_of}
+use Rattle.be_rules.specs.Slices.{Slice, port, state_of}
 use Rattle.be_script.specs.Script.{Declared}
 use Rattle.be_steps.specs.Steps.{IsAllowed}
 use Rattle.be_steps.specs.Taking.{IsFrontMessage}
@@ -36,20 +34,10 @@ use Rattle.be_written.specs.declared.note.Note.TheVariants as note
 use Rattle.be_written.specs.declared.said.Said.TheVariants as spoken
 use Rattle.be_noted.proofs.Makers.{SaysOfEach, trace_is}
 use Rattle.std.specs.Borrow.{Bor}
+use Rattle.be_facts.proofs.Numbers.{eq_self}
 use Rattle.be_handler.specs.declared.Route.{Route}
 
 -- ---- before
-
--- the machine's port
-port_of : (k : Slice) (q : Queue) → PortIs k q → (p : Port Message) × (port_in k ≡ Some p) × PortStandsFor q p
-port_of (port w (Some p)) q stands = (p, refl, stands)
-port_of (port w None) q stands = absurd stands
-port_of (desk x) q stands = absurd stands
-port_of (input n b) q stands = absurd stands
-port_of (cell m a) q stands = absurd stands
-port_of (looper w l b) q stands = absurd stands
-port_of (link w l) q stands = absurd stands
-port_of (pane w x) q stands = absurd stands
 
 -- the letter in front of window w's port, with the number that it has when it is taken
 record HasFront (d : Declared) (s : State) (w : ℕ) (front_letter : held.Letter) : Type 0 where
@@ -91,7 +79,7 @@ module _ (d : Declared) (parts : List (ℕ × Part)) (w : ℕ) (allowed : IsAllo
             (
               record { sender = f.sender; hop = f.hop; target = f.target; route = carried.1; message = says ∙ sym carried.0 },
               trace_is d parts (who.Runner (by.Looper w)) (want.Takes w) allowed e number all sound fits
-                  ∙ ap (λ b. if b then option_map_or (take_trace d w) (slice_get s.ports w) [] else []) (is_same_number w)
+                  ∙ ap (λ b. if b then option_map_or (take_trace d w) (slice_get s.ports w) [] else []) (eq_self w)
                   ∙ ap (λ o. option_map_or (take_trace d w) o []) f.is_port
                   ∙ ap (λ o. option_to_list (option_map (λ letter. took (f.port.taken + 1) (in_hand letter (letter_route d w letter))) o)) f.is_front
                   ∙ ap (λ n. took n hand ∷ []) f.number,

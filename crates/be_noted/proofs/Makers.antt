@@ -4,6 +4,7 @@ use Rattle.std.specs.Borrow.{Bor}
 use Rattle.std.specs.Prelude.{option_map, option_and_then, option_to_list, if◌then◌else◌}
 use Rattle.std.specs.Option.{option_map_or}
 use Rattle.std.proofs.lemmas.Option.{same_Some}
+use Rattle.be_facts.proofs.Numbers.{eq_self}
 use Rattle.be_actor.specs.Drafts.{DraftWords}
 use Rattle.be_actor.specs.declared.Wish.{Wish}
 use Rattle.be_asking.proofs.Makers.{asked_by, made_by}
@@ -18,7 +19,6 @@ use Rattle.be_asking.specs.declared.want.Want.{Want}
 use Rattle.be_asking.specs.declared.want.Want.TheVariants as want
 use Rattle.be_hall.specs.Hands.{meant}
 use Rattle.be_hall.specs.Machine.{Fits}
-use Rattle.be_machine.proofs.Lists.{is_same_number}
 use Rattle.be_machine.specs.Activities as machine
 use Rattle.be_machine.specs.Activities.{activity_of}
 use Rattle.be_machine.specs.State.{State}
@@ -94,8 +94,8 @@ quiet d s machine.closing v q = refl
 
 -- a runner is itself
 pub is_itself : (r : machine.Runner) → same_runner r r ≡ true
-is_itself (machine.app m) = is_same_number m
-is_itself (machine.looper w) = is_same_number w
+is_itself (machine.app m) = eq_self m
+is_itself (machine.looper w) = eq_self w
 
 -- ---- what may be asked for
 

@@ -11,9 +11,7 @@ use Rattle.be_geom.specs.declared.point.Point.{Point}
 use Rattle.be_geom.specs.declared.rect.Rect.{Rect}
 use Rattle.be_hall.specs.Hands.{meant, part_at}
 use Rattle.be_hall.specs.Machine.{Fits}
-use Rattle.be_machine.proofs.Lists.{is_same_number}
 use Rattle.be_machine.proofs.PixelExposed.{owned_cell_after}
-use Rattle.be_machine.proofs.ReadsDirt.{number_is}
 use Rattle.be_machine.specs.Lists.{with_both}
 use Rattle.be_machine.specs.Pixels.{owner_in}
 use Rattle.be_machine.specs.State.{State}
@@ -51,6 +49,8 @@ use Rattle.be_update.specs.Surveys.{IsSurveyOf, Surveyed}
 use Rattle.be_views.specs.Trees.{Tree, place_of as view_place, preorder}
 use Rattle.be_noted.proofs.Makers.{SaysOfEach, trace_is}
 use Rattle.std.specs.Borrow.{Bor}
+use Rattle.be_facts.proofs.Numbers.{eq_self}
+use Rattle.be_geom.proofs.Numbered.{number_is}
 use Rattle.be_written.specs.declared.note.Note.TheVariants as note
 use Rattle.be_noted.proofs.Texts.{no_text}
 use Rattle.be_noted.specs.Listed.{IsListed}
@@ -131,13 +131,13 @@ module _ (d : Declared) (parts : List (ℕ × Part)) (w : ℕ) (allowed : IsAllo
   pub says_listed : (views : Bor (List (ℕ × Rect))) → IsListed d parts w views.now → SaysOfEach d parts (by.Looper w) (note.Listed views)
   says_listed views is e number all sound fits =
       trace_is d parts (who.Runner (by.Looper w)) (want.Begins w) allowed e number all sound fits
-      ∙ ap (λ b. if b then map (λ p. line_of p.0 p.1) (listing_of (state_of d all) w) else []) (is_same_number w)
+      ∙ ap (λ b. if b then map (λ p. line_of p.0 p.1) (listing_of (state_of d all) w) else []) (eq_self w)
       ∙ ap (map (λ p. line_of p.0 p.1)) (is all sound fits)
 
   pub none_listed : IsListed d parts w [] → IsNoted d parts (who.Runner (by.Looper w)) []
   none_listed is e number all sound fits =
       no_text d (state_of d all) e (trace_is d parts (who.Runner (by.Looper w)) (want.Begins w) allowed e number all sound fits
-      ∙ ap (λ b. if b then map (λ p. line_of p.0 p.1) (listing_of (state_of d all) w) else []) (is_same_number w)
+      ∙ ap (λ b. if b then map (λ p. line_of p.0 p.1) (listing_of (state_of d all) w) else []) (eq_self w)
       ∙ ap (map (λ p. line_of p.0 p.1)) (is all sound fits))
 
   -- a survey of the window's pane is one of the pane in hand

@@ -1,5 +1,5 @@
 -- What a history of rules whose parts keep notes tells.
-use Rattle.std.proofs.Common.{◌≡◌, ℕ, zero, suc, ◌<◌, Bool, true, false, List, [], ◌∷◌, ◌++◌, append_assoc, append-nil, map, length, if◌then◌else◌, ◌==◌, Option, Some, refl, sym, ap, ◌∙◌, subst, arith}
+use Rattle.std.proofs.Common.{◌≡◌, ℕ, zero, suc, ◌<◌, Bool, true, false, List, [], ◌∷◌, ◌++◌, append_assoc, append-nil, length, if◌then◌else◌, ◌==◌, Option, Some, refl, sym, ap, ◌∙◌, subst, arith}
 use mathlib.Core.Option.{some, some-injective}
 use lib.ListN.{get_elem?}
 use Rattle.be_hall.specs.Machine.{Machine, Lawful, Legal, leads}
@@ -9,11 +9,6 @@ use Rattle.be_noting.specs.Histories.{TellsAll}
 use Rattle.be_noting.specs.Noting.{Noted, meanings, all_notes, legal_of, noted_at, noted_from, noting}
 use Rattle.be_noting.proofs.KeepLaws.{as_long, means_after, sound_next}
 use Rattle.be_noting.proofs.NoteLists.{at_map, inside, noted_there, there, with_at}
-
--- what parts mean, read in two steps
-pub means_twice : {T A B : Type 0} (f : A → B) (meaning : T → A) (parts : List T) → map f (map meaning parts) ≡ map (λ t. f (meaning t)) parts
-means_twice f meaning [] = refl
-means_twice f meaning (x ∷ xs) = ap (λ l. f (meaning x) ∷ l) (means_twice f meaning xs)
 
 module _ {M N E : Type 0} (x : Machine M E) (told : List M → E → List N) where
   -- ---- without the notes

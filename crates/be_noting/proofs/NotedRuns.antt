@@ -2,13 +2,14 @@
 use Rattle.std.proofs.Common.{◌≡◌, ℕ, Bool, List, [], ◌++◌, map, Option, sym, ap, ◌∙◌, subst}
 use mathlib.Core.Option.{some}
 use lib.ListN.{get_elem?}
+use Rattle.be_facts.proofs.Lists.{map_map}
 use Rattle.be_hall.specs.Machine.{Machine, AllFit, Lawful}
 use Rattle.be_hall.specs.Numbers.{total}
 use Rattle.be_turns.specs.Turning.{IsFinished}
 use Rattle.be_serial.specs.Scheduled.{Picked}
 use Rattle.be_noting.specs.Noting.{Noted, closed_of, legal_of, noted_from, noting}
 use Rattle.be_noting.proofs.NoteLists.{all_fit_back, at_map, total_map}
-use Rattle.be_noting.proofs.NotedHistories.{finished_seen, means_twice, notes_left, picked_seen}
+use Rattle.be_noting.proofs.NotedHistories.{finished_seen, notes_left, picked_seen}
 
 module _ {T M N E : Type 0} (x : Machine M E) (told : List M → E → List N) (meaning : T → Noted M N) where
   -- what a part means without its notes
@@ -19,7 +20,7 @@ module _ {T M N E : Type 0} (x : Machine M E) (told : List M → E → List N) (
 
   module _ (parts : List T) where
     means_are : map (λ (y : Noted M N). y.means) (map meaning parts) ≡ map means parts
-    means_are = means_twice (λ (y : Noted M N). y.means) meaning parts
+    means_are = map_map (λ (y : Noted M N). y.means) meaning parts
 
     pub sound_begins : x.sound (map means parts) → (noting x told).sound (map meaning parts)
     sound_begins sound = subst x.sound (sym means_are) sound

@@ -1,25 +1,12 @@
 -- The views of a window, one by one, and their colours.
-use Rattle.std.specs.Prelude.{pos, ◌-ℤ◌, ◌≤ℤ◌, ◌==◌, ◌&&◌, Bool, true, cond, nat_le, slice_get}
+use Rattle.std.specs.Prelude.{pos, ◌-ℤ◌, ◌≤ℤ◌, ◌==◌, Bool, cond}
 use Rattle.std.specs.List.{filter}
-use Rattle.std.proofs.Common.{◌≡◌, ℕ, suc, ◌+◌, ◌<◌, List, [], ◌∷◌, ◌++◌, Some, length, map, take, get_or, ◌≢◌, sym, ap, subst, ◌∙◌, eq-eqb, arith}
+use Rattle.std.proofs.Common.{◌≡◌, ℕ, ◌+◌, ◌<◌, List, [], ◌∷◌, ◌++◌, length, map, take, get_or, ◌≢◌, sym, ap, subst, ◌∙◌, eq-eqb}
 use Rattle.std.proofs.lemmas.Bool.{ne_eqb}
-use Rattle.std.proofs.lemmas.Int.{ints}
-use Rattle.std.proofs.lemmas.List.{append-nil, length-map, map-append}
+use Rattle.std.proofs.lemmas.List.{append-nil, map-append}
 use Rattle.std.proofs.lemmas.List.Elements.{filter_more}
 use Rattle.be_geom.specs.declared.rect.Rect.{Rect}
-use Rattle.be_geom.proofs.Between.{between_tells}
-use Rattle.be_script.specs.Limits.{IsWithinLimits, is_frame, is_window_line}
-use Rattle.be_script.proofs.RoutableLemmas.{all-at}
-use Rattle.be_script.proofs.WorkNumbers.{and-left}
-use Rattle.be_script.specs.Script.{Declared}
-use Rattle.be_script.specs.Windows.{colors_of, tree_of, view_lines}
 use Rattle.be_script.specs.declared.ViewLine.{ViewLine}
-use Rattle.be_script.specs.declared.WindowLine.{WindowLine}
-
--- each view has a colour
-pub as_many : (d : Declared) (w : ℕ) (line : WindowLine) → length (colors_of d w line) ≡ length (tree_of d w line)
-unfolding colors_of tree_of
-as_many d w line = ap (λ n. suc n) (length-map (view_lines d w) _ ∙ sym (length-map (view_lines d w) _))
 
 -- ---- one view more
 
@@ -52,16 +39,3 @@ pub record IsSized (r : Rect) : Type 0 where
   pub wide : (r.right -ℤ r.left) ≤ℤ pos 32767
   pub down : pos 0 ≤ℤ (r.bottom -ℤ r.top)
   pub high : (r.bottom -ℤ r.top) ≤ℤ pos 32767
-
-pub frame_sized : (r : Rect) → is_frame r ≡ true → IsSized r
-frame_sized r is = record {
-  across = grind (arith, ints, between_tells);
-  wide = grind (arith, ints, between_tells);
-  down = grind (arith, ints, between_tells);
-  high = grind (arith, ints, between_tells);
-}
-
--- a window of a script within its limits
-pub line_framed : (d : Declared) (w : ℕ) (line : WindowLine) → IsWithinLimits d → slice_get d.windows w ≡ Some line → is_frame line.frame ≡ true
-line_framed d w line limits got =
-    and-left (is_frame line.frame) (nat_le 1 line.port) (and-left (is_frame line.frame && nat_le 1 line.port) (nat_le line.port 100) (all-at is_window_line d.windows w line limits.windows got))

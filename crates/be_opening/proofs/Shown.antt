@@ -24,7 +24,7 @@ use Rattle.be_opening.proofs.Lists.{got_enumerated, got_none}
 
 -- ---- no pixel
 
-none_if : (b : Bool) (o : Option Cell) → o ≡ None → (if b then o else None) ≡ None
+pub none_if : (b : Bool) (o : Option Cell) → o ≡ None → (if b then o else None) ≡ None
 none_if true o e = e
 none_if false o e = refl
 

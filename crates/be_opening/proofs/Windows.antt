@@ -1,14 +1,16 @@
 -- The windows of the opening, one by one, and their views.
-use Rattle.std.specs.Prelude.{ℤ, pos, ◌+ℤ◌, ◌-ℤ◌, slice_get, option_and_then}
+use Rattle.std.specs.Prelude.{pos, ◌+ℤ◌, ◌-ℤ◌, slice_get, option_and_then}
 use Rattle.std.specs.List.{range_with_len, enumerate_from}
-use Rattle.std.proofs.Common.{◌≡◌, ℕ, zero, suc, ◌+◌, List, [], ◌∷◌, ◌++◌, length, map, reverse, replicate, take, get_or, ◌<◌, Option, Some, None, refl, sym, ap, subst, ◌∙◌, arith}
+use Rattle.std.proofs.Common.{◌≡◌, ℕ, suc, ◌+◌, List, [], ◌∷◌, ◌++◌, length, map, reverse, replicate, take, get_or, ◌<◌, Option, Some, None, refl, sym, ap, subst, ◌∙◌, arith}
 use Rattle.std.proofs.lemmas.Int.{ints}
 use Rattle.std.proofs.lemmas.List.{length-map, length-take-le, length_push, map-append, reverse-append, take_more}
 use Rattle.std.proofs.lemmas.List.FromFn.{length-enumerate_from}
 use Rattle.std.proofs.lemmas.Option.{same_Some, slice_get-map}
+use Rattle.be_facts.proofs.Lists.{range_more}
 use Rattle.be_desk.specs.Changes.{Desk}
 use Rattle.be_desk.specs.Desks.{IsPaired, IsRootIn, at_origin, root_of}
 use Rattle.be_geom.specs.declared.rect.Rect.{Rect}
+use Rattle.be_geom.proofs.RectLemmas.{same_rects}
 use Rattle.be_input.specs.Pointing.{Pointing}
 use Rattle.be_machine.specs.State.{flags_of, opening_desk, opening_window}
 use Rattle.be_machine.proofs.Found.{IsMapped, mapped}
@@ -33,12 +35,6 @@ windows_of width height lines = record {
   windows = map opening_window lines;
   active = None;
 }
-
-range_more : (a n : ℕ) → range_with_len a (suc n) ≡ range_with_len a n ++ (a + n) ∷ []
-range_more a zero = let e : a ≡ a + 0 = omega arith in ap (λ k. k ∷ []) e
-range_more a (suc n) =
-    let e : a + 1 + n ≡ a + suc n = omega arith in
-    ap (λ l. a ∷ l) (range_more (a + 1) n ∙ ap (λ k. range_with_len (a + 1) n ++ k ∷ []) e)
 
 order_more : (n : ℕ) → n ∷ reverse (range_with_len 0 n) ≡ reverse (range_with_len 0 (suc n))
 order_more n =
@@ -71,12 +67,9 @@ next_window width height lines seen i line w flags old new same less is before n
 
 -- ---- views
 
-same_rect : (a b c d e f g h : ℤ) → a ≡ b → c ≡ d → e ≡ f → g ≡ h → ◌≡◌ {A = Rect} (record { left = a; top = c; right = e; bottom = g }) (record { left = b; top = d; right = f; bottom = h })
-same_rect a b c d e f g h p q r s = cc
-
 root_is : (r : Rect) → root_frame (r.right -ℤ r.left) (r.bottom -ℤ r.top) ≡ at_origin r
 root_is r =
-    same_rect (pos 0) (r.left +ℤ (pos 0 -ℤ r.left)) (pos 0) (r.top +ℤ (pos 0 -ℤ r.top)) (r.right -ℤ r.left) (r.right +ℤ (pos 0 -ℤ r.left)) (r.bottom -ℤ r.top) (r.bottom +ℤ (pos 0 -ℤ r.top)) (omega (arith, ints)) (omega (arith, ints)) (omega (arith, ints)) (omega (arith, ints))
+    same_rects (pos 0) (r.left +ℤ (pos 0 -ℤ r.left)) (pos 0) (r.top +ℤ (pos 0 -ℤ r.top)) (r.right -ℤ r.left) (r.right +ℤ (pos 0 -ℤ r.left)) (r.bottom -ℤ r.top) (r.bottom +ℤ (pos 0 -ℤ r.top)) (omega (arith, ints)) (omega (arith, ints)) (omega (arith, ints)) (omega (arith, ints))
 
 root_in : (line : WindowLine) → IsRootIn (opening_window line) (root_view line)
 root_in line = record { top = refl; frame = root_is line.frame }

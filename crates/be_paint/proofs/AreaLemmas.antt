@@ -1,8 +1,9 @@
 -- Numbers and pixels that two have in common.
-use Rattle.std.proofs.Common.{◌≡◌, ℤ, Bool, true, false, ◌&&◌, ◌+ℤ◌, ◌-ℤ◌, ◌≤ℤ◌, ◌<ℤ◌, ◌⊎◌, inl, inr, Option, Some, None, SFits, w16, refl, sym, ap, ◌∙◌, arith, rules}
+use Rattle.std.proofs.Common.{◌≡◌, ℤ, Bool, true, false, ◌&&◌, ◌+ℤ◌, ◌-ℤ◌, ◌≤ℤ◌, ◌<ℤ◌, ◌⊎◌, inl, inr, Option, Some, None, refl, sym, ap, ◌∙◌, arith}
 use Rattle.std.specs.Prelude.{IfNone}
 use Rattle.std.specs.Int.{int_max, int_min}
 use Rattle.std.proofs.lemmas.Int.{ints, clamps}
+use Rattle.be_facts.proofs.Truths.{four_tests}
 use Rattle.be_geom.specs.declared.rect.Rect.{Rect}
 use Rattle.be_geom.specs.Points.{between}
 use Rattle.be_geom.specs.Rects.{rect_has, moved_rect, HasPixelsOfBoth, AreDisjoint}
@@ -14,12 +15,6 @@ inner_is a b low high first last e f z = grind (arith, ints, clamps, between_tel
 
 pub inner_none : (a b low high first last : ℤ) → first ≡ int_max a low → last ≡ int_min b high → last <ℤ first → HaveNone a b low high
 inner_none a b low high first last e f less z = grind (arith, ints, clamps, between_tells)
-
-four_tests : (p q r s : Bool) → ((p && q) && (r && s)) ≡ ((p && r) && (q && s))
-four_tests true q true s = refl
-four_tests true true false s = refl
-four_tests true false false s = refl
-four_tests false q r s = refl
 
 pub part_has : (r a b : Rect) → AreInner r.left r.right a.left a.right b.left b.right → AreInner r.top r.bottom a.top a.bottom b.top b.bottom → HasPixelsOfBoth r a b
 part_has r a b across down x y =
@@ -46,9 +41,6 @@ none_down a b none x y =
 pub where_none : {X : Type 0} (o : Option X) (P : Type 0) → P → IfNone o P
 where_none None P p = p
 where_none (Some x) P p = tt
-
-pub between_fits : (z low high : ℤ) → SFits w16 low → SFits w16 high → low ≤ℤ z → z ≤ℤ high → SFits w16 z
-between_fits z low high f g from to = search rules
 
 -- ---- moved rectangles
 
@@ -94,10 +86,3 @@ pub owned_part : (own moved frame : Bool) → (own ≡ true → frame ≡ true) 
 owned_part true true frame holds e = sym (holds refl) ∙ e
 owned_part true false frame holds e = refl
 owned_part false moved frame holds e = refl
-
-pub unowned : (own moved : Bool) → own ≡ false → (own && moved) ≡ false
-unowned own moved e = ap (λ b. b && moved) e
-
-pub moved_part : (moved frame : Bool) → (moved && frame) ≡ true → moved ≡ true
-moved_part true frame e = refl
-moved_part false frame e = e

@@ -1,51 +1,27 @@
 -- The bits of a mask.
-use Rattle.std.proofs.Common.{rules, ◌≡◌, ℕ, ◌+◌, ◌-◌, ◌*◌, ◌/◌, ◌%◌, ◌^◌, ◌<◌, ◌≤◌, ◌==◌, ◌&&◌, ◌||◌, nat_lt, Bool, true, false, max, refl, ap, ap₂, sym, ◌∙◌, ⊎_elim, arith}
+use Rattle.std.proofs.Common.{rules, ◌≡◌, ℕ, ◌+◌, ◌-◌, ◌*◌, ◌/◌, ◌%◌, ◌^◌, ◌<◌, ◌≤◌, ◌==◌, ◌&&◌, ◌||◌, false, max, ap, ap₂, sym, ◌∙◌, ⊎_elim, arith}
 use Rattle.std.specs.Int.{bit_at}
 use Rattle.std.specs.Int.Bits.{bit_or}
 use Rattle.std.proofs.lemmas.Bool.{cases_lt, lt-ltb}
 use Rattle.std.proofs.lemmas.Bool.Decides.{nat_tests}
-use Rattle.std.proofs.lemmas.Nat.{shr-shr, shr_split}
-use Rattle.std.proofs.lemmas.Nat.Bits.{bit_at_cat_low, bit_at_cat_high, bit_at-zero, bit_at-lt, bit_at_or, bit_at_above}
+use Rattle.std.proofs.lemmas.Nat.{shr-shr}
+use Rattle.std.proofs.lemmas.Nat.Bits.{bit_at-zero, bit_at-lt, bit_at_or, bit_at_above}
+use Rattle.be_facts.proofs.Numbers.{kept_bit, shifted_below, shifted_bit}
 use Rattle.be_font.specs.Runs.{row_bit}
 use Rattle.be_font.proofs.RunLemmas.{row_bit-past}
 use Rattle.be_span.specs.Slices.{mask_bit}
+use Rattle.be_span.proofs.MaskLemmas.{mask_unset, mask_within}
 
 -- ---- single bits
 
 shr_bit : (a n i : ℕ) → bit_at (a / 2 ^ n) i ≡ bit_at a (n + i)
 shr_bit a n i = ap (λ m. m % 2) (shr-shr a n i)
 
-none_below : (n : ℕ) → 0 < 2 ^ n
-none_below n = search rules
-
-no_more : (m : ℕ) → m ≡ m + 0
-no_more m = omega arith
-
-shl_bit : (a n i : ℕ) → n ≤ i → bit_at (a * 2 ^ n) i ≡ bit_at a (i - n)
-shl_bit a n i h = ap (λ m. bit_at m i) (no_more (a * 2 ^ n)) ∙ bit_at_cat_high a n 0 i (none_below n) h
-
-shl_bit_below : (a n i : ℕ) → i < n → bit_at (a * 2 ^ n) i ≡ 0
-shl_bit_below a n i h = ap (λ m. bit_at m i) (no_more (a * 2 ^ n)) ∙ bit_at_cat_low a n 0 i h ∙ bit_at-zero i
-
--- the bits that a number of w bits keeps
-kept_bit : (a w i : ℕ) → i < w → bit_at (a % 2 ^ w) i ≡ bit_at a i
-kept_bit a w i h = sym (bit_at_cat_low (a / 2 ^ w) w (a % 2 ^ w) i h) ∙ ap (λ n. bit_at n i) (shr_split a w)
-
 rest_below : (a w : ℕ) → (a % 2 ^ w) < 2 ^ w
 rest_below a w = search rules
 
-mask_within : (m k : ℕ) → k < 64 → mask_bit m k ≡ (bit_at m (63 - k) == 1)
-mask_within m k h = ap (λ b. b && (bit_at m (63 - k) == 1)) (lt-ltb k 64 h)
-
-both_not : (b : Bool) → (b && false) ≡ false
-both_not true = refl
-both_not false = refl
-
-mask_not : (m k : ℕ) → bit_at m (63 - k) ≡ 0 → mask_bit m k ≡ false
-mask_not m k e = ap (λ n. nat_lt k 64 && (n == 1)) e ∙ both_not (nat_lt k 64)
-
 pub mask_none : (k : ℕ) → mask_bit 0 k ≡ false
-mask_none k = mask_not 0 k (bit_at-zero (63 - k))
+mask_none k = mask_unset 0 k (bit_at-zero (63 - k))
 
 row_within : (byte column : ℕ) → column < 8 → row_bit byte column ≡ (bit_at byte (7 - column) == 1)
 unfolding row_bit
@@ -64,8 +40,8 @@ top_bit : (byte column : ℕ) → column < 64 → (bit_at (at_top byte) (63 - co
 top_bit byte column h =
     ap (λ n. n == 1) (kept_bit (byte * 2 ^ 56) 64 (63 - column) (omega arith))
     ∙ ⊎_elim
-    (λ within. ap (λ n. n == 1) (shl_bit byte 56 (63 - column) (omega arith)) ∙ ap (λ i. bit_at byte i == 1) (at_column column within) ∙ sym (row_within byte column within))
-    (λ past. ap (λ n. n == 1) (shl_bit_below byte 56 (63 - column) (omega arith)) ∙ sym (row_bit-past byte column past))
+    (λ within. ap (λ n. n == 1) (shifted_bit byte 56 (63 - column) (omega arith)) ∙ ap (λ i. bit_at byte i == 1) (at_column column within) ∙ sym (row_within byte column within))
+    (λ past. ap (λ n. n == 1) (shifted_below byte 56 (63 - column) (omega arith)) ∙ sym (row_bit-past byte column past))
     (cases_lt column 8)
 
 -- moved to the right
@@ -78,7 +54,7 @@ right_bit byte n k column h at =
 
 pub right_before : (byte n k : ℕ) → k < 64 → k < n → mask_bit (at_top byte / 2 ^ n) k ≡ false
 right_before byte n k h less =
-    mask_not (at_top byte / 2 ^ n) k (shr_bit (at_top byte) n (63 - k) ∙ bit_at_above (at_top byte) 64 (n + (63 - k)) (rest_below (byte * 2 ^ 56) 64) (omega arith))
+    mask_unset (at_top byte / 2 ^ n) k (shr_bit (at_top byte) n (63 - k) ∙ bit_at_above (at_top byte) 64 (n + (63 - k)) (rest_below (byte * 2 ^ 56) 64) (omega arith))
 
 -- moved to the left
 pub left_bit : (byte n k column : ℕ) → k < 64 → column ≡ k + n → mask_bit (at_top byte * 2 ^ n % 2 ^ 64) k ≡ row_bit byte column
@@ -86,8 +62,8 @@ left_bit byte n k column h at =
     mask_within (at_top byte * 2 ^ n % 2 ^ 64) k h
     ∙ ap (λ b. b == 1) (kept_bit (at_top byte * 2 ^ n) 64 (63 - k) (omega arith))
     ∙ ⊎_elim
-    (λ within. ap (λ b. b == 1) (shl_bit (at_top byte) n (63 - k) (omega arith)) ∙ ap (λ i. bit_at (at_top byte) i == 1) (let e : 63 - k - n ≡ 63 - column = omega arith in e) ∙ top_bit byte column within)
-    (λ past. ap (λ b. b == 1) (shl_bit_below (at_top byte) n (63 - k) (omega arith)) ∙ sym (row_bit-past byte column (omega arith)))
+    (λ within. ap (λ b. b == 1) (shifted_bit (at_top byte) n (63 - k) (omega arith)) ∙ ap (λ i. bit_at (at_top byte) i == 1) (let e : 63 - k - n ≡ 63 - column = omega arith in e) ∙ top_bit byte column within)
+    (λ past. ap (λ b. b == 1) (shifted_below (at_top byte) n (63 - k) (omega arith)) ∙ sym (row_bit-past byte column (omega arith)))
     (cases_lt column 64)
 
 -- moved out of them

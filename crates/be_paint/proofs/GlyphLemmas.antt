@@ -7,6 +7,7 @@ use Rattle.std.proofs.lemmas.Int.{ints, clamps}
 use Rattle.be_font.specs.Glyphs.{glyph_bit}
 use Rattle.std.specs.Int.{int_min}
 use Rattle.std.specs.Int.Bits.{bit_or}
+use Rattle.be_facts.proofs.Truths.{or_regroup}
 use Rattle.be_font.specs.Runs.{row_bit}
 use Rattle.be_font.proofs.RowLemmas.{glyph_bit-column_past, glyph_bit-row_past}
 use Rattle.be_span.specs.Slices.{mask_bit}
@@ -136,10 +137,6 @@ abbrev pub AreGathered : List ℕ → List ℕ → ℤ → ℤ → ℤ → List 
 AreGathered codes rest pen left x masks = (pen_y : ℤ) (k row : ℕ) → k < 64 → row < 7
     → text_has codes pen pen_y (x +ℤ pos k) (pen_y -ℤ pos 6 +ℤ pos row) ≡ (mask_bit (slice_index masks row) k || text_has rest left pen_y (x +ℤ pos k) (pen_y -ℤ pos 6 +ℤ pos row))
 
-one_more : (a b c : Bool) → (a || (b || c)) ≡ ((a || b) || c)
-one_more true b c = refl
-one_more false b c = refl
-
 pub gathered_more : (codes : List ℕ) (i code : ℕ) (masks new : List ℕ) (pen left x : ℤ) → i < length codes → code ≡ get_or codes i 0 → ((k row : ℕ) → k < 64 → row < 7 → mask_bit (slice_index new row) k ≡ (mask_bit (slice_index masks row) k || glyph_covers code (pos k -ℤ (left -ℤ x)) (pos row))) → AreGathered codes (drop i codes) pen left x masks → AreGathered codes (drop (suc i) codes) pen (pen_behind left) x new
 gathered_more codes i code masks new pen left x inside read added before pen_y k row h r =
     let y : ℤ = pen_y -ℤ pos 6 +ℤ pos row in
@@ -148,7 +145,7 @@ gathered_more codes i code masks new pen left x inside read added before pen_y k
     let down : y -ℤ pen_y +ℤ pos 6 ≡ pos row = omega (arith, ints) in
     before pen_y k row h r
     ∙ ap (λ b. mask_bit (slice_index masks row) k || b) (text_next codes i code left pen_y (x +ℤ pos k) y inside read ∙ ap (λ b. b || next) (ap₂ (glyph_covers code) across down))
-    ∙ one_more (mask_bit (slice_index masks row) k) (glyph_covers code (pos k -ℤ (left -ℤ x)) (pos row)) next
+    ∙ or_regroup (mask_bit (slice_index masks row) k) (glyph_covers code (pos k -ℤ (left -ℤ x)) (pos row)) next
     ∙ ap (λ b. b || next) (sym (added k row h r))
 
 none_more : (a b : Bool) → b ≡ false → (a || b) ≡ a

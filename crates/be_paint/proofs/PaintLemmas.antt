@@ -6,6 +6,7 @@ use Rattle.std.proofs.Common.{inl, inr, refl, sym, ap, ap₂, ◌∙◌, arith}
 use Rattle.std.proofs.lemmas.Int.{ints, by_lt_z}
 use Rattle.std.proofs.lemmas.Bool.{true≢false}
 use Rattle.std.proofs.lemmas.Option.{none-some}
+use Rattle.be_facts.proofs.Truths.{true_or_false}
 use Rattle.be_bitmap.specs.Pictures.{Picture, bitmap_pixel}
 use Rattle.be_color.specs.declared.colors.Color.{Color}
 use Rattle.be_color.specs.declared.patterns.Pattern.{Pattern}
@@ -29,9 +30,10 @@ use Rattle.be_span.specs.declared.Cell.{Cell}
 use Rattle.be_span.specs.Slices.{color_or_clear, painted, pattern_color}
 use Rattle.be_span.specs.Spans.{Spans, cell_in}
 use Rattle.be_span.proofs.CellLemmas.{cell_none}
-use Rattle.be_span.proofs.GridLemmas.{either, has_from}
+use Rattle.be_span.proofs.GridLemmas.{has_from}
 use Rattle.be_state.specs.declared.State.{State}
 use Rattle.be_state.specs.Stacks.{allows, base_of, clip_has}
+use Rattle.be_bitmap.proofs.PixelLemmas.{pixel_over, pixel_before}
 use Rattle.be_paint.specs.Inks.{Ink, shape, text, image, source_at, laid_on_cell, painted_cell}
 use Rattle.be_paint.specs.Inks.{text_has}
 use Rattle.be_paint.specs.Laying.{brush_of, descent_of, laid, source_on}
@@ -39,7 +41,7 @@ use Rattle.be_paint.specs.Reach.{Reach, is_reached, session_has}
 use Rattle.be_paint.specs.Seen.{IsSeenAs, IsSite, has_session}
 use Rattle.be_paint.specs.declared.reach.Reach as given
 use Rattle.be_paint.specs.declared.reach.Site.{Site}
-use Rattle.be_paint.proofs.PictureLemmas.{above_of, below_of, left_of, right_of}
+use Rattle.be_paint.proofs.PictureLemmas.{below_of, right_of}
 use Rattle.be_paint.proofs.SeenLemmas.{seen_at, seen_on, session_same}
 
 -- ---- where the view may draw
@@ -110,7 +112,7 @@ painted_is rects g site seen way ink old x y c stands is from has =
 has_region : (s : Spans) (x y : ℤ) (c : Cell) → cell_in s x y ≡ Some c
     → region_has s.rects x y ≡ true
 has_region s x y c e =
-    elim (either (region_has s.rects x y)) [
+    elim (true_or_false (region_has s.rects x y)) [
       | inl has ↦ has
       | inr out ↦ absurd (none-some c (sym (cell_none s x y out) ∙ e))
     ]
@@ -137,7 +139,7 @@ laid_painted g site seen way ink old new stands is from done x y =
     (λ c e. painted_is old.rects g site seen way ink (cell_in old) x y c stands is from
     (has_region old x y c e))
 
-mark_left : (s : State) (c : Cell) (o : Option Color) → (laid_on_cell s c o).dirty ≡ c.dirty
+pub mark_left : (s : State) (c : Cell) (o : Option Color) → (laid_on_cell s c o).dirty ≡ c.dirty
 mark_left s c None = refl
 mark_left s c (Some color) = refl
 
@@ -235,10 +237,10 @@ color_laid s None c = refl
 none_outside : (picture : Picture) (u v : ℤ) → rect_has (frame_of picture) u v ≡ false
     → bitmap_pixel picture u v ≡ None
 none_outside picture u v out =
-    by_lt_z u (pos 0) (λ h. left_of picture u v h)
+    by_lt_z u (pos 0) (λ h. pixel_before picture u v h)
     (λ from. by_lt_z (pos picture.width -ℤ pos 1) u
     (λ h. right_of picture u v (omega (arith, ints, h)))
-    (λ to. by_lt_z v (pos 0) (λ h. above_of picture u v h)
+    (λ to. by_lt_z v (pos 0) (λ h. pixel_over picture u v h)
     (λ down. by_lt_z (pos picture.height -ℤ pos 1) v
     (λ h. below_of picture u v (omega (arith, ints, h)))
     (λ up. absurd (true≢false (sym (has_from (frame_of picture) u v record {
@@ -269,7 +271,7 @@ is_image picture corner s window way at across down = record {
 
 -- ---- rules that agree
 
-same_mapped : (f g : Cell → Cell) (old : Option Cell) → ((c : Cell) → f c ≡ g c)
+pub same_mapped : (f g : Cell → Cell) (old : Option Cell) → ((c : Cell) → f c ≡ g c)
     → option_map f old ≡ option_map g old
 same_mapped f g None same = refl
 same_mapped f g (Some c) same = ap Some (same c)

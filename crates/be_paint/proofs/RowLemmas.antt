@@ -1,34 +1,19 @@
 -- Cells changed run by run and row by row.
 use Rattle.std.specs.Prelude.{unsigned_abs}
-use Rattle.std.proofs.Common.{◌≡◌, ◌⊎◌, ℕ, ◌<◌, ℤ, pos, negsuc, true, false, Option, Some, None, ◌+ℤ◌, ◌-ℤ◌, ◌≤ℤ◌, ◌<ℤ◌, inl, inr, refl, sym, ap, subst, ◌∙◌, arith}
+use Rattle.std.proofs.Common.{◌≡◌, ◌⊎◌, ℕ, ◌<◌, ℤ, pos, true, false, ◌+ℤ◌, ◌-ℤ◌, ◌≤ℤ◌, ◌<ℤ◌, inl, inr, refl, sym, ap, subst, ◌∙◌, arith}
 use Rattle.std.specs.Option.{option_map}
 use Rattle.std.proofs.lemmas.Int.{ints, by_lt_z}
+use Rattle.be_facts.proofs.Numbers.{unsigned_abs_is}
 use Rattle.be_geom.specs.declared.rect.Rect.{Rect}
 use Rattle.be_span.specs.declared.Cell.{Cell}
 use Rattle.be_span.specs.Runs.{IsBeside}
 use Rattle.be_span.specs.Spans.{Spans, cell_in}
 use Rattle.be_geom.specs.Rects.{rect_has}
+use Rattle.be_span.proofs.CellLemmas.{kept_map, same_map}
 use Rattle.be_paint.specs.Areas.{IsRowChanged, IsAreaChanged}
 use Rattle.be_paint.proofs.AreaLemmas.{rect_sides}
 
--- ---- options
-
-pub same_map : (f g : Cell → Cell) → ((c : Cell) → f c ≡ g c) → (o : Option Cell) → option_map f o ≡ option_map g o
-same_map f g h None = refl
-same_map f g h (Some c) = ap Some (h c)
-
-pub kept_map : (f : Cell → Cell) → ((c : Cell) → f c ≡ c) → (o : Option Cell) → o ≡ option_map f o
-kept_map f h None = refl
-kept_map f h (Some c) = ap Some (sym (h c))
-
 -- ---- runs
-
-pub abs_is : (z : ℤ) → pos 0 ≤ℤ z → pos (unsigned_abs z) ≡ z
-abs_is (pos n) h = refl
-abs_is (negsuc n) h = absurd (omega (arith, ints))
-
-pub abs_less : (p q : ℤ) → pos 0 ≤ℤ p → p <ℤ q → unsigned_abs p < unsigned_abs q
-abs_less p q low less = let a = abs_is p low in let b = abs_is q (omega (arith, ints)) in omega (arith, ints)
 
 pub ahead_of : (x way sx : ℤ) (k : ℕ) → sx ≡ x -ℤ way → sx +ℤ pos k ≡ x +ℤ pos k -ℤ way
 ahead_of x way sx k e = omega (arith, ints)
@@ -43,7 +28,7 @@ pub row_of_run : (rule : ℤ → Cell → Cell) (old new : Spans) (x y last : �
 row_of_run rule old new x y last n e each others = record {
   inside = λ z from to.
       let k : ℕ = unsigned_abs (z -ℤ x) in
-      let is = abs_is (z -ℤ x) (omega (arith, ints)) in
+      let is = unsigned_abs_is (z -ℤ x) (omega (arith, ints)) in
       let at : x +ℤ pos k ≡ z = omega (arith, ints) in
       let P : ℤ → Type 0 = λ a. cell_in new a y ≡ option_map (rule a) (cell_in old a y) in
       subst P at (each k (omega (arith, ints)));

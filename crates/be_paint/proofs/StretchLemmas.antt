@@ -1,5 +1,5 @@
 -- Answers that hold along a row: moved from one kind of coordinates to another, and joined.
-use Rattle.std.proofs.Common.{◌≡◌, ℤ, pos, negsuc, ◌+ℤ◌, ◌-ℤ◌, ◌≤ℤ◌, ◌⊎◌, Bool, true, false, ◌&&◌, SFits, w16, w32, arith, rules, sym, ap, ◌∙◌, refl}
+use Rattle.std.proofs.Common.{◌≡◌, ℤ, pos, negsuc, ◌+ℤ◌, ◌-ℤ◌, ◌≤ℤ◌, ◌⊎◌, Bool, true, false, SFits, w16, w32, arith, rules, sym, ap, ◌∙◌}
 use Rattle.std.proofs.lemmas.Int.{ints, clamps}
 use Rattle.std.specs.Prelude.{if◌then◌else◌}
 use Rattle.std.specs.Int.{int_min}
@@ -8,9 +8,6 @@ use Rattle.be_geom.specs.Places.{IsNear}
 use Rattle.be_geom.specs.Stretches.{IsStretch, IsCoordinate}
 
 -- ---- numbers
-
-pub less_fits : (x w : ℤ) → IsCoordinate x → SFits w16 w → SFits w32 (x -ℤ w)
-less_fits x w (low, high) f = search rules
 
 pub near_fits : (x w : ℤ) → IsNear 3 x → SFits w16 w → SFits w32 (x -ℤ w)
 near_fits x w (low, high) f = search rules
@@ -56,33 +53,6 @@ cut_run f x end last r run ahead e =
       same = λ z from to. run.same z from (omega (arith, ints, clamps));
     }
 
-pub both_false : (a b : Bool) → a ≡ false → (a && b) ≡ false
-both_false true b e = cc
-both_false false b e = refl
-
-pub both_true : (a b : Bool) → a ≡ true → (a && b) ≡ b
-both_true true b e = refl
-both_true false b e = cc
-
--- where the first says no, both do
-pub no_stretch : (f g : ℤ → Bool) (x end last : ℤ) → IsStretch f x end last → f x ≡ false → IsStretch (λ z. f z && g z) x end last
-no_stretch f g x end last h first = record {
-  forward = h.forward;
-  within = h.within;
-  same = λ z from to. both_false (f z) (g z) (h.same z from to ∙ first) ∙ sym (both_false (f x) (g x) first);
-}
-
--- where the first says yes, the second decides
-pub yes_stretch : (f g : ℤ → Bool) (x end mid last : ℤ) → IsStretch f x end mid → f x ≡ true → IsStretch g x mid last → IsStretch (λ z. f z && g z) x end last
-yes_stretch f g x end mid last h first k =
-    let a = h.within in
-    let b = k.within in
-    record {
-      forward = k.forward;
-      within = omega (arith, ints);
-      same = λ z from to. both_true (f z) (g z) (h.same z from (omega (arith, ints)) ∙ first) ∙ k.same z from to ∙ sym (both_true (f x) (g x) first);
-    }
-
 -- where the first says no, the answer is the one that is left
 pub no_answer : {A : Type 0} (f : ℤ → Bool) (g : ℤ → A) (d : A) (x end last : ℤ) → IsStretch f x end last → f x ≡ false → IsStretch (λ z. if f z then g z else d) x end last
 no_answer f g d x end last h first = record {
@@ -112,7 +82,3 @@ moved_stretch f x end last off sx send r e g k h =
       within = omega (arith, ints);
       same = λ z from to. h.same (z -ℤ off) (omega (arith, ints)) (omega (arith, ints)) ∙ ap f e;
     }
-
--- what follows from an answer stays as long
-pub mapped : {A B : Type 0} (g : A → B) (f : ℤ → A) (x end last : ℤ) → IsStretch f x end last → IsStretch (λ z. g (f z)) x end last
-mapped g f x end last h = record { forward = h.forward; within = h.within; same = λ z from to. ap g (h.same z from to) }

@@ -1,37 +1,31 @@
 -- Masks of 64 columns of a text.
 use Rattle.std.specs.Prelude.{nat_lt, slice_index}
-use Rattle.std.specs.Int.{bit_at}
-use Rattle.std.proofs.Common.{◌≡◌, ℕ, ◌<◌, ◌≤◌, ◌-◌, ℤ, pos, negsuc, ◌+ℤ◌, ◌-ℤ◌, ◌≤ℤ◌, ◌<ℤ◌, Bool, true, false, ◌&&◌, ◌==◌}
-use Rattle.std.proofs.Common.{List, ◌⊎◌, inl, inr, refl, sym, ap, ap₂, ◌∙◌, ⊎_elim, arith}
+use Rattle.std.proofs.Common.{◌≡◌, ℕ, ◌<◌, ◌≤◌, ℤ, pos, negsuc, ◌+ℤ◌, ◌-ℤ◌, ◌≤ℤ◌, ◌<ℤ◌, Bool, true, false, ◌&&◌}
+use Rattle.std.proofs.Common.{List, ◌⊎◌, inl, inr, sym, ap, ap₂, ◌∙◌, ⊎_elim, arith}
 use Rattle.std.proofs.lemmas.Bool.{cases_lt, le-ltb, lt-ltb, true≢false}
 use Rattle.std.proofs.lemmas.Int.{ints, by_lt_z}
+use Rattle.be_facts.proofs.Truths.{and_false}
 use Rattle.be_descent.specs.declared.way.Way.{Way}
 use Rattle.be_descent.specs.Inks.{masks_bit, masks_have}
 use Rattle.be_geom.specs.declared.point.Point.{Point}
 use Rattle.be_geom.specs.Points.{between}
-use Rattle.be_shape.proofs.BetweenLemmas.{is_above, is_below, is_between}
+use Rattle.be_geom.proofs.Between.{is_above, is_below, is_between}
 use Rattle.be_span.specs.Slices.{mask_bit}
+use Rattle.be_span.proofs.MaskLemmas.{mask_past}
 use Rattle.be_paint.specs.Inks.{text_has}
 use Rattle.be_paint.specs.Laying.{AreMasksOf}
 use Rattle.be_paint.proofs.GlyphLemmas.{row_above, row_below, text_behind, text_none}
-
-none_and : (p : Bool) → (p && false) ≡ false
-none_and true = refl
-none_and false = refl
 
 -- outside of the rows of the glyphs no bit is set
 no_row : (codes : List ℕ) (px py p q : ℤ) (b : Bool)
     → ((q -ℤ py +ℤ pos 6) <ℤ pos 0) → (b && text_has codes px py p q) ≡ false
 no_row codes px py p q b above =
-    ap (λ c. b && c) (text_none codes px py p q (row_above (q -ℤ py +ℤ pos 6) above)) ∙ none_and b
+    ap (λ c. b && c) (text_none codes px py p q (row_above (q -ℤ py +ℤ pos 6) above)) ∙ and_false b
 
 no_row_below : (codes : List ℕ) (px py p q : ℤ) (b : Bool)
     → pos 7 ≤ℤ (q -ℤ py +ℤ pos 6) → (b && text_has codes px py p q) ≡ false
 no_row_below codes px py p q b below =
-    ap (λ c. b && c) (text_none codes px py p q (row_below (q -ℤ py +ℤ pos 6) below)) ∙ none_and b
-
-mask_past : (m k : ℕ) → 64 ≤ k → mask_bit m k ≡ false
-mask_past m k h = ap (λ b. b && (bit_at m (63 - k) == 1)) (le-ltb k 64 h)
+    ap (λ c. b && c) (text_none codes px py p q (row_below (q -ℤ py +ℤ pos 6) below)) ∙ and_false b
 
 -- a bit of the masks, by column and row from their first one
 bit_is : (codes masks : List ℕ) (px py x z t p q : ℤ) → AreMasksOf codes px py x masks
@@ -55,7 +49,7 @@ bit_is codes masks px py x (pos k) (pos row) p q of e f =
     past : 64 ≤ k → masks_bit masks (pos k) (pos row)
         ≡ (between x p (x +ℤ pos 63) && text_has codes px py p q)
     past many = ap (λ b. nat_lt row 7 && b) (mask_past (slice_index masks row) k many)
-        ∙ none_and (nat_lt row 7)
+        ∙ and_false (nat_lt row 7)
         ∙ sym (ap (λ b. b && text_has codes px py p q)
         (is_above x p (x +ℤ pos 63) (omega (arith, ints, e, many))))
 

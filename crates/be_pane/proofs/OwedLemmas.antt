@@ -1,12 +1,12 @@
 -- What waits in a pane, by the pixels that its window owns.
 use Rattle.std.proofs.Common.{◌≡◌, ℕ, ℤ, Bool, true, false, List, Option, Some, None, inl, inr, refl, sym, ap, ◌∙◌}
 use Rattle.std.proofs.lemmas.Option.{none-some}
+use Rattle.be_facts.proofs.Truths.{true_or_false}
 use Rattle.be_geom.specs.declared.point.Point.{Point}
 use Rattle.be_geom.specs.declared.rect.Rect.{Rect}
 use Rattle.be_span.specs.declared.Cell.{Cell}
 use Rattle.be_span.specs.Spans.{is_dirty}
 use Rattle.be_span.proofs.CellLemmas.{cell_none}
-use Rattle.be_span.proofs.GridLemmas.{either}
 use Rattle.be_views.specs.Trees.{Tree}
 use Rattle.be_pane.specs.Panes as machine
 use Rattle.be_pane.specs.declared.pane.Pane.{Pane}
@@ -27,7 +27,7 @@ closed_both None None same e = refl
 
 pub none_waits : (pane : Pane) (w : ℕ) (corner : Point) (kept : machine.Pane) (tree : Tree) (owned : ℤ → ℤ → Bool) (cells : ℤ → ℤ → Cell) → PaneStandsFor pane w corner kept tree owned cells → ((x y : ℤ) → owned x y ≡ true → (cells x y).dirty ≡ false) → IsClean pane.spans
 none_waits pane w corner kept tree owned cells stands none x y =
-    elim (either (owned x y)) [
+    elim (true_or_false (owned x y)) [
       | inl h ↦ ap is_dirty (stands.shown x y h) ∙ none x y h
       | inr h ↦ ap is_dirty (cell_none pane.spans x y (stands.pixels x y ∙ h))
     ]

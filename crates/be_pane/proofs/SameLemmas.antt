@@ -10,7 +10,7 @@ use Rattle.be_pane.specs.SameStacks.{SameClip, SameLayer, SameLayers, SameStack,
 
 -- ---- the same xs itself
 
-clip_self : (a : Option (List Rect)) → SameClip a a
+pub clip_self : (a : Option (List Rect)) → SameClip a a
 clip_self (Some rects) = λ x y. refl
 clip_self None = tt
 

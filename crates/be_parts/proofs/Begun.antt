@@ -1,33 +1,33 @@
 -- A pane in which an update began stands for the slice after that.
-use Rattle.std.proofs.Common.{◌≡◌, ℕ, ◌+◌, Bool, true, false, List, [], ◌∷◌, Option, Some, None, length, refl, sym, ap, ◌∙◌, subst}
-use Rattle.std.specs.Prelude.{ℤ, ◌+ℤ◌, ◌&&◌, ◌||◌, slice_get, unwrap_or, option_map, option_and_then, if◌then◌else◌}
+use Rattle.std.proofs.Common.{◌≡◌, ℕ, Bool, true, false, List, [], ◌∷◌, Option, Some, None, refl, sym, ap, ◌∙◌, subst}
+use Rattle.std.specs.Prelude.{ℤ, ◌+ℤ◌, ◌&&◌, ◌||◌, unwrap_or, option_map, if◌then◌else◌}
 use Rattle.std.specs.List.{list_any}
 use Rattle.std.specs.Option.{option_map_or}
 use Rattle.std.proofs.lemmas.Option.{same_Some}
 use Rattle.be_geom.specs.declared.point.Point.{Point}
-use Rattle.be_geom.specs.declared.rect.Rect.{Rect}
 use Rattle.be_geom.specs.Places.{at_pixel, same_point}
-use Rattle.be_geom.specs.Rects.{rect_has, moved_rect}
 use Rattle.be_pane.specs.Owed.{IsClean}
-use Rattle.be_pane.specs.StandsFor.{PaneStandsFor, IsWhole}
-use Rattle.be_region.specs.Sessions.{SameSession}
+use Rattle.be_pane.specs.StandsFor.{PaneStandsFor}
 use Rattle.be_pane.specs.declared.pane.Pane.{Pane}
 use Rattle.be_region.specs.Regions.{region_has}
 use Rattle.be_span.specs.Cells.{desktop_cell}
-use Rattle.be_span.specs.Spans.{Spans, area_of, cell_in, is_dirty, place_of}
+use Rattle.be_span.specs.Spans.{Spans, cell_in, is_dirty}
 use Rattle.be_span.specs.declared.Cell.{Cell}
 use Rattle.be_update.specs.Laws.{AreDirty, BegunAsTheMachine, ListedAsDirty, PassedAsTheMachine, cleaned}
 use Rattle.be_update.specs.Listing.{listed_views}
 use Rattle.be_update.specs.Sessions.{cleaned_cell, is_any, passed, session_of, with_session}
 use Rattle.be_update.specs.Surveys.{HasBegun, IsSurveyOf, Surveyed, without_notice}
 use Rattle.be_views.specs.Trees.{Tree}
+use Rattle.be_span.proofs.CellLemmas.{cell_none}
+use Rattle.be_span.proofs.EachLemmas.{cell_by}
+use Rattle.be_pane.proofs.OwedLemmas.{closed_both}
+use Rattle.be_update.proofs.BegunLemmas.{whole_begun}
 use Rattle.be_machine.specs.Pixels.{pixel_at}
 use Rattle.be_machine.specs.State.{State}
 use Rattle.be_machine.specs.Update.{begun, listing_of, opened, passed_by}
 use Rattle.be_machine.specs.Windows.{width_of, owned, corner_at, dirty_of}
 use Rattle.be_machine.specs.Lists.{with_both}
 use Rattle.be_machine.proofs.Lists.{at_here}
-use Rattle.be_machine.proofs.PixelRules.{cell_by}
 use Rattle.be_rules.specs.Slices.{Slice, pane, shown_of}
 use Rattle.be_parts.specs.Begun.{IsBegun, IsPassed}
 use Rattle.be_parts.specs.Changed.{cells_in}
@@ -42,17 +42,9 @@ none_by : (b : Bool) (rest : Bool) (o p : Option ℕ) → (b || rest) ≡ false 
 none_by true rest o p e later = absurd (cc)
 none_by false rest o p e later = later e
 
-place_none : (rs : List Rect) (x y : ℤ) → region_has rs x y ≡ false → place_of rs x y ≡ None
-place_none [] x y e = refl
-place_none (r ∷ rs) x y e = none_by (rect_has r x y) (region_has rs x y) _ _ e (λ later. ap (option_map (λ n. area_of r + n)) (place_none rs x y later))
-
-cell_outside : (s : Spans) (x y : ℤ) → region_has s.rects x y ≡ false → cell_in s x y ≡ None
-unfolding cell_in
-cell_outside s x y e = ap (option_and_then (slice_get s.cells)) (place_none s.rects x y e)
-
 cell_by_region : (b : Bool) (p e : Spans) (x y : ℤ) → region_has p.rects x y ≡ b → region_has p.rects x y ≡ region_has e.rects x y → (region_has p.rects x y ≡ true → cell_in p x y ≡ cell_in e x y) → cell_in p x y ≡ cell_in e x y
 cell_by_region true p e x y has same inside = inside has
-cell_by_region false p e x y has same inside = cell_outside p x y has ∙ sym (cell_outside e x y (sym same ∙ has))
+cell_by_region false p e x y has same inside = cell_none p x y has ∙ sym (cell_none e x y (sym same ∙ has))
 
 -- ---- a survey of one pane that stands for a slice is one of another
 
@@ -98,13 +90,6 @@ module _ (s : State) (w : ℕ) (full : IsFull s w) (dirty : is_any (dirty_of s w
   cell_then : (x y : ℤ) → owned s w x y ≡ true → cells_in t x y ≡ cleaned (owned s w) (cells_in s) x y
   cell_then x y mine = let c = full x y mine in ap (λ o. unwrap_or o desktop_cell) (pixel_then x y ∙ ap (option_map (cleaned_cell (owned s w) (pixel_at s) x y)) c.1) ∙ ap (λ o. cleaned_cell (owned s w) (pixel_at s) x y (unwrap_or o desktop_cell)) (sym c.1)
 
-still_whole : (survey : Surveyed) (p q : Pane) → HasBegun survey p q → IsWhole p → IsWhole q
-still_whole survey p q b h = record {
-  colored = ap length b.colors ∙ h.colored ∙ ap length (sym b.tree);
-  drawn = ap length b.states ∙ h.drawn ∙ ap length (sym b.tree);
-  within = λ x y has root got. ap (λ (at : Point). rect_has (moved_rect root.frame at.x at.y) x y) b.place ∙ h.within x y (ap (λ l. region_has l x y) (sym b.region) ∙ has) root (ap (λ (t : Tree). slice_get t 0) (sym b.tree) ∙ got);
-}
-
 pub begun_surveyed : (survey : Surveyed) (old new : Slice) (p : Pane) → IsBegun survey old new → PaneIs old p → IsSurveyOf survey p
 begun_surveyed survey old new p x is = survey_for x.window x.state x.full x.example p x.shows (subst (λ (o : Slice). PaneIs o p) x.before is) survey x.surveyed
 
@@ -125,7 +110,7 @@ begun_shows survey old new p q x is b begins listed =
       tree = h.tree;
       is_tree = h.is_tree;
       stands = stands_as q w h.corner (with_session pixels h.kept) h.tree (owned s w) (has_cell (shown_of u w)) (cleaned (owned s w) (cells_in s)) (cell_of (shown_of u w)) (has_owned u w full_u) (λ i j mine. cell_owned u w i j mine ∙ cell_then s w x.full x.dirty h.corner h.is_corner i j mine) after;
-      whole = still_whole survey p q b h.whole;
+      whole = whole_begun survey p q b h.whole;
     } in
     subst (λ (o : Slice). PaneIs o q) (sym (x.after_is ∙ ap (λ r. pane w (shown_of r w)) (begun_is s w x.full x.dirty h.corner h.is_corner))) shows
 
@@ -151,12 +136,7 @@ none_any (p ∷ ps) q e = absurd (cc)
 
 dirty_by : (b : Bool) (spans : Spans) (own : Bool) (c : Cell) (x y : ℤ) → own ≡ b → region_has spans.rects x y ≡ own → (own ≡ true → cell_in spans x y ≡ Some c) → (own && c.dirty) ≡ false → is_dirty (cell_in spans x y) ≡ false
 dirty_by true spans own c x y e has shown clean = ap is_dirty (shown e) ∙ ap (λ b. b && c.dirty) (sym e) ∙ clean
-dirty_by false spans own c x y e has shown clean = ap is_dirty (cell_outside spans x y (has ∙ e))
-
-session_none : (a : Option (List Rect)) (b : Option (List Point)) → SameSession a b → b ≡ None → a ≡ None
-session_none None b same e = refl
-session_none (Some rects) (Some pixels) same e = absurd (cc)
-session_none (Some rects) None same e = absurd same
+dirty_by false spans own c x y e has shown clean = ap is_dirty (cell_none spans x y (has ∙ e))
 
 pub passed_clean : (old new : Slice) (p : Pane) → IsPassed old new → PaneIs old p → ListedAsDirty → IsClean p.spans × (p.session ≡ None)
 passed_clean old new p x is listed =
@@ -165,7 +145,7 @@ passed_clean old new p x is listed =
     let h : PaneShows w (shown_of s w) p = subst (λ (o : Slice). PaneIs o p) x.before is in
     let stands = as_owned s w x.full p h in (
       λ i j. dirty_by (owned s w i j) p.spans (owned s w i j) (cells_in s i j) i j refl (stands.pixels i j) (stands.shown i j) (sym (are_dirty s w x.full listed i j) ∙ none_any (dirty_of s w) (at_pixel i j) x.clean),
-      session_none p.session h.kept.session h.stands.session (x.closed h.kept h.is_kept),
+      closed_both p.session h.kept.session h.stands.session (x.closed h.kept h.is_kept),
     )
 
 pub passed_shows : (old new : Slice) (p q : Pane) → IsPassed old new → PaneIs old p → q ≡ without_notice p → PassedAsTheMachine → PaneIs new q

@@ -1,7 +1,8 @@
 -- A pane on which a planned change was carried out stands for the slice after that.
-use Rattle.std.proofs.Common.{◌≡◌, ℕ, ◌<◌, true, List, Option, Some, None, Ok, length, refl, sym, ap, ◌∙◌, subst}
+use Rattle.std.proofs.Common.{◌≡◌, ℕ, ◌<◌, true, List, Option, Some, Ok, length, refl, sym, ap, ◌∙◌, subst}
 use Rattle.std.specs.Prelude.{ℤ, slice_get, unwrap_or, option_map}
 use Rattle.std.proofs.lemmas.Option.{same_Some}
+use Rattle.be_facts.proofs.Lists.{get_map}
 use Rattle.be_color.specs.declared.colors.Color.{Color}
 use Rattle.be_desk.specs.Changes.{Desk, owns, desk_after, changed_cell}
 use Rattle.be_desk.specs.Plans.{AreChanged, CarriesOver, IsPaneOf, LooksUp, Planned, then_spans}
@@ -18,32 +19,17 @@ use Rattle.be_span.specs.Spans.{Spans, cell_in}
 use Rattle.be_span.specs.declared.Cell.{Cell}
 use Rattle.be_span.specs.Screen.{cell_at, each_cell}
 use Rattle.be_views.specs.Trees.{Tree}
+use Rattle.be_span.proofs.EachLemmas.{cell_by}
+use Rattle.be_desk.proofs.StandLemmas.{planned_alike}
 use Rattle.be_machine.specs.Pixels.{pixel_at}
 use Rattle.be_machine.specs.State.{State}
 use Rattle.be_machine.specs.Windows.{width_of, owned, view_colors, changed, changed_to}
-use Rattle.be_machine.proofs.PixelRules.{cell_by}
 use Rattle.be_machine.proofs.Sizes.{KeepsCounts, desk_sizes}
 use Rattle.be_rules.specs.Slices.{Slice, pane, shown_of}
-use Rattle.be_rules.proofs.ListLemmas.{get_map}
 use Rattle.be_parts.specs.Changed.{IsChanged, cells_in}
 use Rattle.be_parts.specs.Stands.{PaneShows, PaneIs}
 use Rattle.be_parts.specs.Panes.{IsFull}
 use Rattle.be_parts.proofs.Looking.{has_owned, cell_owned}
-
--- what was planned for a pane is so for another one with the same pixels and colours
-renewed_for : (before after : Desk) (w : ℕ) (change : Change) (panes : List Pane) (e p : Pane) (these : Option Spans) → e.window ≡ p.window → e.colors.items ≡ p.colors.items
-    → ((x y : ℤ) → region_has p.spans.rects x y ≡ region_has e.spans.rects x y) → ((x y : ℤ) → region_has p.spans.rects x y ≡ true → cell_in p.spans x y ≡ cell_in e.spans x y)
-    → AreChanged before after w change panes e (then_spans these e) → AreChanged before after w change panes p (then_spans these p)
-renewed_for before after w change panes e p (Some spans) window colors region cells c = record {
-  pixels = λ x y. c.pixels x y ∙ ap (λ u. owns after u x y) window;
-  cells = λ cells colors_of old screen colored looks x y owned. c.cells cells colors_of old screen (ap (slice_get colors_of) window ∙ colored ∙ ap (λ (l : List Color). Some l) (sym colors)) looks x y (ap (λ u. owns after u x y) window ∙ owned);
-}
-renewed_for before after w change panes e p None window colors region cells c = record {
-  pixels = λ x y. region x y ∙ c.pixels x y ∙ ap (λ u. owns after u x y) window;
-  cells = λ cells_of colors_of old screen colored looks x y owned.
-      let mine : owns after e.window x y ≡ true = ap (λ u. owns after u x y) window ∙ owned in
-      cells x y (region x y ∙ c.pixels x y ∙ mine) ∙ c.cells cells_of colors_of old screen (ap (slice_get colors_of) window ∙ colored ∙ ap (λ (l : List Color). Some l) (sym colors)) looks x y mine;
-}
 
 -- two panes that stand for the same slice have the same pixels
 module _ (w : ℕ) (s : State) (full : IsFull s w) (e p : Pane) (g : PaneShows w (shown_of s w) e) (h : PaneShows w (shown_of s w) p) where
@@ -102,7 +88,7 @@ changed_shows plan these old new p q x is carries =
     let full : IsFull s w = x.full w in
     let h : PaneShows w (shown_of s w) p = subst (λ (o : Slice). PaneIs o p) x.before is in
     let of_p : IsPaneOf s.desk p = of_pane w s full x.example p x.shows h x.rooted in
-    let changed_p : AreChanged s.desk a plan.window plan.change x.panes p (then_spans these p) = renewed_for s.desk a plan.window plan.change x.panes x.example p these (same_window w s full x.example p x.shows h) (same_colors w s full x.example p x.shows h) (same_region w s full x.example p x.shows h) (same_cells w s full x.example p x.shows h) x.renewed in
+    let changed_p : AreChanged s.desk a plan.window plan.change x.panes p (then_spans these p) = planned_alike s.desk a plan.window plan.change x.panes x.example p these (same_window w s full x.example p x.shows h) (same_colors w s full x.example p x.shows h) (same_region w s full x.example p x.shows h) (same_cells w s full x.example p x.shows h) x.renewed in
     let all = carries s.desk a x.panes x.paired x.taken x.windows_are of_p changed_p in
     let then_of : IsPaneOf a q = all.0 in
     let carried = all.2 in

@@ -15,13 +15,13 @@ use Rattle.be_span.specs.declared.Cell.{Cell}
 use Rattle.be_twin.specs.Executed.{Sight, sight_of, pane_after, executed_cell, without_session}
 use Rattle.be_twin.specs.StandsAfter.{AgreesWith, StandsAfter, cells_after}
 use Rattle.be_views.specs.Trees.{Tree}
+use Rattle.be_span.proofs.EachLemmas.{cell_by}
 use Rattle.be_machine.specs.Commands.{sight_at, without_front, done_at_view, with_effect, executed_command, executed}
 use Rattle.be_machine.specs.Lists.{with_both}
 use Rattle.be_machine.specs.Pixels.{pixel_at}
 use Rattle.be_machine.specs.State.{State}
 use Rattle.be_machine.specs.Windows.{owned, corner_at, tree_at}
 use Rattle.be_machine.proofs.Lists.{at_here}
-use Rattle.be_machine.proofs.PixelRules.{cell_by}
 use Rattle.be_rules.specs.Slices.{Slice, shown_of}
 use Rattle.be_parts.specs.Panes.{IsExecuted}
 use Rattle.be_parts.specs.Stands.{has_cell, cell_of, PaneShows, PaneIs}

@@ -1,10 +1,11 @@
 -- A new bitmap off the screen.
-use Rattle.std.proofs.Common.{◌≡◌, ℕ, zero, suc, ◌+◌, ◌-◌, ◌*◌, ◌≤◌, ℤ, pos, ◌+ℤ◌, ◌-ℤ◌, Bool}
+use Rattle.std.proofs.Common.{◌≡◌, ℕ, zero, suc, ◌+◌, ◌-◌, ◌*◌, ◌≤◌, ℤ, pos, ◌-ℤ◌, Bool}
 use Rattle.std.proofs.Common.{true, false, [], ◌∷◌, Some, None}
 use Rattle.std.proofs.Common.{refl, sym, ap, ◌∙◌, subst, arith}
 use Rattle.std.specs.Prelude.{slice_get, if◌then◌else◌}
 use Rattle.std.proofs.lemmas.Int.{ints}
 use Rattle.std.proofs.lemmas.List.{get_or-replicate, length-replicate}
+use Rattle.be_facts.proofs.Numbers.{plus_zero}
 use Rattle.be_color.specs.declared.colors.Color.TheVariants.{Solid}
 use Rattle.be_geom.specs.declared.rect.Rect.{Rect}
 use Rattle.be_geom.specs.Rects.{rect_has}
@@ -38,9 +39,6 @@ pub record IsFilled (w h : ℕ) (right bottom : ℤ) (pane : code.Pane) (spans :
   pub cells : (x y : ℤ) → cell_in spans x y
       ≡ (if region_has spans.rects x y then Some (clean_cell white) else None)
 
-unmoved : (z : ℤ) → z +ℤ pos 0 ≡ z
-unmoved z = omega (arith, ints)
-
 abbrev pub filled_pane : code.Pane → Spans → code.Pane
 filled_pane pane spans = record pane { spans = spans }
 
@@ -55,7 +53,7 @@ filled_whole w h right bottom pane spans f = record {
   within = λ x y has root there.
       let is = root_is (root_view right bottom) root 0 pane.tree f.stands.views there in
       let place = f.stands.place in
-      rw (is, place, unmoved right, unmoved bottom) (sym (f.pixels x y) ∙ has);
+      rw (is, place, plus_zero right, plus_zero bottom) (sym (f.pixels x y) ∙ has);
 }
 
 -- ---- its pixels

@@ -7,6 +7,7 @@ use Rattle.std.specs.Prelude.{nat_le}
 use Rattle.std.proofs.lemmas.Bool.Decides.{nat_tests}
 use Rattle.std.proofs.lemmas.List.Sums.{fold-append}
 use Rattle.std.proofs.lemmas.Option.{none-some, same_Some}
+use Rattle.be_facts.proofs.Truths.{false_is_not_true}
 use Rattle.be_command.specs.declared.Command.{Command}
 use Rattle.be_command.specs.Effects.{draws, sets, colors, saves, restores, copies}
 use Rattle.be_command.specs.Effects.{invalidates, Effect, at_view, changes, ends_update, effect_of}
@@ -20,9 +21,6 @@ use Rattle.be_picture.specs.Sorts.{sort_of, sort_of_effect}
 use Rattle.be_picture.specs.Faults.{IsJudged}
 use Rattle.be_picture.specs.declared.recorder.Judged.{Judged}
 use Rattle.be_picture.specs.declared.recorder.Judged.TheVariants as judged
-
-no_false : false ≡ true → ⊥
-no_false h = cc
 
 -- what is refused of a sort, and what is open after it
 abbrev pub refused_of : Sort → ℕ → Option Refusal
@@ -179,10 +177,10 @@ one_more cs c recorded free = λ before after d is.
 
 by_true : (b : Bool) (why : Refusal) → b ≡ true → cond b (Some why) None ≡ Some why
 by_true true why h = refl
-by_true false why h = absurd (no_false h)
+by_true false why h = absurd (false_is_not_true h)
 
 by_false : (b : Bool) (why : Refusal) → b ≡ false → cond b (Some why) None ≡ None
-by_false true why h = absurd (no_false (sym h))
+by_false true why h = absurd (false_is_not_true (sym h))
 by_false false why h = refl
 
 by_full : (b : Bool) (cs : List Command) (c : Command) (p : ℕ)

@@ -1,7 +1,7 @@
 -- The colours of a bitmap off the screen, row by row.
-use Rattle.std.proofs.Common.{◌≡◌, ℕ, zero, suc, ◌+◌, ◌-◌, ◌*◌, ◌/◌, ◌%◌, ◌<◌, ◌≤◌, ℤ, pos}
+use Rattle.std.proofs.Common.{◌≡◌, ℕ, ◌+◌, ◌-◌, ◌*◌, ◌/◌, ◌%◌, ◌<◌, ◌≤◌, ℤ, pos}
 use Rattle.std.proofs.Common.{◌+ℤ◌, ◌-ℤ◌}
-use Rattle.std.proofs.Common.{true, List, ◌∷◌, ◌++◌, length, map, get_or, Some}
+use Rattle.std.proofs.Common.{true, List, ◌++◌, length, map, get_or, Some}
 use Rattle.std.proofs.Common.{None, inl, inr, refl, sym, ap, ◌∙◌, subst, arith, take, drop}
 use Rattle.std.specs.Prelude.{slice_get}
 use Rattle.std.specs.List.{range_with_len}
@@ -13,6 +13,7 @@ use Rattle.std.proofs.lemmas.List.FromFn.{take-map-range_with_len}
 use Rattle.std.proofs.lemmas.Nat.{div-mul-add, mod-mul-add}
 use Rattle.std.proofs.Math.Nat.{mul-le-mul_right}
 use Rattle.std.proofs.lemmas.Option.{none-some, slice_get-get_or}
+use Rattle.be_facts.proofs.Lists.{range_append}
 use Rattle.be_color.specs.declared.colors.Color.{Color}
 use Rattle.be_color.specs.declared.colors.Color.TheVariants.{Solid}
 use Rattle.be_geom.specs.Points.{between}
@@ -46,21 +47,6 @@ as_row spans y row z e cells ends run =
           ap (λ (x : ℤ). region_has spans.rects x (pos y)) (sym (bare k))
           ∙ ap (region_has spans.rects (pos 0 +ℤ pos k)) (sym e) ∙ run k lt;
     }
-
--- ---- numbers in a row
-
-pub range_in_two : (a n m : ℕ)
-    → range_with_len a (n + m) ≡ range_with_len a n ++ range_with_len (a + n) m
-range_in_two a zero m =
-    let none : zero + m ≡ m = omega arith in
-    let same : a + zero ≡ a = omega arith in
-    ap (range_with_len a) none ∙ ap (λ (k : ℕ). range_with_len k m) (sym same)
-range_in_two a (suc n) m =
-    let more : suc n + m ≡ suc (n + m) = omega arith in
-    let same : a + 1 + n ≡ a + suc n = omega arith in
-    ap (range_with_len a) more
-    ∙ ap (λ (ks : List ℕ). a ∷ ks) (range_in_two (a + 1) n m
-    ∙ ap (λ (k : ℕ). range_with_len (a + 1) n ++ range_with_len k m) same)
 
 -- ---- a row of cells
 
@@ -127,7 +113,7 @@ row_behind w h y more spans count =
     let len : length above ≡ y * w = length-map-range_with_len f 0 (y * w) in
     let all : cells_of w h spans ≡ above ++ rest =
     ap (λ (n : ℕ). map f (range_with_len 0 n)) count
-    ∙ ap (map f) (range_in_two 0 (y * w) (w + more)
+    ∙ ap (map f) (range_append 0 (y * w) (w + more)
     ∙ ap (λ (k : ℕ). range_with_len 0 (y * w) ++ range_with_len k (w + more)) at)
     ∙ map-append f (range_with_len 0 (y * w)) (range_with_len (y * w) (w + more)) in
     let behind : drop (y * w) (cells_of w h spans) ≡ rest =
@@ -170,7 +156,7 @@ one_row_more w h pane y row rest below r =
     sym (map-append f (range_with_len 0 (y * w)) (range_with_len (y * w) w))
     ∙ ap (map f) (
     ap (λ (k : ℕ). range_with_len 0 (y * w) ++ range_with_len k w) (sym at)
-    ∙ sym (range_in_two 0 (y * w) w)
+    ∙ sym (range_append 0 (y * w) w)
     ∙ ap (range_with_len 0) (sym next))
     ∙ sym (first_rows w h ((y + 1) * w) pane.spans (omega (arith, all))))
 

@@ -23,10 +23,11 @@ use Rattle.be_state.specs.Stacks.{Layer, Stack, first_stack, first_state, origin
 use Rattle.be_twin.specs.Executed.{executed_cell, sight_of}
 use Rattle.be_twin.specs.StandsAfter.{AgreesWith, StandsAfter}
 use Rattle.be_views.specs.Trees.{Tree}
+use Rattle.be_span.proofs.EachLemmas.{ruled_length, cell_by}
 use Rattle.be_picture.specs.OffScreens.{IsAtRest, IsSized, Shows, cells_of, or_black, seen_as}
 use Rattle.be_picture.specs.Playing.{OffScreen, bounds, done_at, tree_of}
-use Rattle.be_picture.proofs.Cells.{cell_by, cell_inside, is_inside}
-use Rattle.be_picture.proofs.Cells.{number_is_inside, place_of_number, ruled_length}
+use Rattle.be_picture.proofs.Cells.{cell_inside, is_inside}
+use Rattle.be_picture.proofs.Cells.{number_is_inside, place_of_number}
 
 -- ---- cells
 

@@ -1,7 +1,7 @@
 -- The text of a picture is read as that picture.
 use Rattle.std.proofs.Common.{◌≡◌, ℕ, suc, ◌+◌, ◌*◌, ◌≤◌, true, false, List, [], ◌∷◌}
 use Rattle.std.proofs.Common.{◌++◌, length, None, Ok, refl, sym, ap, ◌∙◌, subst}
-use Rattle.std.proofs.Common.{append_assoc, arith, eqb, get_or}
+use Rattle.std.proofs.Common.{append_assoc, arith}
 use Rattle.std.specs.Prelude.{All, nat_lt}
 use Rattle.std.proofs.lemmas.Bool.Decides.{nat_tests}
 use Rattle.std.proofs.lemmas.List.{append-nil}
@@ -17,7 +17,7 @@ use Rattle.be_command.proofs.LawLemmas.{command_of-spelling}
 use Rattle.be_command.proofs.Spelt.{spelt}
 use Rattle.be_lex.specs.Lines.{lines_of}
 use Rattle.be_lex.specs.Words.{is_passed_over, words_of}
-use Rattle.be_lex.proofs.LineLemmas.{lines_of-ended, lines_of-none}
+use Rattle.be_lex.proofs.LineLemmas.{lines_of-ended, lines_of-none, not_passed}
 use Rattle.be_lex.proofs.Spelling.{words_of-append}
 use Rattle.be_picture.specs.Recording.{IsRecorded, open_pushes, refusal}
 use Rattle.be_picture.specs.Text.{picture_of, picture_text, read_line, read_lines, word_fault}
@@ -56,11 +56,6 @@ line_words known c s =
     ∙ words_of-append (word_text s.word) (words_of_all known kinds s.said) (is_first s.word).whole
     (begins_all known kinds s.said s.within)
 
-passed : (text word : List ℕ) (words : List (List ℕ)) → words_of text ≡ word ∷ words
-    → eqb (get_or word 0 0) 35 ≡ false → is_passed_over text ≡ false
-unfolding is_passed_over
-passed text word words e h = rw e h
-
 line_is : (known : Known) (before : List Command) (c : Command) → AreKnown known → IsSpoken known c
     → refusal before c ≡ None → IsLineOf known before c
 line_is known before c k s free = record {
@@ -68,7 +63,7 @@ line_is known before c k s free = record {
   word = word_text s.word;
   others = words_of (words_of_all known (form_of s.word).kinds s.said);
   words = line_words known c s;
-  no_comment = passed (spelling known c) (word_text s.word) _ (line_words known c s)
+  no_comment = not_passed (spelling known c) (word_text s.word) _ (line_words known c s)
       (is_first s.word).no_comment;
   free = no_word_fault s.word (open_pushes before)
       (free_word s.word s.said before (ap (refusal before) s.made ∙ free));

@@ -3,15 +3,17 @@ use Rattle.std.proofs.Common.{◌≡◌, ◌≢◌, ℕ, ◌+◌, ◌<◌, ◌�
 use Rattle.std.proofs.Common.{false, ◌&&◌, length, map, set, Option, Some, cond}
 use Rattle.std.proofs.Common.{⊎_elim, refl, sym, ap, subst, ◌∙◌, arith}
 use Rattle.std.proofs.Math.Seq.{map-set_same}
-use Rattle.std.proofs.lemmas.Bool.{cases_lt, eqb-true, ne_eqb, eq-eqb}
+use Rattle.std.proofs.lemmas.Bool.{cases_lt, eqb-true, ne_eqb, eq-eqb, and_left}
 use Rattle.std.proofs.lemmas.Bool.Decides.{eqb_tells}
-use Rattle.std.proofs.lemmas.List.{append-nil, get_or-set_other, get_or-set_same, length-set}
+use Rattle.std.proofs.lemmas.List.{append-nil, get_or-set_other, length-set}
 use Rattle.std.proofs.lemmas.List.{map-append}
 use Rattle.std.proofs.lemmas.List.Elements.{filter-append}
 use Rattle.std.proofs.lemmas.Option.{get_or_from_slice_get, same_Some, slice_get-get_or}
 use Rattle.std.proofs.lemmas.Option.{slice_get_cases, slice_get_past, slice_get_within}
 use Rattle.std.specs.Option.{option_map_or}
 use Rattle.std.specs.Prelude.{filter, slice_get, ◌==◌}
+use Rattle.be_facts.proofs.Truths.{and_first}
+use Rattle.be_facts.proofs.Lists.{set_same}
 use Rattle.be_control.specs.Buttons.{Button, HasHeard, Heard, invokes, is_armed, is_at, is_inside}
 use Rattle.be_control.specs.Buttons.{is_press, is_release, pressed_by}
 use Rattle.be_control.specs.declared.button.Pressed.{Pressed}
@@ -25,12 +27,6 @@ use Rattle.be_pressed.specs.Hearing.{HaveHeard, invokes_button, is_invoked}
 use Rattle.be_pressed.specs.declared.letter.TakenLetter.{TakenLetter}
 
 -- ---- lists
-
-pub set_same : {X : Type 0} (xs : List X) (k : ℕ) (y : X) → k < length xs
-    → slice_get (set xs k y) k ≡ Some y
-set_same {X} xs k y within =
-    slice_get-get_or (set xs k y) k y (omega (arith, length-set xs k y))
-    ∙ ap Some (get_or-set_same xs k y y within)
 
 pub set_other : {X : Type 0} (xs : List X) (k v : ℕ) (y : X) → v ≢ k
     → slice_get (set xs k y) v ≡ slice_get xs v
@@ -83,24 +79,16 @@ not_own bounds hs h other =
     && is_armed bounds hs) other
     ∙ by_none (h.message.what == mouse_up) (is_armed bounds hs)
 
-first_of : (a b : Bool) → (a && b) ≡ true → a ≡ true
-first_of true b is = refl
-first_of false b is = is
-
 up_or_down : (what : ℕ) → (what == mouse_up) ≡ true → (what == mouse_down) ≡ false
 up_or_down what up = ap (λ (n : ℕ). n == mouse_down) (eqb-true what mouse_up up)
-
-false_first : (a b : Bool) → a ≡ false → (a && b) ≡ false
-false_first true b is = (cc)
-false_first false b is = refl
 
 no_press : (bounds : Rect) (hs : List Heard) (h : Heard) → invokes bounds hs h ≡ true
     → is_press bounds h ≡ false
 unfolding invokes
 no_press bounds hs h is =
-    let release = first_of (is_release bounds h) (is_armed bounds hs) is in
-    let up = first_of (h.message.what == mouse_up) (is_inside bounds h) release in
-    false_first (h.message.what == mouse_down) (is_inside bounds h) (up_or_down h.message.what up)
+    let release = and_first (is_release bounds h) (is_armed bounds hs) is in
+    let up = and_first (h.message.what == mouse_up) (is_inside bounds h) release in
+    and_left (h.message.what == mouse_down) (is_inside bounds h) (up_or_down h.message.what up)
 
 said : Bool → Bool → Pressed
 said press invoked = cond press Armed (cond invoked Invoked Idle)

@@ -9,6 +9,7 @@ use Rattle.std.proofs.lemmas.Option.{slice_get_cases, slice_get_past, slice_get_
 use Rattle.std.specs.Fmt.{decimal}
 use Rattle.std.specs.Option.{option_map_or}
 use Rattle.std.specs.Prelude.{option_and_then, option_map, slice_get}
+use Rattle.be_facts.proofs.Lists.{set_same}
 use Rattle.be_control.specs.Buttons.{Button, HasHeard, invokes}
 use Rattle.be_geom.specs.declared.rect.Rect.{Rect}
 use Rattle.be_message.specs.declared.target.Target.{Target}
@@ -20,7 +21,7 @@ use Rattle.be_script.specs.declared.WindowLine.{WindowLine}
 use Rattle.be_views.specs.Trees.{View}
 use Rattle.be_written.specs.Lines.{line_of}
 use Rattle.be_written.specs.Names.{window_name, view_name}
-use Rattle.be_pressed.proofs.Heard.{bounds_at, others_heard, set_other, set_same}
+use Rattle.be_pressed.proofs.Heard.{bounds_at, others_heard, set_other}
 use Rattle.be_pressed.specs.ButtonText.{all_heard, bounds_of, heard_by}
 use Rattle.be_pressed.specs.ButtonText.{invokes_view, letter_text, letters_text, view_in}
 use Rattle.be_pressed.specs.Hearing.{AreWindows, HaveHeard, IsWindow, bounds_due, invokes_button}
@@ -307,7 +308,3 @@ whole_back {X} len new old as_long all =
 pub on_any : {E : Type 0} (r : Result (Unit {0}) E) (P : Type 0) → P → OnOk r P
 on_any (Ok x) P p = p
 on_any (Err e) P p = tt
-
-pub mapped : {E : Type 0} (r : Result (Unit {0}) E) (P Q : Type 0) → OnOk r P → (P → Q) → OnOk r Q
-mapped (Ok x) P Q is f = f is
-mapped (Err e) P Q is f = tt

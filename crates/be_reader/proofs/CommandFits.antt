@@ -2,7 +2,7 @@
 use Rattle.std.proofs.Common.{◌≡◌, ℕ, ◌<◌, ◌≤◌, true, ◌&&◌, List, length, Option, Some, None, Result, Ok, Err, refl, subst}
 use Rattle.std.specs.Prelude.{nat_lt, nat_le}
 use Rattle.std.specs.Option.{option_and_then}
-use Rattle.std.proofs.lemmas.Bool.{le-leb, lt-ltb}
+use Rattle.std.proofs.lemmas.Bool.{le-leb, lt-ltb, and_from}
 use Rattle.be_command.specs.declared.Command.{Command}
 use Rattle.be_command.specs.declared.first_word.FirstWord.{FirstWord}
 use Rattle.be_command.specs.declared.first_word.FirstWord.TheVariants as first
@@ -18,16 +18,15 @@ use Rattle.be_command.proofs.FaultLemmas.{ok-both, ok-said_as}
 use Rattle.be_command.proofs.WithinLemmas.{all_within}
 use Rattle.be_geom.specs.declared.rect.Rect.{Rect}
 use Rattle.be_line.specs.FirstWords.{is_of_drawing}
-use Rattle.be_script.proofs.RoutableLemmas.{and-both}
 
 -- ---- what a form makes
 
 clip_fits : (clip : Option (List Rect)) → IsClip clip → is_clip clip ≡ true
 clip_fits None h = refl
-clip_fits (Some rects) h = and-both (nat_le 1 (length rects)) (nat_le (length rects) 16) (le-leb 1 (length rects) h.0) (le-leb (length rects) 16 h.1.0)
+clip_fits (Some rects) h = and_from (nat_le 1 (length rects)) (nat_le (length rects) 16) (le-leb 1 (length rects) h.0) (le-leb (length rects) 16 h.1.0)
 
 pen_fits : (n : ℕ) → 1 ≤ n → n ≤ 32 → (nat_le 1 n && nat_le n 32) ≡ true
-pen_fits n low high = and-both (nat_le 1 n) (nat_le n 32) (le-leb 1 n low) (le-leb n 32 high)
+pen_fits n low high = and_from (nat_le 1 n) (nat_le n 32) (le-leb 1 n low) (le-leb n 32 high)
 
 focus_fits : (views : List (List ℕ)) (v : Option ℕ) → IsFocus views v → is_view_or_none (length views) v ≡ true
 focus_fits views None h = refl
@@ -55,15 +54,15 @@ command-keeps known first.Invalidate x h = refl
 command-keeps known first.Show x h = refl
 command-keeps known first.Hide x h = refl
 command-keeps known first.MoveTo x h = refl
-command-keeps known first.MoveBy x h = and-both _ _ h.0.0 h.0.1
-command-keeps known first.ResizeTo x h = and-both _ _ h.0.0 h.0.1
+command-keeps known first.MoveBy x h = and_from _ _ h.0.0 h.0.1
+command-keeps known first.ResizeTo x h = and_from _ _ h.0.0 h.0.1
 command-keeps known first.Activate x h = refl
 command-keeps known first.Behind x h = refl
 command-keeps known first.Focus x h = refl
 command-keeps known first.Close x h = refl
 
 at_view : (known : Known) (v : ℕ) → v < length known.views → (nat_lt v (length known.views) && true) ≡ true
-at_view known v h = and-both (nat_lt v (length known.views)) true (lt-ltb v (length known.views) h) refl
+at_view known v h = and_from (nat_lt v (length known.views)) true (lt-ltb v (length known.views) h) refl
 
 pub command-names : (known : Known) (word : FirstWord) (x : SaidAll (form_of word).kinds) → AreWithin known (form_of word).kinds x →
     names_what_is (length known.windows) (length known.views) (length known.bitmaps) ((form_of word).makes x) ≡ true
@@ -73,7 +72,7 @@ command-names known first.Frame x h = at_view known x.0 h.0
 command-names known first.Line x h = at_view known x.0 h.0
 command-names known first.Text x h = at_view known x.0 h.0
 command-names known first.Bitmap x h =
-    and-both (nat_lt x.0 (length known.views)) (nat_lt x.1.0 (length known.bitmaps)) (lt-ltb x.0 (length known.views) h.0) (lt-ltb x.1.0 (length known.bitmaps) h.1.0)
+    and_from (nat_lt x.0 (length known.views)) (nat_lt x.1.0 (length known.bitmaps)) (lt-ltb x.0 (length known.views) h.0) (lt-ltb x.1.0 (length known.bitmaps) h.1.0)
 command-names known first.High x h = at_view known x.0 h.0
 command-names known first.Low x h = at_view known x.0 h.0
 command-names known first.ViewColor x h = at_view known x.0 h.0

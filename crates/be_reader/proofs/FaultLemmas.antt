@@ -1,5 +1,5 @@
 -- The first fault of lines that stand in front of others.
-use Rattle.std.proofs.Common.{◌≡◌, ℕ, ◌+◌, ◌<◌, ◌≤◌, ◌⊎◌, inl, inr, eqb, Bool, true, false, cond, List, [], ◌∷◌, ◌++◌, length, map, Option, Some, None, Result, Ok, Err, refl, sym, ap, subst, ◌∙◌, append_assoc, length-append, arith}
+use Rattle.std.proofs.Common.{◌≡◌, ℕ, ◌+◌, ◌<◌, ◌≤◌, ◌⊎◌, inl, inr, Bool, true, false, cond, List, [], ◌∷◌, ◌++◌, length, map, Option, Some, None, Result, Ok, Err, refl, sym, ap, subst, ◌∙◌, append_assoc, length-append, arith}
 use Rattle.std.specs.Prelude.{nat_lt}
 use Rattle.std.specs.List.{slice_split, onto_first}
 use Rattle.std.proofs.lemmas.Bool.Decides.{nat_tests}
@@ -8,6 +8,7 @@ use Rattle.be_command.specs.declared.fault.Reason.{Reason}
 use Rattle.be_command.specs.declared.fault.Reason.TheVariants.{TooLong, Unfinished, TooMuchWork}
 use Rattle.be_lex.specs.Lines.{Line, lines_from, lines_of}
 use Rattle.be_lex.proofs.Cuts.{split_pieces}
+use Rattle.be_lex.proofs.LineLemmas.{is_line_end}
 use Rattle.be_reader.proofs.LineLemmas.{goes_on, stops, short_enough}
 use Rattle.be_said.specs.SoFar.{is_closed, SoFar, nothing_said, declared_in}
 use Rattle.be_reader.specs.Grammar.{Fault, fault, finished, read_line, read_lines, script_of}
@@ -15,9 +16,6 @@ use Rattle.be_reader.specs.Laws.{AreLines, IsOfNoLine, IsFirst, Stays, WasThere}
 use Rattle.be_script.specs.Work.{work_of}
 
 -- ---- lines in front
-
-abbrev is_line_end : ℕ → Bool
-is_line_end b = eqb b 10
 
 abbrev ended : List ℕ → Line
 ended bytes = record { bytes = bytes; ended = true }

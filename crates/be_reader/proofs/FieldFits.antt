@@ -5,6 +5,9 @@ use Rattle.std.specs.List.{after_first, before_first, list_all, list_any, positi
 use Rattle.std.specs.Option.{option_and_then}
 use Rattle.std.specs.Str.{bytes_eq}
 use Rattle.std.proofs.lemmas.Bool.Decides.{nat_tests}
+use Rattle.std.proofs.lemmas.Bool.{and_from, not_from_false}
+use Rattle.be_facts.proofs.Truths.{and_first, and_second}
+use Rattle.be_facts.proofs.Lists.{all_weaker}
 use Rattle.be_actor.specs.Drafts.{DraftWords, Word, value, current, copied}
 use Rattle.be_actor.specs.Limits.{all_go_together, is_draft, is_reserved, is_spelt, is_what, is_word}
 use Rattle.be_command.specs.declared.fault.Reason.TheVariants.{Range, Shape}
@@ -15,17 +18,14 @@ use Rattle.be_line.specs.Fields.{all_there, copied_word, datum_of, field_of, fie
 use Rattle.be_message.specs.Fields.{is_allowed}
 use Rattle.be_message.specs.Messages.{Datum, bool, int, text, point, rect}
 use Rattle.be_message.specs.Names.{is_name, is_text}
-use Rattle.be_said.proofs.AppendLemmas.{all-weaker}
 use Rattle.be_reader.proofs.WordFits.{is_shown, is_shown_word}
-use Rattle.be_script.proofs.RoutableLemmas.{and-both, not-false}
-use Rattle.be_script.proofs.WorkNumbers.{and-left, and-right}
 
 -- ---- parts of a word
 
 pub all-drop : (p : ℕ → Bool) (n : ℕ) (bytes : List ℕ) → list_all p bytes ≡ true → list_all p (drop n bytes) ≡ true
 all-drop p zero bytes h = h
 all-drop p (suc n) [] h = h
-all-drop p (suc n) (b ∷ bytes) h = all-drop p n bytes (and-right (p b) (list_all p bytes) h)
+all-drop p (suc n) (b ∷ bytes) h = all-drop p n bytes (and_second (p b) (list_all p bytes) h)
 
 field_name : (name : List ℕ) → is_field_name name ≡ true → is_name name ≡ true
 unfolding is_name_within is_name
@@ -47,16 +47,16 @@ text_byte : (b : ℕ) → is_shown b ≡ true → (nat_le 32 b && nat_le b 126) 
 text_byte b h = grind (arith, nat_tests)
 
 first_byte : (b : ℕ) → is_shown b ≡ true → nat_le 33 b ≡ true
-first_byte b h = and-left (nat_le 33 b) (nat_le b 126) h
+first_byte b h = and_first (nat_le 33 b) (nat_le b 126) h
 
 a_text : (a : Bool) (bytes : List ℕ) (d : Datum) → nat_le (length bytes) 1024 ≡ a → list_all is_shown bytes ≡ true → cond a (Some (text bytes)) None ≡ Some d → is_spelt d ≡ true
 unfolding is_text
 a_text true bytes d short h e =
     let same : text bytes ≡ d = (cc) in
     let allowed : is_allowed (text bytes) ≡ true =
-    and-both (list_all (λ b. nat_le 32 b && nat_le b 126) bytes) (nat_le (length bytes) 1024) (all-weaker is_shown (λ b. nat_le 32 b && nat_le b 126) text_byte bytes h) short in
+    and_from (list_all (λ b. nat_le 32 b && nat_le b 126) bytes) (nat_le (length bytes) 1024) (all_weaker is_shown (λ b. nat_le 32 b && nat_le b 126) text_byte bytes h) short in
     subst (λ (x : Datum). is_spelt x ≡ true) same
-    (and-both (is_allowed (text bytes)) (list_all (λ b. nat_le 33 b) bytes) allowed (all-weaker is_shown (λ b. nat_le 33 b) first_byte bytes h))
+    (and_from (is_allowed (text bytes)) (list_all (λ b. nat_le 33 b) bytes) allowed (all_weaker is_shown (λ b. nat_le 33 b) first_byte bytes h))
 a_text false bytes d short h e = absurd ((cc))
 
 a_point : (numbers : List (List ℕ)) (d : Datum) → point_in numbers ≡ Some d → is_spelt d ≡ true
@@ -100,7 +100,7 @@ valued : (has : Bool) (name : List ℕ) (o : Option Datum) (w : Word) → is_nam
 valued has name None w n each e = absurd ((cc))
 valued has name (Some d) w n each e =
     let same : value name d ≡ w = (cc) in
-    subst (λ (x : Word). is_word has x ≡ true) same (and-both (is_name name) (is_spelt d) n (each d refl))
+    subst (λ (x : Word). is_word has x ≡ true) same (and_from (is_name name) (is_spelt d) n (each d refl))
 
 named_keeps : (has is_current : Bool) (name bytes : List ℕ) (w : Word) → is_name name ≡ true → list_all is_shown bytes ≡ true →
     cond is_current (cond has (Some (current name)) None) (option_map (value name) (datum_of bytes)) ≡ Some w → is_word has w ≡ true
@@ -132,7 +132,7 @@ by_copy has false word w h e =
 
 field_keeps : (has : Bool) (word : List ℕ) (w : Word) → is_shown_word word ≡ true → field_of has word ≡ Some w → is_word has w ≡ true
 unfolding field_of
-field_keeps has word w h e = by_copy has (bytes_eq (take 5 word) (codes "copy:")) word w (and-right (nat_le 1 (length word)) (list_all is_shown word) h) e
+field_keeps has word w h e = by_copy has (bytes_eq (take 5 word) (codes "copy:")) word w (and_second (nat_le 1 (length word)) (list_all is_shown word) h) e
 
 -- ---- all of them
 
@@ -142,7 +142,7 @@ joined has None rest ws one all e = absurd ((cc))
 joined has (Some w) None ws one all e = absurd ((cc))
 joined has (Some w) (Some more) ws one all e =
     let same : w ∷ more ≡ ws = (cc) in
-    subst (λ (l : List Word). list_all (is_word has) l ≡ true) same (and-both (is_word has w) (list_all (is_word has) more) (one w refl) (all more refl))
+    subst (λ (l : List Word). list_all (is_word has) l ≡ true) same (and_from (is_word has w) (list_all (is_word has) more) (one w refl) (all more refl))
 
 there_is : (first : Option Word) (more : List (Option Word)) → all_there (first ∷ more) ≡ option_and_then (λ w. option_map (λ xs. w ∷ xs) (all_there more)) first
 there_is None more = refl
@@ -152,8 +152,8 @@ all_keep : (has : Bool) (words : List (List ℕ)) (ws : List Word) → list_all 
 all_keep has [] ws h e = let same : [] ≡ ws = (cc) in subst (λ (l : List Word). list_all (is_word has) l ≡ true) same refl
 all_keep has (word ∷ words) ws h e =
     joined has (field_of has word) (all_there (map (field_of has) words)) ws
-    (λ w. field_keeps has word w (and-left (is_shown_word word) (list_all is_shown_word words) h))
-    (λ more. all_keep has words more (and-right (is_shown_word word) (list_all is_shown_word words) h))
+    (λ w. field_keeps has word w (and_first (is_shown_word word) (list_all is_shown_word words) h))
+    (λ more. all_keep has words more (and_second (is_shown_word word) (list_all is_shown_word words) h))
     (sym (there_is (field_of has word) (map (field_of has) words)) ∙ e)
 
 in_ranges : (b : Bool) (ws out : List Word) → cond b (Ok ws) (Err Range) ≡ Ok out → ws ≡ out
@@ -187,5 +187,5 @@ draft-keeps has words draft h e what free short =
     let b = not (is_reserved draft.what) in
     let c = nat_le (length draft.words) 255 in
     let g = list_all (is_word has) draft.words in
-    and-both (((a && b) && c) && g) (all_go_together draft.words)
-    (and-both ((a && b) && c) g (and-both (a && b) c (and-both a b what (not-false (is_reserved draft.what) free)) short) f.0) f.1
+    and_from (((a && b) && c) && g) (all_go_together draft.words)
+    (and_from ((a && b) && c) g (and_from (a && b) c (and_from a b what (not_from_false (is_reserved draft.what) free)) short) f.0) f.1

@@ -12,12 +12,12 @@ use Rattle.be_command.specs.declared.fault.Reason.{Reason}
 use Rattle.be_command.specs.declared.fault.Reason.TheVariants.{NameTaken, Range, Shape, UnknownName}
 use Rattle.be_command.specs.Kinds.{named, numbered, formed}
 use Rattle.be_command.specs.Names.{number_in}
-use Rattle.be_command.specs.Places.{judged}
 use Rattle.be_geom.specs.Points.{between}
 use Rattle.be_lex.specs.Colors.{pixel_of}
 use Rattle.be_lex.specs.Names.{is_name, is_reserved_name}
 use Rattle.be_lex.specs.Numbers.{is_number, number_of}
 use Rattle.be_lex.specs.Words.{is_empty}
+use Rattle.be_command.proofs.WithinLemmas.{formed_ok, judged_ok}
 use Rattle.be_handler.specs.declared.Rule.{Rule}
 use Rattle.be_handler.specs.declared.Rule.TheVariants.{Skip, Pass, Redirect}
 use Rattle.be_line.specs.declared.site.Allowed.{Allowed}
@@ -69,11 +69,6 @@ within (Some size) (program name lock steps) allowed e = tt
 
 -- ---- numbers
 
--- a word that says something is there
-pub judged_is : {A : Type 0} (read : List ℕ → Result A Reason) (o : Option (List ℕ)) (a : A) → judged read o ≡ Ok a → (word : List ℕ) × (read word ≡ Ok a)
-judged_is read None a e = (cc)
-judged_is read (Some word) a e = (word, e)
-
 ranged : (formed small : Bool) (z x : ℤ) → cond formed (cond small (Ok z) (Err Range)) (Err Shape) ≡ Ok x → (small ≡ true) × (z ≡ x)
 ranged true true z x e = (refl, (cc))
 ranged true false z x e = (cc)
@@ -86,7 +81,7 @@ unsigned_between low high z e = grind (arith, ints)
 pub number_fits : (low high n : ℕ) (at : At) → said_as unsigned_abs (word_said (numbered (pos low) (pos high)) 0 at) ≡ Ok n → (low ≤ n) × (n ≤ high)
 number_fits low high n at e =
     let z = ok-said_as unsigned_abs (word_said (numbered (pos low) (pos high)) 0 at) n e in
-    let word = judged_is (numbered (pos low) (pos high)) (slice_get at.words 0) z.0 z.1.0 in
+    let word = judged_ok (numbered (pos low) (pos high)) (slice_get at.words 0) z.0 z.1.0 in
     let ends = ranged (is_number word.0) (between (pos low) (number_of word.0) (pos high)) (number_of word.0) z.0 word.1 in
     subst (λ (k : ℕ). (low ≤ k) × (k ≤ high)) (ap unsigned_abs ends.1 ∙ z.1.1) (unsigned_between low high (number_of word.0) ends.0)
 
@@ -111,14 +106,10 @@ pixels_fit zero word colors e = none_more (is_empty word) colors e
 pixels_fit (suc count) word colors e =
     first_pixel count (pixels_in count (drop 6 word)) colors (pixel_of (take 6 word)) (pixels_fit count (drop 6 word)) e
 
-formed_is : {A : Type 0} (o : Option A) (a : A) → formed o ≡ Ok a → o ≡ Some a
-formed_is None a e = (cc)
-formed_is (Some b) a e = (cc)
-
 pub row_fits : (count : ℕ) (at : At) (colors : List Color) → word_said (λ word. formed (pixels_in count word)) 0 at ≡ Ok colors → length colors ≡ count
 row_fits count at colors e =
-    let word = judged_is (λ word. formed (pixels_in count word)) (slice_get at.words 0) colors e in
-    pixels_fit count word.0 colors (formed_is (pixels_in count word.0) colors word.1)
+    let word = judged_ok (λ word. formed (pixels_in count word)) (slice_get at.words 0) colors e in
+    pixels_fit count word.0 colors (formed_ok (pixels_in count word.0) colors word.1)
 
 -- ---- names
 
@@ -143,7 +134,7 @@ numbered_is false o n e = (cc)
 
 pub named_within : (names : List (List ℕ)) (at : At) (n : ℕ) → word_said (named names) 0 at ≡ Ok n → n < length names
 named_within names at n e =
-    let word = judged_is (named names) (slice_get at.words 0) n e in
+    let word = judged_ok (named names) (slice_get at.words 0) n e in
     number_within names word.0 n (numbered_is (is_name word.0) (number_in names word.0) n word.1)
 
 -- a name that may be declared may be declared
@@ -154,7 +145,7 @@ new_is false taken word name e = (cc)
 
 pub new_fits : (names : List (List ℕ)) (at : At) (name : List ℕ) → word_said (new_name names) 0 at ≡ Ok name → IsNew names name
 new_fits names at name e =
-    let word = judged_is (new_name names) (slice_get at.words 0) name e in
+    let word = judged_ok (new_name names) (slice_get at.words 0) name e in
     let same = new_is (is_name word.0) (is_reserved_name word.0 || list_any (λ other. bytes_eq other word.0) names) word.0 name word.1 in
     subst (λ (w : List ℕ). new_name names w ≡ Ok name) same word.1
 
@@ -179,12 +170,12 @@ named_target said w word handler e = by_form (is_name word) e
 
 pub handler_fits : (said : SoFar) (w : ℕ) (k : ℕ) (at : At) (handler : Target) → word_said (handler_named said (Some w)) k at ≡ Ok handler → IsTarget said w handler
 handler_fits said w k at handler e =
-    let word = judged_is (handler_named said (Some w)) (slice_get at.words k) handler e in
+    let word = judged_ok (handler_named said (Some w)) (slice_get at.words k) handler e in
     named_target said w word.0 handler word.1
 
 pub list_fits : (said : SoFar) (w : ℕ) (at : At) (list : Option Target) → word_said (list_named said (Some w)) 0 at ≡ Ok list → IsList said w list
 list_fits said w at list e =
-    let word = judged_is (list_named said (Some w)) (slice_get at.words 0) list e in
+    let word = judged_ok (list_named said (Some w)) (slice_get at.words 0) list e in
     by_word word.0 (bytes_eq word.0 (codes "common")) word.1
   where
     by_word : (word : List ℕ) (b : Bool) → cond b (Ok None) (said_as Some (handler_named said (Some w) word)) ≡ Ok list → IsList said w list
@@ -195,7 +186,7 @@ list_fits said w at list e =
 
 pub rule_fits : (said : SoFar) (w : ℕ) (at : At) (rule : Rule) → at.window ≡ Some w → word_said (rule_by said at) 0 at ≡ Ok rule → IsRule said w rule
 rule_fits said w at rule there e =
-    let word = judged_is (rule_by said at) (slice_get at.words 0) rule e in
+    let word = judged_ok (rule_by said at) (slice_get at.words 0) rule e in
     by_word (bytes_eq word.0 (codes "skip")) (bytes_eq word.0 (codes "pass")) (bytes_eq word.0 (codes "redirect")) word.1
   where
     by_word : (skip pass redirect : Bool) →

@@ -4,9 +4,11 @@ use Rattle.std.specs.Prelude.{nat_lt, nat_le, slice_get}
 use Rattle.std.specs.List.{list_all}
 use Rattle.std.specs.Option.{option_and_then}
 use Rattle.std.specs.Result.{result_ok}
-use Rattle.std.proofs.lemmas.Bool.{le-leb, lt-ltb, ltb-false}
+use Rattle.std.proofs.lemmas.Bool.{le-leb, lt-ltb, ltb-false, and_from}
 use Rattle.std.proofs.lemmas.Int.{ints}
 use Rattle.std.proofs.lemmas.List.{length-map}
+use Rattle.be_facts.proofs.Truths.{and_second, or_false_second}
+use Rattle.be_facts.proofs.Lists.{all_at}
 use Rattle.be_actor.specs.declared.Instruction.{Instruction}
 use Rattle.be_actor.specs.declared.Instruction.TheVariants as instruction
 use Rattle.be_actor.specs.Drafts.{Word}
@@ -25,6 +27,7 @@ use Rattle.be_command.proofs.JudgingLemmas.{numbered_within}
 use Rattle.be_geom.specs.declared.point.Point.{Point}
 use Rattle.be_geom.specs.declared.rect.Rect.{Rect}
 use Rattle.be_geom.specs.Points.{between}
+use Rattle.be_command.proofs.WithinLemmas.{judged_ok}
 use Rattle.be_line.specs.declared.site.Allowed.{Allowed}
 use Rattle.be_line.specs.declared.site.Seat.TheVariants as seat
 use Rattle.be_line.specs.declared.statement.Statement.{Statement}
@@ -34,11 +37,10 @@ use Rattle.be_line.specs.FirstWords.{is_of_drawing, misplaced, seat_of}
 use Rattle.be_line.specs.Kinds.{filter_what_said, note_said, what_said}
 use Rattle.be_line.proofs.PortLemmas.{options-port}
 use Rattle.be_message.specs.declared.target.Target.{Target}
-use Rattle.be_said.proofs.AppendLemmas.{or-right}
 use Rattle.be_reader.proofs.CommandFits.{command-draws, command-keeps, command-made, command-names}
 use Rattle.be_said.proofs.DoneLemmas.{target-there, window-there}
 use Rattle.be_reader.proofs.FieldFits.{draft-keeps}
-use Rattle.be_reader.proofs.FitsLemmas.{handler_fits, judged_is, named_within, number_fits}
+use Rattle.be_reader.proofs.FitsLemmas.{handler_fits, named_within, number_fits}
 use Rattle.be_reader.proofs.TakesLemmas.{ok-both, ok-said_as}
 use Rattle.be_reader.proofs.WordFits.{filter_what-keeps, is_shown_word, note-keeps, what-keeps}
 use Rattle.be_reader.specs.Forms.{form_of}
@@ -49,8 +51,6 @@ use Rattle.be_script.specs.Limits.{is_frame, is_place}
 use Rattle.be_script.specs.Programs.{is_address, is_body_step, is_command_for, is_draw_step, is_free_step, is_handler_of, is_locked_step, is_note, view_count}
 use Rattle.be_script.specs.Script.{Declared}
 use Rattle.be_script.specs.Windows.{view_lines}
-use Rattle.be_script.proofs.RoutableLemmas.{all-at, and-both}
-use Rattle.be_script.proofs.WorkNumbers.{and-right}
 
 -- ---- where a line stands
 
@@ -112,7 +112,7 @@ place_keeps d (Some size) at p wide high e =
     let first : between (pos 0) x.0.0 (pos size.0 -ℤ pos 1) ≡ true = numbered_within (pos 0) (pos size.0 -ℤ pos 1) (slice_get at.words 0) x.0.0 parts.0 in
     let other : between (pos 0) x.0.1 (pos size.1 -ℤ pos 1) ≡ true = numbered_within (pos 0) (pos size.1 -ℤ pos 1) (slice_get at.words 1) x.0.1 parts.1 in
     subst (λ (q : Point). is_place d q ≡ true) x.1.1
-    (and-both (between (pos 0) x.0.0 (pos d.width -ℤ pos 1)) (between (pos 0) x.0.1 (pos d.height -ℤ pos 1))
+    (and_from (between (pos 0) x.0.0 (pos d.width -ℤ pos 1)) (between (pos 0) x.0.1 (pos d.height -ℤ pos 1))
     (ap (λ n. between (pos 0) x.0.0 (pos n -ℤ pos 1)) wide ∙ first) (ap (λ n. between (pos 0) x.0.1 (pos n -ℤ pos 1)) high ∙ other))
 
 key_keeps : (n : ℕ) → n ≤ 255 → between (pos 0) (pos n) (pos 255) ≡ true
@@ -130,15 +130,15 @@ head_of before kind kinds at x e = ok-both (said before kind at) (said_all befor
 word_of : {A : Type 0} (read : List ℕ → Result A Reason) (words : List (List ℕ)) (k : ℕ) (a : A) (o : Option (List ℕ)) → slice_get words k ≡ o → list_all is_shown_word words ≡ true →
     judged read o ≡ Ok a → (word : List ℕ) × (is_shown_word word ≡ true) × (read word ≡ Ok a)
 word_of read words k a None at h e = absurd ((cc))
-word_of read words k a (Some word) at h e = (word, all-at is_shown_word words k word h at, e)
+word_of read words k a (Some word) at h e = (word, all_at is_shown_word words k word h at, e)
 
 drop_shown : (n : ℕ) (words : List (List ℕ)) → list_all is_shown_word words ≡ true → list_all is_shown_word (drop n words) ≡ true
 drop_shown zero words h = h
 drop_shown (suc n) [] h = h
-drop_shown (suc n) (word ∷ words) h = drop_shown n words (and-right (is_shown_word word) (list_all is_shown_word words) h)
+drop_shown (suc n) (word ∷ words) h = drop_shown n words (and_second (is_shown_word word) (list_all is_shown_word words) h)
 
 what_of : (before : SoFar) (at : At) (what : ℕ) → said before a_what at ≡ Ok what → (is_what what ≡ true) × (is_reserved what ≡ false)
-what_of before at what e = let word = judged_is what_said (slice_get at.words 0) what e in what-keeps word.0 what word.1
+what_of before at what e = let word = judged_ok what_said (slice_get at.words 0) what e in what-keeps word.0 what word.1
 
 note_of : (before : SoFar) (at : At) (note : List ℕ) → list_all is_shown_word at.words ≡ true → word_said note_said 0 at ≡ Ok note → is_note note ≡ true
 note_of before at note h e = let word = word_of note_said at.words 0 note (slice_get at.words 0) refl h e in note-keeps word.0 note word.1 word.2
@@ -155,7 +155,7 @@ address before at w t kinds x e =
     let there = subst (λ (n : ℕ). w < n) (length-map before.windows (λ line. line.name)) (named_within (window_names before) at w window.0) in
     let here : next.window ≡ Some w = ap result_ok window.0 in
     let target = handler_fits before w 0 next t (subst (λ (o : Option ℕ). word_said (handler_named before o) 0 next ≡ Ok t) here handler.0) in
-    (and-both (nat_lt w (length before.windows)) (is_handler_of (declared_so_far before) w t) (window-there before w there) (target-there before w t target), handler.1)
+    (and_from (nat_lt w (length before.windows)) (is_handler_of (declared_so_far before) w t) (window-there before w there) (target-there before w t target), handler.1)
 
 -- a draft of these two parts
 draft_of : (before : SoFar) (at : At) (has : Bool) (what : ℕ) (words : List Word) → has_message before.begun ≡ has → list_all is_shown_word at.words ≡ true →
@@ -186,7 +186,7 @@ command_fits before w text word c there first e =
     subst (λ (n : ℕ). names_what_is (length d.windows) (view_count d w) n c ≡ true) pictures
     (subst (λ (n : ℕ). names_what_is (length d.windows) n (length known.bitmaps) c ≡ true) views
     (subst (λ (n : ℕ). names_what_is n (length known.views) (length known.bitmaps) c ≡ true) windows names)) in (
-      and-both (is_command c) (names_what_is (length d.windows) (view_count d w) (length d.pictures) c) keeps here,
+      and_from (is_command c) (names_what_is (length d.windows) (view_count d w) (length d.pictures) c) keeps here,
       λ drawing. ap is_drawing (sym m.made) ∙ command-draws word m.parts drawing,
     )
 
@@ -239,8 +239,8 @@ line_formed before statement.Window at x m h t e =
     let frame = head_of before a_window_frame (some_options ∷ []) (behind 1 at) x.1 first.1 in
     let last = head_of before some_options [] (behind 4 (behind 1 at)) x.1.1 frame.1 in
     let port = options-port (behind 4 (behind 1 at)).words x.1.1.0 last.0 in
-    and-both (is_frame x.1.0 && nat_le 1 x.1.1.0.port) (nat_le x.1.1.0.port 100)
-    (and-both (is_frame x.1.0) (nat_le 1 x.1.1.0.port) (frame_keeps (frame_said (behind 1 at)) x.1.0 frame.0) (le-leb 1 x.1.1.0.port port.0))
+    and_from (is_frame x.1.0 && nat_le 1 x.1.1.0.port) (nat_le x.1.1.0.port 100)
+    (and_from (is_frame x.1.0) (nat_le 1 x.1.1.0.port) (frame_keeps (frame_said (behind 1 at)) x.1.0 frame.0) (le-leb 1 x.1.1.0.port port.0))
     (le-leb x.1.1.0.port 100 port.1)
 line_formed before statement.View at x m h t e = tt
 line_formed before statement.Handler at x m h t e = tt
@@ -249,7 +249,7 @@ line_formed before statement.Filter at x m h t e =
     let next = after before a_window at in
     let list = head_of before a_list (a_filter_what ∷ a_rule ∷ []) next x.1 first.1 in
     let what = head_of before a_filter_what (a_rule ∷ []) (behind 1 next) x.1.1 list.1 in
-    let word = judged_is filter_what_said (slice_get (behind 1 next).words 0) x.1.1.0 what.0 in
+    let word = judged_ok filter_what_said (slice_get (behind 1 next).words 0) x.1.1.0 what.0 in
     filter_what-keeps word.0 x.1.1.0 word.1
 line_formed before statement.On at x m h t e =
     let first = head_of before a_window (a_handler ∷ a_what ∷ []) at x e in
@@ -274,20 +274,20 @@ line_formed before statement.Post at x m h t e = λ few.
     let a = address before at x.0 x.1.0 (a_what ∷ some_fields ∷ []) x.1.1 e in
     let next = behind 1 (after before a_window at) in
     let shown : list_all is_shown_word next.words ≡ true = drop_shown 1 (drop 1 at.words) (drop_shown 1 at.words h) in
-    let short = or-right _ (nat_lt 255 (length x.1.1.1.0)) few in
+    let short = or_false_second _ (nat_lt 255 (length x.1.1.1.0)) few in
     let draft = λ (has : Bool) (is : has_message before.begun ≡ has). draft_of before next has x.1.1.0 x.1.1.1.0 is shown a.1 short in
     placed (declared_so_far before) before.screen before.begun _ (instruction.Post x.0 x.1.0 (record { what = x.1.1.0; words = x.1.1.1.0 })) m
-    (λ w there has so. and-both _ _ a.0 (draft true has)) (λ w there so. not_there so) (λ has so. and-both _ _ a.0 (draft false has)) (λ w there has so. and-both _ _ a.0 (draft false has))
+    (λ w there has so. and_from _ _ a.0 (draft true has)) (λ w there so. not_there so) (λ has so. and_from _ _ a.0 (draft false has)) (λ w there has so. and_from _ _ a.0 (draft false has))
 line_formed before statement.Send at x m h t e = λ few.
     let a = address before at x.0 x.1.0 (a_what ∷ some_fields ∷ []) x.1.1 e in
     let next = behind 1 (after before a_window at) in
     let shown : list_all is_shown_word next.words ≡ true = drop_shown 1 (drop 1 at.words) (drop_shown 1 at.words h) in
-    let short = or-right _ (nat_lt 255 (length x.1.1.1.0)) few in
+    let short = or_false_second _ (nat_lt 255 (length x.1.1.1.0)) few in
     let draft = λ (has : Bool) (is : has_message before.begun ≡ has). draft_of before next has x.1.1.0 x.1.1.1.0 is shown a.1 short in
     placed (declared_so_far before) before.screen before.begun _ (instruction.Send x.0 x.1.0 (record { what = x.1.1.0; words = x.1.1.1.0 })) m
-    (λ w there has so. not_there so) (λ w there so. not_there so) (λ has so. and-both _ _ a.0 (draft false has)) (λ w there has so. not_there so)
+    (λ w there has so. not_there so) (λ w there so. not_there so) (λ has so. and_from _ _ a.0 (draft false has)) (λ w there has so. not_there so)
 line_formed before statement.Reply at x m h t e = λ few.
-    let short = or-right _ (nat_lt 255 (length x.1.0)) few in
+    let short = or_false_second _ (nat_lt 255 (length x.1.0)) few in
     placed (declared_so_far before) before.screen before.begun _ (instruction.Reply (record { what = x.0; words = x.1.0 })) m
     (λ w there has so. draft_of before at true x.0 x.1.0 has h e short) (λ w there so. not_there so) (λ has so. not_there so) (λ w there has so. not_there so)
 line_formed before statement.Forward at x m h t e = λ few.
@@ -308,6 +308,6 @@ line_formed before (statement.Command word) at x m h t e = λ few.
     let c = (head_of before a_command [] at x e).0 in
     placed (declared_so_far before) before.screen before.begun _ (instruction.Draw x.0) m
     (λ w there has so. (command_fits before w at.text word x.0 there t c).0)
-    (λ w there so. let r = command_fits before w at.text word x.0 there t c in and-both _ _ r.0 (r.1 so))
+    (λ w there so. let r = command_fits before w at.text word x.0 there t c in and_from _ _ r.0 (r.1 so))
     (λ has so. not_there so)
     (λ w there has so. (command_fits before w at.text word x.0 there t c).0)

@@ -1,12 +1,14 @@
 -- What is said keeps its limits from line to line, and at the end all of a script does.
-use Rattle.std.proofs.Common.{◌≡◌, ℕ, zero, suc, ◌+◌, ◌<◌, ◌≤◌, Bool, true, false, codes, cond, List, [], ◌∷◌, length, Option, Some, None, option_map, Result, Ok, Err, refl, ap, sym, ◌∙◌, subst, arith}
+use Rattle.std.proofs.Common.{◌≡◌, ℕ, ◌+◌, ◌≤◌, Bool, true, false, codes, cond, List, [], ◌∷◌, length, Option, Some, None, option_map, Result, Ok, Err, refl, ap, sym, ◌∙◌, subst, arith}
 use Rattle.std.specs.Prelude.{nat_lt}
-use Rattle.std.specs.List.{list_all, range_with_len}
+use Rattle.std.specs.List.{list_all}
 use Rattle.std.specs.Map.{lookup}
 use Rattle.std.specs.Option.{option_and_then, option_or}
 use Rattle.std.specs.Str.{bytes_eq}
 use Rattle.std.proofs.lemmas.Bool.{ltb-false}
 use Rattle.std.proofs.lemmas.Slice.Eq.{bytes_eq-Decides}
+use Rattle.be_facts.proofs.Lists.{all_below}
+use Rattle.be_facts.proofs.Truths.{and_second}
 use Rattle.be_command.specs.declared.fault.Reason.{Reason}
 use Rattle.be_command.specs.declared.fault.Reason.TheVariants.{TooLong, TooMuchWork, Unfinished}
 use Rattle.be_command.specs.declared.first_word.FirstWord.{FirstWord}
@@ -35,8 +37,7 @@ use Rattle.be_reader.specs.Kinds.{At, SaidAll, said_all}
 use Rattle.be_script.specs.Limits.{IsWithinLimits, is_window_declared}
 use Rattle.be_script.specs.Routable.{IsRoutable}
 use Rattle.be_script.specs.Work.{work_of}
-use Rattle.be_script.proofs.RoutableLemmas.{and-both, routable-from}
-use Rattle.be_script.proofs.WorkNumbers.{and-right}
+use Rattle.be_script.proofs.RoutableLemmas.{routable-from}
 
 -- ---- before the first line
 
@@ -66,15 +67,6 @@ opening = record {
 
 -- ---- all of a script
 
-all_range : (p : ℕ → Bool) (start n : ℕ) → ((w : ℕ) → start ≤ w → w < start + n → p w ≡ true) → list_all p (range_with_len start n) ≡ true
-all_range p start zero each = refl
-all_range p start (suc n) each =
-    and-both (p start) (list_all p (range_with_len (start + 1) n)) (each start (omega arith) (omega arith))
-    (all_range p (start + 1) n (λ w low high. each w (omega arith) (omega arith)))
-
-all_windows : (p : ℕ → Bool) (n : ℕ) → ((w : ℕ) → w < n → p w ≡ true) → list_all p (range_with_len 0 n) ≡ true
-all_windows p n each = all_range p 0 n (λ w low high. each w (omega arith))
-
 with_size : (said : SoFar) (size : ℕ × ℕ) → said.screen ≡ Some size → declared_so_far said ≡ declared_in said size
 with_size said size e = ap (λ o. declared_in said (size_of o)) e
 
@@ -100,7 +92,7 @@ limits said size k e closed work =
       filters = d.filters;
       bodies = d.bodies;
       draws = d.draws;
-      declared = all_windows (is_window_declared (declared_in said size)) (length said.windows) d.each_window;
+      declared = all_below (is_window_declared (declared_in said size)) (length said.windows) d.each_window;
       apps = d.apps;
       app_names = d.app_names;
       input = d.input;
@@ -110,7 +102,7 @@ pub routable : (said : SoFar) (size : ℕ × ℕ) → Keeps said → said.screen
 routable said size k e closed =
     let d : AreKept (declared_in said size) = subst AreKept (with_size said size e) k.declared in
     routable-from (declared_in said size) d.few_windows d.views d.handlers d.filters d.bodies d.draws
-    (all_windows (is_window_declared (declared_in said size)) (length said.windows) d.each_window)
+    (all_below (is_window_declared (declared_in said size)) (length said.windows) d.each_window)
 
 -- ---- the command that a line begins with
 
@@ -240,7 +232,7 @@ module _ (before new : SoFar) (line : Line) (k : Keeps before) (e : read_line be
       let done_is = rw (long, printable, some, is, known, there, said) at e in
       let begins = statement_begins word st known (text_of line) words is in
       let shown : list_all is_shown_word words ≡ true =
-      and-right (is_shown_word word) (list_all is_shown_word words)
+      and_second (is_shown_word word) (list_all is_shown_word words)
       (subst (λ (ws : List (List ℕ)). list_all is_shown_word ws ≡ true) is (words-shown (text_of line) printable)) in
       keeps_done before new ((form_of (meant_here st)).makes x) k (line_fits before (meant_here st) (at_of word words) x there said)
       (line_formed before (meant_here st) (at_of word words) x there shown (where_meant (BeginsWith (text_of line)) (site_of before) st begins.0 begins.1) said)

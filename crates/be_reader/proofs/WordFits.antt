@@ -4,8 +4,9 @@ use Rattle.std.specs.Prelude.{nat_le}
 use Rattle.std.specs.Int.{w32, from_be_bytes}
 use Rattle.std.specs.List.{list_all, onto_first, slice_split}
 use Rattle.std.specs.Str.{bytes_eq}
-use Rattle.std.proofs.lemmas.Bool.{eqb-true, le-leb}
+use Rattle.std.proofs.lemmas.Bool.{eqb-true, le-leb, and_from}
 use Rattle.std.proofs.lemmas.Bool.Decides.{nat_tests}
+use Rattle.be_facts.proofs.Truths.{and_first, and_second}
 use Rattle.be_actor.specs.Limits.{is_reserved, is_what, is_what_byte}
 use Rattle.be_command.specs.declared.fault.Reason.TheVariants.{Shape}
 use Rattle.be_command.specs.Kinds.{formed}
@@ -15,8 +16,6 @@ use Rattle.be_lex.specs.Words.{is_empty, is_space, words_of}
 use Rattle.be_line.specs.Kinds.{filter_what_said, note_said, said_as, what_said}
 use Rattle.be_script.specs.Limits.{is_filter_word}
 use Rattle.be_script.specs.Programs.{is_note}
-use Rattle.be_script.proofs.RoutableLemmas.{and-both}
-use Rattle.be_script.proofs.WorkNumbers.{and-left, and-right}
 
 -- ---- the words of a printable line
 
@@ -31,11 +30,11 @@ shown_byte : (b : ℕ) → (nat_le 32 b && nat_le b 126) ≡ true → is_space b
 shown_byte b h n = grind (arith, nat_tests)
 
 onto_shown : (b : ℕ) (pieces : List (List ℕ)) → is_shown b ≡ true → list_all (list_all is_shown) pieces ≡ true → list_all (list_all is_shown) (onto_first b pieces) ≡ true
-onto_shown b [] h k = and-both (list_all is_shown (b ∷ [])) true (and-both (is_shown b) true h refl) refl
+onto_shown b [] h k = and_from (list_all is_shown (b ∷ [])) true (and_from (is_shown b) true h refl) refl
 onto_shown b (piece ∷ pieces) h k =
-    and-both (is_shown b && list_all is_shown piece) (list_all (list_all is_shown) pieces)
-    (and-both (is_shown b) (list_all is_shown piece) h (and-left (list_all is_shown piece) (list_all (list_all is_shown) pieces) k))
-    (and-right (list_all is_shown piece) (list_all (list_all is_shown) pieces) k)
+    and_from (is_shown b && list_all is_shown piece) (list_all (list_all is_shown) pieces)
+    (and_from (is_shown b) (list_all is_shown piece) h (and_first (list_all is_shown piece) (list_all (list_all is_shown) pieces) k))
+    (and_second (list_all is_shown piece) (list_all (list_all is_shown) pieces) k)
 
 pieces_by : (b : ℕ) (pieces : List (List ℕ)) (s : Bool) → is_space b ≡ s → (nat_le 32 b && nat_le b 126) ≡ true → list_all (list_all is_shown) pieces ≡ true →
     list_all (list_all is_shown) (cond s ([] ∷ pieces) (onto_first b pieces)) ≡ true
@@ -47,7 +46,7 @@ pieces_shown [] h = refl
 pieces_shown (b ∷ bytes) h =
     let here = nat_le 32 b && nat_le b 126 in
     let rest = list_all (λ b. nat_le 32 b && nat_le b 126) bytes in
-    pieces_by b (slice_split is_space bytes) (is_space b) refl (and-left here rest h) (pieces_shown bytes (and-right here rest h))
+    pieces_by b (slice_split is_space bytes) (is_space b) refl (and_first here rest h) (pieces_shown bytes (and_second here rest h))
 
 some_bytes : (piece : List ℕ) → not (is_empty piece) ≡ true → nat_le 1 (length piece) ≡ true
 some_bytes [] h = h
@@ -55,13 +54,13 @@ some_bytes (b ∷ bytes) h = le-leb 1 (length (b ∷ bytes)) (omega arith)
 
 kept_shown : (pieces : List (List ℕ)) → list_all (list_all is_shown) pieces ≡ true → list_all is_shown_word (filter (λ piece. not (is_empty piece)) pieces) ≡ true
 kept_shown [] h = refl
-kept_shown (piece ∷ pieces) h = by (not (is_empty piece)) refl (kept_shown pieces (and-right (list_all is_shown piece) (list_all (list_all is_shown) pieces) h))
+kept_shown (piece ∷ pieces) h = by (not (is_empty piece)) refl (kept_shown pieces (and_second (list_all is_shown piece) (list_all (list_all is_shown) pieces) h))
   where
     by : (b : Bool) → not (is_empty piece) ≡ b → list_all is_shown_word (filter (λ piece. not (is_empty piece)) pieces) ≡ true →
         list_all is_shown_word (cond b (piece ∷ filter (λ piece. not (is_empty piece)) pieces) (filter (λ piece. not (is_empty piece)) pieces)) ≡ true
     by true e rest =
-        and-both (is_shown_word piece) (list_all is_shown_word (filter (λ piece. not (is_empty piece)) pieces))
-        (and-both (nat_le 1 (length piece)) (list_all is_shown piece) (some_bytes piece e) (and-left (list_all is_shown piece) (list_all (list_all is_shown) pieces) h))
+        and_from (is_shown_word piece) (list_all is_shown_word (filter (λ piece. not (is_empty piece)) pieces))
+        (and_from (nat_le 1 (length piece)) (list_all is_shown piece) (some_bytes piece e) (and_first (list_all is_shown piece) (list_all (list_all is_shown) pieces) h))
         rest
     by false e rest = rest
 
@@ -75,9 +74,9 @@ noted : (short : Bool) (word note : List ℕ) → nat_le (length word) 32 ≡ sh
 noted true word note e h said =
     let same : word ≡ note = (cc) in
     subst (λ (n : List ℕ). is_note n ≡ true) same
-    (and-both (nat_le 1 (length word) && nat_le (length word) 32) (list_all is_shown word)
-    (and-both (nat_le 1 (length word)) (nat_le (length word) 32) (and-left (nat_le 1 (length word)) (list_all is_shown word) h) e)
-    (and-right (nat_le 1 (length word)) (list_all is_shown word) h))
+    (and_from (nat_le 1 (length word) && nat_le (length word) 32) (list_all is_shown word)
+    (and_from (nat_le 1 (length word)) (nat_le (length word) 32) (and_first (nat_le 1 (length word)) (list_all is_shown word) h) e)
+    (and_second (nat_le 1 (length word)) (list_all is_shown word) h))
 noted false word note e h said = absurd ((cc))
 
 pub note-keeps : (word note : List ℕ) → is_shown_word word ≡ true → note_said word ≡ Ok note → is_note note ≡ true
@@ -102,24 +101,24 @@ code_is_what (a ∷ []) h = absurd ((cc))
 code_is_what (a ∷ b ∷ []) h = absurd ((cc))
 code_is_what (a ∷ b ∷ c ∷ []) h = absurd ((cc))
 code_is_what (a ∷ b ∷ c ∷ d ∷ e ∷ more) h =
-    let count = eqb-true (length (a ∷ b ∷ c ∷ d ∷ e ∷ more)) 4 (and-left (length (a ∷ b ∷ c ∷ d ∷ e ∷ more) == 4) (list_all is_code_byte (a ∷ b ∷ c ∷ d ∷ e ∷ more)) h) in
+    let count = eqb-true (length (a ∷ b ∷ c ∷ d ∷ e ∷ more)) 4 (and_first (length (a ∷ b ∷ c ∷ d ∷ e ∷ more) == 4) (list_all is_code_byte (a ∷ b ∷ c ∷ d ∷ e ∷ more)) h) in
     absurd (omega arith)
 code_is_what (a ∷ b ∷ c ∷ d ∷ []) h =
     let n = from_be_bytes w32 (a ∷ b ∷ c ∷ d ∷ []) in
-    let pa = what_byte a (and-left (is_code_byte a) (list_all is_code_byte (b ∷ c ∷ d ∷ [])) h) in
-    let rb = and-right (is_code_byte a) (list_all is_code_byte (b ∷ c ∷ d ∷ [])) h in
-    let pb = what_byte b (and-left (is_code_byte b) (list_all is_code_byte (c ∷ d ∷ [])) rb) in
-    let rc = and-right (is_code_byte b) (list_all is_code_byte (c ∷ d ∷ [])) rb in
-    let pc = what_byte c (and-left (is_code_byte c) (list_all is_code_byte (d ∷ [])) rc) in
-    let rd = and-right (is_code_byte c) (list_all is_code_byte (d ∷ [])) rc in
-    let pd = what_byte d (and-left (is_code_byte d) true rd) in
+    let pa = what_byte a (and_first (is_code_byte a) (list_all is_code_byte (b ∷ c ∷ d ∷ [])) h) in
+    let rb = and_second (is_code_byte a) (list_all is_code_byte (b ∷ c ∷ d ∷ [])) h in
+    let pb = what_byte b (and_first (is_code_byte b) (list_all is_code_byte (c ∷ d ∷ [])) rb) in
+    let rc = and_second (is_code_byte b) (list_all is_code_byte (c ∷ d ∷ [])) rb in
+    let pc = what_byte c (and_first (is_code_byte c) (list_all is_code_byte (d ∷ [])) rc) in
+    let rd = and_second (is_code_byte c) (list_all is_code_byte (d ∷ [])) rc in
+    let pd = what_byte d (and_first (is_code_byte d) true rd) in
     let parts = quarters a b c d n (four_bytes a b c d) pb.1 pc.1 pd.1 pa.1 in
     let at = is_what_byte (n / 16777216) in
     let bt = is_what_byte (n / 65536 % 256) in
     let ct = is_what_byte (n / 256 % 256) in
     let dt = is_what_byte (n % 256) in
-    and-both ((at && bt) && ct) dt
-    (and-both (at && bt) ct (and-both at bt (ap is_what_byte parts.0 ∙ pa.0) (ap is_what_byte parts.1 ∙ pb.0)) (ap is_what_byte parts.2 ∙ pc.0))
+    and_from ((at && bt) && ct) dt
+    (and_from (at && bt) ct (and_from at bt (ap is_what_byte parts.0 ∙ pa.0) (ap is_what_byte parts.1 ∙ pb.0)) (ap is_what_byte parts.2 ∙ pc.0))
     (ap is_what_byte parts.3 ∙ pd.0)
 
 code_what : (word : List ℕ) (code : ℕ) → code_of word ≡ Some code → is_what code ≡ true

@@ -1,6 +1,6 @@
 -- The change at the front of a window's link can be planned, or is refused.
-use Rattle.std.proofs.Common.{◌≡◌, ℕ, ◌<◌, List, length, Some, Result, Ok, Err, ◌⊎◌, inl, inr, refl, sym, ap, ◌∙◌, subst}
-use Rattle.std.specs.Prelude.{ℤ, IfOk}
+use Rattle.std.proofs.Common.{◌≡◌, ℕ, ◌<◌, List, length, Some, Result, Ok, Err, inl, inr, refl, sym, ap, ◌∙◌, subst}
+use Rattle.std.specs.Prelude.{IfOk}
 use Rattle.std.proofs.lemmas.Option.{same_Some}
 use Rattle.be_asking.proofs.Asked.{fits, own, wanted}
 use Rattle.be_asking.proofs.ChangesAnswered as answered
@@ -18,23 +18,20 @@ use Rattle.be_geom.specs.declared.change.Change.{Change}
 use Rattle.be_hall.specs.Hands.{meant, part_at}
 use Rattle.be_hall.specs.Machine.{IsHeld}
 use Rattle.be_link.specs.Queues.{numbered}
-use Rattle.be_machine.proofs.Sizes.{IsAsLarge, IsAsMany, KeepsCounts, as_many, desk_sizes}
 use Rattle.be_machine.specs.KeptLimits.{LinkedAreWithinLimits}
 use Rattle.be_machine.specs.State.{State}
 use Rattle.be_machine.specs.Touched as part
 use Rattle.be_parts.specs.Parts.{meaning_of}
 use Rattle.be_parts.specs.declared.part.Part.{Part}
 use Rattle.be_parts.specs.declared.part.Part.TheVariants as kinds
-use Rattle.be_rules.proofs.Cut.{owner_there}
 use Rattle.be_rules.proofs.Far.{needs_altered}
 use Rattle.be_rules.proofs.Lawfully.{whole}
-use Rattle.be_rules.proofs.Spots.{changes_hands}
-use Rattle.be_rules.specs.Far.{IsAltered, windows_behind, windows_or}
+use Rattle.be_rules.specs.Far.{IsAltered}
 use Rattle.be_rules.specs.Places.{place_of}
 use Rattle.be_rules.specs.Slices.{Slice, desk, desk_in}
 use Rattle.be_script.specs.Script.{Declared}
-use Rattle.be_stack.specs.Owner.{owner_at}
 use Rattle.be_stack.specs.declared.fault.ChangeFault.{ChangeFault}
+use Rattle.be_asking.proofs.ChangesAnswered.{altered_there}
 use Rattle.be_steps.proofs.Making.{all, fits_now, now, so}
 use Rattle.be_steps.specs.Steps.{IsAllowed}
 use Rattle.be_steps.specs.There.{IsThere}
@@ -43,24 +40,6 @@ use Rattle.be_ready.specs.Plannable.{IsPlannable}
 use Rattle.be_changes.specs.Planned.{HasDesk, IsNextChange, IsRefusedIn, IsStirredBy}
 use Rattle.be_ready.specs.Planning.{IsPlanning, IsRefusal}
 use Rattle.be_ready.specs.declared.planning.Planning.{Planning}
-
-as_large : (before : Desk) (w : ℕ) (change : Change) → IsAsLarge before.windows (windows_behind before w change)
-as_large before w change = by_result (desk_after before w change) (desk_sizes before w change)
-  where
-    by_result : (r : Result Desk ChangeFault) → KeepsCounts before r → IsAsLarge before.windows (windows_or before.windows r)
-    by_result (Ok new) is = is.sizes
-    by_result (Err f) is = let same : IsAsMany before before = as_many before in same.sizes
-
--- a window that owns other pixels after a change is there
-pub altered_there : (before : Desk) (w : ℕ) (change : Change) (u : ℕ) → IsAltered before w change u → u < length before.windows.windows
-altered_there before w change u other =
-    let large : IsAsLarge before.windows (windows_behind before w change) = as_large before w change in
-    let hands = changes_hands before.windows (windows_behind before w change) large.width large.height u other in
-    by hands.0 hands.1 large hands.2
-  where
-    by : (x y : ℤ) → IsAsLarge before.windows (windows_behind before w change) → (owner_at before.windows x y ≡ Some u) ⊎ (owner_at (windows_behind before w change) x y ≡ Some u) → u < length before.windows.windows
-    by x y large (inl is) = owner_there before.windows x y u is
-    by x y large (inr is) = subst (λ k. u < k) large.windows (owner_there (windows_behind before w change) x y u is)
 
 module _ (d : Declared) (parts : List (ℕ × Part)) (w : ℕ) (allowed : IsAllowed d parts (who.Twin w) (want.Executes w)) (change : Change) (next : IsNextChange d parts w change) where
   abbrev me : Activity

@@ -1,11 +1,9 @@
 -- The pane of a window whose looper begins an update has no session open.
-use Rattle.std.proofs.Common.{◌≡◌, ℕ, List, Option, Some, None, Ok, Err, inl, inr, refl, sym, subst}
+use Rattle.std.proofs.Common.{◌≡◌, ℕ, List, Some, None, Ok, Err, inl, inr, refl, sym, subst}
 use Rattle.std.specs.Prelude.{Result, slice_get}
 use Rattle.be_asking.specs.declared.activity.Activity.TheVariants as who
 use Rattle.be_asking.specs.declared.activity.Runner.TheVariants as by
 use Rattle.be_asking.specs.declared.want.Want.TheVariants as want
-use Rattle.be_geom.specs.declared.point.Point.{Point}
-use Rattle.be_geom.specs.declared.rect.Rect.{Rect}
 use Rattle.be_hall.specs.Hands.{part_at}
 use Rattle.be_looper.specs.Duties as duties
 use Rattle.be_machine.specs.KeptLimits.{NoSessionAtBegin}
@@ -19,23 +17,16 @@ use Rattle.be_parts.specs.Kept.{Kept}
 use Rattle.be_parts.specs.Stands.{PaneIs, PaneShows}
 use Rattle.be_parts.specs.declared.part.Part.{Part}
 use Rattle.be_parts.specs.declared.part.Part.TheVariants as kinds
-use Rattle.be_region.specs.Sessions.{SameSession}
+use Rattle.be_pane.proofs.OwedLemmas.{closed_both}
 use Rattle.be_rules.specs.Places.{place_of}
 use Rattle.be_rules.specs.Slices.{Slice, shown_of}
 use Rattle.be_script.specs.Script.{Declared}
-use Rattle.be_steps.proofs.BeginStates.{begins_there}
 use Rattle.be_steps.proofs.Making.{now, read, so, there, wanted_now}
 use Rattle.be_steps.specs.Steps.{IsAllowed}
 use Rattle.be_steps.specs.Surveyed.{IsSurveyedIn}
 use Rattle.be_steps.specs.There.{IsThere}
 use Rattle.be_update.specs.Surveys.{IsSurveyOf, Surveyed}
-
--- where the machine has no session the pane has none
-closed_by : (rects : Option (List Rect)) (pixels : Option (List Point)) → SameSession rects pixels → pixels ≡ None → rects ≡ None
-closed_by (Some rs) (Some ps) same none = absurd (cc)
-closed_by (Some rs) None same none = absurd same
-closed_by None (Some ps) same none = absurd same
-closed_by None None same none = refl
+use Rattle.be_machine.proofs.KeptSessions.{begins_there}
 
 -- an answer isn't a fault
 pub not_both : {A B : Type 0} {x : A} {y : B} (r : Result A B) → r ≡ Ok x → r ≡ Err y → ⊥
@@ -62,7 +53,7 @@ module _ (d : Declared) (parts : List (ℕ × Part)) (w : ℕ) (allowed : IsAllo
         let sound = so d parts (who.Runner (by.Looper w)) (want.Begins w) allowed in
         let hand : (hand : duties.Hand Message) × (slice_get s.loopers w ≡ Some (handling hand beginning)) =
         begins_there d s w (wanted_now d parts (who.Runner (by.Looper w)) (want.Begins w) allowed) in
-        closed_by p.session shows.kept.session shows.stands.session
+        closed_both p.session shows.kept.session shows.stands.session
         (law d sound.history w hand.0 shows.kept sound.limits sound.legal hand.1 shows.is_kept).1
 
     pub found_some : (survey : Surveyed) → IsSurveyOf survey p → (IsClean p.spans → ⊥) → IsSurveyedIn d parts w (Some survey)

@@ -1,15 +1,18 @@
 -- The draft of the message that is asked for is the one at which the runner is, and can be written there.
-use Rattle.std.proofs.Common.{◌≡◌, ℕ, Bool, true, false, List, [], ◌∷◌, length, Option, Some, None, refl, sym, ap, ◌∙◌, subst}
-use Rattle.std.specs.Prelude.{◌==◌, ◌&&◌, not, nat_le, slice_get, option_map, option_and_then, if◌then◌else◌}
+use Rattle.std.proofs.Common.{◌≡◌, ℕ, Bool, true, false, List, [], ◌∷◌, Option, Some, None, refl, sym, ap, ◌∙◌, subst}
+use Rattle.std.specs.Prelude.{◌==◌, slice_get, option_map, option_and_then, if◌then◌else◌}
 use Rattle.std.specs.List.{list_all, list_any}
 use Rattle.std.proofs.lemmas.Option.{same_Some}
+use Rattle.std.proofs.lemmas.Bool.{and_from}
+use Rattle.be_facts.proofs.Lists.{all_at}
+use Rattle.be_facts.proofs.Truths.{and_first, and_second}
 use Rattle.be_actor.specs.Conditions.{HasCurrent, draft_of, takes_current}
 use Rattle.be_actor.specs.declared.Instruction.{Instruction}
 use Rattle.be_actor.specs.declared.Instruction.TheVariants.{Note, Post, Send, Reply, Forward, Lock, Unlock, Flush, Sync, Draw}
 use Rattle.be_actor.specs.declared.Wish.{Wish}
 use Rattle.be_actor.specs.declared.Wish.TheVariants as wish
 use Rattle.be_actor.specs.Drafts.{DraftWords, Word, value, current, copied, filled}
-use Rattle.be_actor.specs.Limits.{all_go_together, is_draft, is_reserved, is_what, is_word}
+use Rattle.be_actor.specs.Limits.{is_draft, is_word}
 use Rattle.be_actor.specs.Wishes.{has_no_room, wish_at, wish_of}
 use Rattle.be_looper.specs.Duties.{Hand}
 use Rattle.be_message.specs.Messages.{Message}
@@ -21,9 +24,9 @@ use Rattle.be_machine.specs.Program.{app_program, buffered, letter_program, upda
 use Rattle.be_machine.specs.State.{State, App, Looper, free, locked, handling, Stage, in_body, beginning, in_update, ending}
 use Rattle.be_machine.specs.Wants.{Want, asks, asks_or, draw_end_want, draws_end, end_want, ends, flushes, looper_want, stage_want, want_of}
 use Rattle.be_machine.proofs.Found.{IsMapped, mapped}
-use Rattle.be_machine.proofs.Lists.{all_get, both, both_first, both_second}
 use Rattle.be_machine.proofs.Programs.{app_rest, body_steps, update_steps}
 use Rattle.be_machine.proofs.ProgressStands.{AppStands, app_stands}
+use Rattle.be_machine.proofs.KeptDepths.{draft_words}
 use Rattle.be_ready.specs.Letters.{draft_at}
 use Rattle.be_rules.specs.Own.{step_of}
 
@@ -35,9 +38,9 @@ suits has (Some draft) = is_draft has draft
 suits has None = true
 
 app_step_suits : (d : Declared) (lock : Option ℕ) (i : Instruction) → is_app_step d lock i ≡ true → suits false (draft_of i) ≡ true
-app_step_suits d None (Post v target draft) h = both_second (is_address d v target) (is_draft false draft) h
-app_step_suits d (Some w) (Post v target draft) h = both_second (is_address d v target) (is_draft false draft) h
-app_step_suits d None (Send v target draft) h = both_second (is_address d v target) (is_draft false draft) h
+app_step_suits d None (Post v target draft) h = and_second (is_address d v target) (is_draft false draft) h
+app_step_suits d (Some w) (Post v target draft) h = and_second (is_address d v target) (is_draft false draft) h
+app_step_suits d None (Send v target draft) h = and_second (is_address d v target) (is_draft false draft) h
 app_step_suits d (Some w) (Send v target draft) h = cc
 app_step_suits d None (Reply draft) h = cc
 app_step_suits d (Some w) (Reply draft) h = cc
@@ -51,11 +54,11 @@ app_step_suits d lock (Draw c) h = refl
 
 rest_suits : (d : Declared) (lock : Option ℕ) (steps : List Instruction) → is_rest_of_app d lock steps ≡ true → list_all (λ i. suits false (draft_of i)) steps ≡ true
 rest_suits d lock [] h = refl
-rest_suits d None (i ∷ rest) h = both (suits false (draft_of i)) _ (app_step_suits d None i (both_first (is_app_step d None i) _ h)) (rest_suits d (lock_behind None i) rest (both_second (is_app_step d None i) _ h))
-rest_suits d (Some w) (i ∷ rest) h = both (suits false (draft_of i)) _ (app_step_suits d (Some w) i (both_first (is_app_step d (Some w) i) _ h)) (rest_suits d (lock_behind (Some w) i) rest (both_second (is_app_step d (Some w) i) _ h))
+rest_suits d None (i ∷ rest) h = and_from (suits false (draft_of i)) _ (app_step_suits d None i (and_first (is_app_step d None i) _ h)) (rest_suits d (lock_behind None i) rest (and_second (is_app_step d None i) _ h))
+rest_suits d (Some w) (i ∷ rest) h = and_from (suits false (draft_of i)) _ (app_step_suits d (Some w) i (and_first (is_app_step d (Some w) i) _ h)) (rest_suits d (lock_behind (Some w) i) rest (and_second (is_app_step d (Some w) i) _ h))
 
 body_step_suits : (d : Declared) (w : ℕ) (i : Instruction) → is_body_step d w i ≡ true → suits true (draft_of i) ≡ true
-body_step_suits d w (Post v target draft) h = both_second (is_address d v target) (is_draft true draft) h
+body_step_suits d w (Post v target draft) h = and_second (is_address d v target) (is_draft true draft) h
 body_step_suits d w (Send v target draft) h = cc
 body_step_suits d w (Reply draft) h = h
 body_step_suits d w (Note word) h = refl
@@ -80,15 +83,9 @@ draw_step_none d w (Draw c) h = refl
 
 -- ---- the message in hand
 
-draft_words : (has : Bool) (draft : DraftWords) → is_draft has draft ≡ true → list_all (is_word has) draft.words ≡ true
-unfolding is_draft
-draft_words has draft h =
-    both_second (is_what draft.what && not (is_reserved draft.what) && nat_le (length draft.words) 255) (list_all (is_word has) draft.words)
-    (both_first (is_what draft.what && not (is_reserved draft.what) && nat_le (length draft.words) 255 && list_all (is_word has) draft.words) (all_go_together draft.words) h)
-
 takes_none : (ws : List Word) → list_all (is_word false) ws ≡ true → list_any takes_current ws ≡ true → ⊥
 takes_none [] all some = cc
-takes_none (value name datum ∷ ws) all some = takes_none ws (both_second (is_word false (value name datum)) _ all) some
+takes_none (value name datum ∷ ws) all some = takes_none ws (and_second (is_word false (value name datum)) _ all) some
 takes_none (current name ∷ ws) all some = cc
 takes_none (copied name ∷ ws) all some = cc
 
@@ -151,7 +148,7 @@ module _ (d : Declared) (s : State) (m : ℕ) (x : Wish) (message : Message) (li
   app_good_by is =
       good_by false None (option_and_then draft_of (step_of d m is.it)) message
       (subst (λ o. IsFrom None (option_and_then draft_of o) message) (sym is.next) (made_at is.it.place.part (buffered s (app m)) None is.step message (ap made_for is.asked ∙ makes)))
-      (ap (λ o. suits false (option_and_then draft_of o)) is.next ∙ all_get (λ i. suits false (draft_of i)) (app_program d m) is.it.place.step is.step (rest_suits d None (app_program d m) (app_rest d m limits)) is.next)
+      (ap (λ o. suits false (option_and_then draft_of o)) is.next ∙ all_at (λ i. suits false (draft_of i)) (app_program d m) is.it.place.step is.step (rest_suits d None (app_program d m) (app_rest d m limits)) is.next)
 
   -- an application's draft, by what is kept of it
   pub app_good : want_of d s (runner (app m)) ≡ Some (asks (app m) x) → (kept : Option App) → slice_get s.apps m ≡ kept → IsGood false None (option_and_then (λ a. option_and_then draft_of (step_of d m a)) kept) message
@@ -187,11 +184,11 @@ module _ (d : Declared) (s : State) (w : ℕ) (x : Wish) (message : Message) (li
 
   -- what stands at a place of a list
   at_suits : (steps : List Instruction) (k : ℕ) (o : Option Instruction) → slice_get steps k ≡ o → list_all (is_body_step d w) steps ≡ true → suits true (option_and_then draft_of o) ≡ true
-  at_suits steps k (Some i) read all = body_step_suits d w i (all_get (is_body_step d w) steps k i all read)
+  at_suits steps k (Some i) read all = body_step_suits d w i (all_at (is_body_step d w) steps k i all read)
   at_suits steps k None read all = refl
 
   at_none : (steps : List Instruction) (k : ℕ) (o : Option Instruction) → slice_get steps k ≡ o → list_all (is_draw_step d w) steps ≡ true → option_and_then draft_of o ≡ None
-  at_none steps k (Some i) read all = draw_step_none d w i (all_get (is_draw_step d w) steps k i all read)
+  at_none steps k (Some i) read all = draw_step_none d w i (all_at (is_draw_step d w) steps k i all read)
   at_none steps k None read all = refl
 
   stage_good : (hand : Hand Message) (stage : Stage) → stage_want d s w hand stage ≡ asks (looper w) x → IsGood true (Some hand.letter.body) (draft_at d w hand stage) message

@@ -65,7 +65,7 @@ taken_by None (Some p) act e none = absurd (cc)
 taken_by None None act e none = absurd (cc)
 
 -- the machine's port
-port_of : (k : Slice) (q : Queue) → PortIs k q → (p : Port Message) × (port_in k ≡ Some p) × PortStandsFor q p
+pub port_of : (k : Slice) (q : Queue) → PortIs k q → (p : Port Message) × (port_in k ≡ Some p) × PortStandsFor q p
 port_of (port w (Some p)) q stands = (p, refl, stands)
 port_of (port w None) q stands = absurd stands
 port_of (desk x) q stands = absurd stands

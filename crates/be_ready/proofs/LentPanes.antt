@@ -29,16 +29,7 @@ there_got [] u (k, lt, is) = absurd (omega arith)
 there_got (v ∷ vs) u (zero, lt, is) = (0, ap (λ n. Some n) is)
 there_got (v ∷ vs) u (suc k, lt, is) = let rest = there_got vs u (k, omega arith, is) in (suc rest.0, rest.1)
 
-pub read_there : (us : List ℕ) (k : ℕ) → k < length us → Contains us (get_or us k 0)
-read_there [] k lt = absurd (omega arith)
-read_there (v ∷ vs) zero lt = first_there v vs
-read_there (v ∷ vs) (suc k) lt = later_there v (get_or vs k 0) vs (read_there vs k (omega arith))
-
 -- ---- in order
-
-pub map_last : {A B : Type 0} (f : A → B) (xs : List A) (x : A) → map f (xs ++ x ∷ []) ≡ map f xs ++ f x ∷ []
-map_last f [] x = refl
-map_last f (y ∷ ys) x = ap (λ l. f y ∷ l) (map_last f ys x)
 
 map_read : (f : Pane → ℕ) (xs : List Pane) (k : ℕ) (x : Pane) → slice_index_or (map f xs) k (f x) ≡ f (slice_index_or xs k x)
 map_read f [] k x = refl

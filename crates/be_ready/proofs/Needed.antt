@@ -23,7 +23,3 @@ never_needs d parts who want allowed p (out, touched) =
 pub held_unless : (parts : List (ℕ × Part)) (p : ℕ) (o : Option Part) → part_at parts p ≡ o → (o ≡ None → ⊥) → IsHeld (meant meaning_of parts) p
 held_unless parts p (Some y) is some = is_held parts p y is
 held_unless parts p None is some = absurd (some refl)
-
-pub none_unless : (o : Option ℕ) (x : Option ℕ) → o ≡ x → ((p : ℕ) → Some p ≡ x → ⊥) → None ≡ x
-none_unless (Some p) x is never = absurd (never p is)
-none_unless None x is never = is

@@ -1,5 +1,5 @@
 -- A change of a window is planned with the panes of the windows that it stirs.
-use Rattle.std.proofs.Common.{◌≡◌, ℕ, ◌<◌, List, [], ◌∷◌, length, map, Some, Result, Ok, Err, inl, inr, ⊎_elim, refl, sym, ap, ◌∙◌, subst}
+use Rattle.std.proofs.Common.{◌≡◌, ℕ, ◌<◌, List, [], ◌∷◌, length, map, Some, Result, Ok, inl, inr, ⊎_elim, refl, sym, ap, ◌∙◌, subst}
 use Rattle.std.specs.List.{Contains}
 use Rattle.std.specs.Prelude.{slice_get}
 use Rattle.std.proofs.lemmas.Option.{same_Some}
@@ -9,11 +9,11 @@ use Rattle.be_desk.specs.Changes.{Desk, desk_after}
 use Rattle.be_desk.specs.Desks.{IsTaken}
 use Rattle.be_desk.specs.Plans.{AreAscending, ArePanesOf, IsPaneOf, IsPlanOf, Planned}
 use Rattle.be_geom.specs.declared.change.Change.{Change}
+use Rattle.be_geom.proofs.Numbered.{number_is}
 use Rattle.be_hall.specs.Hands.{meant, part_at}
 use Rattle.be_hall.specs.Machine.{Fits}
 use Rattle.be_input.specs.Pointing.{corner_of}
 use Rattle.be_machine.proofs.PixelExposed.{owned_cell_after}
-use Rattle.be_machine.proofs.ReadsDirt.{number_is}
 use Rattle.be_machine.specs.Pixels.{owner_in}
 use Rattle.be_machine.specs.State.{State}
 use Rattle.be_machine.specs.Touched as part
@@ -33,15 +33,12 @@ use Rattle.be_rules.specs.Rules.{IsSound}
 use Rattle.be_rules.specs.Slices.{Slice, desk, shown_of}
 use Rattle.be_script.specs.Script.{Declared}
 use Rattle.be_stack.specs.declared.fault.ChangeFault.{ChangeFault}
+use Rattle.be_desk.proofs.TakenLemmas.{taken_as}
 use Rattle.be_steps.specs.There.{IsThere}
 use Rattle.be_ready.proofs.LentPanes.{got_there, lent_at, lent_for, rising, there_got, windows_are}
 use Rattle.be_ready.specs.Lent.{AreLent, IsLent}
 use Rattle.be_ready.specs.Plannable.{IsPlannable}
 use Rattle.be_changes.specs.Planned.{HasPaneOf, IsPlannedIn, IsStirredBy, StandsIn, places_of_panes}
-
-taken_as : (r : Result Desk ChangeFault) → IsTaken r → (after : Desk) × (r ≡ Ok after)
-taken_as (Ok after) taken = (after, refl)
-taken_as (Err fault) taken = absurd taken
 
 -- a pane that stands for what is shown of its window is one of the desk
 is_pane_of : (s : State) (u : ℕ) → IsFull s u → (p : Pane) → PaneShows u (shown_of s u) p → 0 < length p.tree → IsPaneOf s.desk p

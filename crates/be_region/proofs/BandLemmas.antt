@@ -3,12 +3,13 @@ use Rattle.std.proofs.Common.{◌≡◌, ℕ, ◌+◌, ◌<◌, ◌≤◌, ℤ, 
 use Rattle.std.specs.Prelude.{◌==◌}
 use Rattle.std.specs.List.{AllPairs}
 use Rattle.std.proofs.lemmas.Int.{ints, by_lt_z}
-use Rattle.std.proofs.lemmas.Bool.{or_from, or_left}
+use Rattle.std.proofs.lemmas.Bool.{or_from, or_left, and_right}
 use Rattle.std.proofs.lemmas.List.{append_assoc, drop_all, drop-append-le, length-append, map_more, take_all, take-append-drop, take-append-le}
 use Rattle.std.proofs.lemmas.List.Elements.{All-nil, All-head, All-tail, All-cons, All-append, All-map, All-weaker}
+use Rattle.be_facts.proofs.Truths.{and_true, or_false, and_spread}
 use Rattle.be_geom.specs.declared.rect.Rect.{Rect}
 use Rattle.be_geom.specs.Points.{between}
-use Rattle.be_geom.proofs.Between.{between_tells}
+use Rattle.be_geom.proofs.Between.{between_tells, is_below, is_above, is_between}
 use Rattle.be_region.specs.declared.span.Span.{Span}
 use Rattle.be_region.specs.declared.bands.Bands.{Bands}
 use Rattle.be_region.specs.Regions.{region_has, IsNotEmpty}
@@ -17,16 +18,15 @@ use Rattle.be_region.specs.Rows.{AreAbove}
 use Rattle.be_region.specs.Spans.{spans_have, AreSpans, AreWithin, AreOpenBands, rect_of, rects_of, done_of, bands_of}
 use Rattle.be_region.proofs.CountLemmas.{has-append}
 use Rattle.be_region.proofs.DifferLemmas.{spans_differ}
-use Rattle.be_region.proofs.LineLemmas.{not_between_left, not_between_right, is_between}
 use Rattle.be_region.proofs.OneLemmas.{none_bands}
 use Rattle.be_region.proofs.PairLemmas.{pairs_append, pairs_cons, pairs_none}
-use Rattle.be_region.proofs.RowLemmas.{none_above, and_second, factored}
+use Rattle.be_region.proofs.RowLemmas.{none_above}
 
 -- ---- the spans of a band as rectangles
 
 pub rects_have : (spans : List Span) (top bottom x y : ℤ) → region_has (rects_of spans top bottom) x y ≡ (spans_have spans x && between top y bottom)
 rects_have [] top bottom x y = refl
-rects_have (s ∷ spans) top bottom x y = rw (rects_have spans top bottom x y) (factored (between s.left x s.right) (spans_have spans x) (between top y bottom))
+rects_have (s ∷ spans) top bottom x y = rw (rects_have spans top bottom x y) (and_spread (between s.left x s.right) (spans_have spans x) (between top y bottom))
 
 further_right : (low : ℤ) (spans : List Span) (high : ℤ) → AreWithin low spans high → All (λ s. low <ℤ s.left) spans
 further_right low [] high h = All-nil (λ (s : Span). low <ℤ s.left)
@@ -56,18 +56,10 @@ above_before rs spans top bottom h =
 
 -- ---- all bands
 
-or_none : (b : Bool) → (b || false) ≡ b
-or_none true = refl
-or_none false = refl
-
-and_true : (b : Bool) → (b && true) ≡ b
-and_true true = refl
-and_true false = refl
-
 -- a row above the last band
 row_above : (rs : List Rect) (spans : List Span) (top bottom x y : ℤ) → y <ℤ top → region_has (rs ++ rects_of spans top bottom) x y ≡ region_has rs x y
 row_above rs spans top bottom x y h =
-    has-append rs (rects_of spans top bottom) x y ∙ ap (λ b. region_has rs x y || b) (rects_have spans top bottom x y ∙ and_second (spans_have spans x) (between top y bottom) (not_between_left top y bottom h)) ∙ or_none (region_has rs x y)
+    has-append rs (rects_of spans top bottom) x y ∙ ap (λ b. region_has rs x y || b) (rects_have spans top bottom x y ∙ and_right (spans_have spans x) (between top y bottom) (is_below top y bottom h)) ∙ or_false (region_has rs x y)
 
 -- a row of the last band
 row_in : (rs : List Rect) (spans : List Span) (top bottom x y : ℤ) → AreAbove top rs → top ≤ℤ y → y ≤ℤ bottom → region_has (rs ++ rects_of spans top bottom) x y ≡ spans_have spans x
@@ -77,7 +69,7 @@ row_in rs spans top bottom x y above h k =
 -- a row below the last band
 row_below : (rs : List Rect) (spans : List Span) (top bottom x y : ℤ) → AreAbove top rs → top ≤ℤ bottom → bottom <ℤ y → region_has (rs ++ rects_of spans top bottom) x y ≡ false
 row_below rs spans top bottom x y above h k =
-    has-append rs (rects_of spans top bottom) x y ∙ or_from (region_has rs x y) (region_has (rects_of spans top bottom) x y) (none_above top rs above x y (omega (arith, ints))) (rects_have spans top bottom x y ∙ and_second (spans_have spans x) (between top y bottom) (not_between_right top y bottom k))
+    has-append rs (rects_of spans top bottom) x y ∙ or_from (region_has rs x y) (region_has (rects_of spans top bottom) x y) (none_above top rs above x y (omega (arith, ints))) (rects_have spans top bottom x y ∙ and_right (spans_have spans x) (between top y bottom) (is_above top y bottom k))
 
 differ_above : (rs : List Rect) (spans : List Span) (top bottom : ℤ) (r : Rect) → RowsDiffer rs (r.top -ℤ pos 1) r.top → r.top <ℤ top → RowsDiffer (rs ++ rects_of spans top bottom) (r.top -ℤ pos 1) r.top
 differ_above rs spans top bottom r h k =

@@ -9,8 +9,9 @@ use Rattle.be_region.specs.declared.span.Span.{Span}
 use Rattle.be_region.specs.Rows.{line_has, IsLine, IsLineAfter, edge_of}
 use Rattle.be_region.specs.Spans.{spans_have, span_of, AreSpans, AreWithin}
 use Rattle.std.specs.Prelude.{int_le}
+use Rattle.be_geom.proofs.Between.{is_above, is_between}
 use Rattle.be_region.proofs.LawLemmas.{same_default}
-use Rattle.be_region.proofs.LineLemmas.{not_between_right, is_between, line_rest, before_first}
+use Rattle.be_region.proofs.LineLemmas.{line_rest, before_first}
 
 pub copied_have : (line : List Rect) (x : ℤ) → spans_have (map span_of line) x ≡ line_has line x
 copied_have [] x = refl
@@ -55,10 +56,10 @@ none_left (r ∷ rs) z e = absurd (omega arith)
 behind_last : (rs : List Rect) (n : ℕ) (d : Rect) → IsLine rs → suc n ≡ length rs → (z : ℤ) → (get_or rs n d).right <ℤ z → line_has rs z ≡ false
 behind_last [] n d h e z k = refl
 behind_last (r ∷ rs) zero d h e z k =
-    or_from (between r.left z r.right) (line_has rs z) (not_between_right r.left z r.right k) (none_left rs z (omega arith))
+    or_from (between r.left z r.right) (line_has rs z) (is_above r.left z r.right k) (none_left rs z (omega arith))
 behind_last (r ∷ rs) (suc n) d h e z k =
     let after = last_after (r.right +ℤ pos 1) rs n d h.1 (omega arith) in
-    or_from (between r.left z r.right) (line_has rs z) (not_between_right r.left z r.right (omega (arith, ints))) (behind_last rs n d (line_rest (r.right +ℤ pos 1) rs h.1) (omega arith) z k)
+    or_from (between r.left z r.right) (line_has rs z) (is_above r.left z r.right (omega (arith, ints))) (behind_last rs n d (line_rest (r.right +ℤ pos 1) rs h.1) (omega arith) z k)
 
 first_edge : (rs : List Rect) (first : Rect) → 0 < length rs → first ≡ get_or rs 0 first → edge_of false rs ≡ first.left
 first_edge [] first some e = absurd (omega arith)

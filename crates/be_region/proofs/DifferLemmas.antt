@@ -3,15 +3,15 @@ use Rattle.std.proofs.Common.{◌≡◌, ℤ, pos, ◌+ℤ◌, ◌≤ℤ◌, ◌
 use Rattle.std.proofs.lemmas.Int.{ints, by_lt_z}
 use Rattle.std.proofs.lemmas.Bool.{or_from, or_left, or_right, true≢false}
 use Rattle.be_geom.specs.Points.{between}
+use Rattle.be_geom.proofs.Between.{is_below, is_above, is_between}
 use Rattle.be_region.specs.declared.span.Span.{Span}
 use Rattle.be_region.specs.Spans.{spans_have, AreSpans, AreWithin}
-use Rattle.be_region.proofs.LineLemmas.{not_between_left, not_between_right, is_between}
 
 -- no column up to the one behind which the spans begin
 pub before_spans : (low : ℤ) (spans : List Span) (high : ℤ) → AreWithin low spans high → (z : ℤ) → z ≤ℤ low → spans_have spans z ≡ false
 before_spans low [] high h z k = refl
 before_spans low (s ∷ spans) high h z k =
-    or_from (between s.left z s.right) (spans_have spans z) (let before = h.0 in not_between_left s.left z s.right (omega (arith, ints))) (let before = h.0 in let full = h.1 in before_spans (s.right +ℤ pos 1) spans high h.2 z (omega (arith, ints)))
+    or_from (between s.left z s.right) (spans_have spans z) (let before = h.0 in is_below s.left z s.right (omega (arith, ints))) (let before = h.0 in let full = h.1 in before_spans (s.right +ℤ pos 1) spans high h.2 z (omega (arith, ints)))
 
 column_after : (low : ℤ) (spans : List Span) (high : ℤ) → AreWithin low spans high → (z : ℤ) → spans_have spans z ≡ true → low <ℤ z
 column_after low spans high h z e =
@@ -35,13 +35,13 @@ flipped p q h = (h.0, flipped_at p q h.0 h.1)
 left_differs : (low : ℤ) (s t : Span) (p q : List Span) (high : ℤ) → s.left ≤ℤ s.right → AreWithin low (t ∷ q) high → s.left <ℤ t.left → Differ (s ∷ p) (t ∷ q)
 left_differs low s t p q high full h k =
     let full' = h.1 in
-    (s.left, inl (or_left (between s.left s.left s.right) (spans_have p s.left) (is_between s.left s.left s.right (omega (arith, ints)) full), or_from (between t.left s.left t.right) (spans_have q s.left) (not_between_left t.left s.left t.right k) (before_spans (t.right +ℤ pos 1) q high h.2 s.left (omega (arith, ints)))))
+    (s.left, inl (or_left (between s.left s.left s.right) (spans_have p s.left) (is_between s.left s.left s.right (omega (arith, ints)) full), or_from (between t.left s.left t.right) (spans_have q s.left) (is_below t.left s.left t.right k) (before_spans (t.right +ℤ pos 1) q high h.2 s.left (omega (arith, ints)))))
 
 -- the first span of the first list ends further left
 right_differs : (s t : Span) (p q : List Span) (high : ℤ) → t.left ≤ℤ s.right → AreWithin (s.right +ℤ pos 1) p high → s.right <ℤ t.right → Differ (s ∷ p) (t ∷ q)
 right_differs s t p q high full h k =
     let x = s.right +ℤ pos 1 in
-    (x, inr (or_from (between s.left x s.right) (spans_have p x) (not_between_right s.left x s.right (omega (arith, ints))) (before_spans x p high h x (omega (arith, ints))), or_left (between t.left x t.right) (spans_have q x) (is_between t.left x t.right (omega (arith, ints)) (omega (arith, ints)))))
+    (x, inr (or_from (between s.left x s.right) (spans_have p x) (is_above s.left x s.right (omega (arith, ints))) (before_spans x p high h x (omega (arith, ints))), or_left (between t.left x t.right) (spans_have q x) (is_between t.left x t.right (omega (arith, ints)) (omega (arith, ints)))))
 
 rebuilt : (l l' r r' : ℤ) → l ≡ l' → r ≡ r' → ◌≡◌ {A = Span} record { left = l; right = r } record { left = l'; right = r' }
 rebuilt l l' r r' h k = rw (h, k) refl
@@ -51,9 +51,9 @@ same_span s t h k = rebuilt s.left t.left s.right t.right h k
 
 same_then : (s : Span) (p q : List Span) (a b : ℤ) → AreWithin (s.right +ℤ pos 1) p a → AreWithin (s.right +ℤ pos 1) q b → (x : ℤ) → DifferAt p q x → DifferAt (s ∷ p) (s ∷ q) x
 same_then s p q a b h k x (inl d) =
-    inl (or_right (between s.left x s.right) (spans_have p x) d.0, or_from (between s.left x s.right) (spans_have q x) (let after = column_after (s.right +ℤ pos 1) p a h x d.0 in not_between_right s.left x s.right (omega (arith, ints))) d.1)
+    inl (or_right (between s.left x s.right) (spans_have p x) d.0, or_from (between s.left x s.right) (spans_have q x) (let after = column_after (s.right +ℤ pos 1) p a h x d.0 in is_above s.left x s.right (omega (arith, ints))) d.1)
 same_then s p q a b h k x (inr d) =
-    inr (or_from (between s.left x s.right) (spans_have p x) (let after = column_after (s.right +ℤ pos 1) q b k x d.1 in not_between_right s.left x s.right (omega (arith, ints))) d.0, or_right (between s.left x s.right) (spans_have q x) d.1)
+    inr (or_from (between s.left x s.right) (spans_have p x) (let after = column_after (s.right +ℤ pos 1) q b k x d.1 in is_above s.left x s.right (omega (arith, ints))) d.0, or_right (between s.left x s.right) (spans_have q x) d.1)
 
 same_heads : (s t : Span) (p q : List Span) (a b : ℤ) → s ≡ t → AreWithin (s.right +ℤ pos 1) p a → AreWithin (s.right +ℤ pos 1) q b → Differ p q → Differ (s ∷ p) (t ∷ q)
 same_heads s t p q a b e h k d = (d.0, rw (← e) (same_then s p q a b h k d.0 d.1))

@@ -1,9 +1,10 @@
 -- The frame of one more rectangle.
-use Rattle.std.proofs.Common.{◌≡◌, ℕ, ◌+◌, ◌<◌, ℤ, Bool, true, false, ◌||◌, ◌⊎◌, inl, inr, List, [], ◌∷◌, ◌++◌, length, get_or, take, All, arith, refl, sym, ◌∙◌}
+use Rattle.std.proofs.Common.{◌≡◌, ℕ, ◌+◌, ◌<◌, ℤ, true, ◌⊎◌, inl, inr, List, [], ◌∷◌, ◌++◌, length, get_or, take, All, arith, sym, ◌∙◌}
 use Rattle.std.specs.Int.{int_max, int_min}
 use Rattle.std.proofs.lemmas.Int.{ints, clamps}
 use Rattle.std.proofs.lemmas.Bool.{or_cases, or_left, or_right}
 use Rattle.std.proofs.lemmas.List.{take_more}
+use Rattle.be_facts.proofs.Truths.{with_or_false}
 use Rattle.be_geom.specs.declared.rect.Rect.{Rect}
 use Rattle.be_geom.specs.Rects.{rect_has}
 use Rattle.be_geom.proofs.Between.{between_tells}
@@ -11,19 +12,12 @@ use Rattle.be_region.specs.Regions.{IsNotEmpty, region_has}
 use Rattle.be_region.specs.Frames.{IsFrame, outer_rect}
 use Rattle.be_region.proofs.CountLemmas.{has-append}
 
-pub same_rects : (l l' t t' r r' b b' : ℤ) → l ≡ l' → t ≡ t' → r ≡ r' → b ≡ b' → ◌≡◌ {A = Rect} record { left = l; top = t; right = r; bottom = b } record { left = l'; top = t'; right = r'; bottom = b' }
-same_rects l l' t t' r r' b b' e f g h = rw (e, f, g, h)
-
-or_none : (b : Bool) → b ≡ (b || false)
-or_none true = refl
-or_none false = refl
-
 has_first : (r : Rect) (x y : ℤ) → rect_has r x y ≡ true → region_has (r ∷ []) x y ≡ true
-has_first r x y h = sym (or_none (rect_has r x y)) ∙ h
+has_first r x y h = sym (with_or_false (rect_has r x y)) ∙ h
 
 pub frame_of_one : (r : Rect) → IsNotEmpty r → IsFrame r (r ∷ [])
 frame_of_one r full = record {
-  holds = λ x y h. or_none (rect_has r x y) ∙ h;
+  holds = λ x y h. with_or_false (rect_has r x y) ∙ h;
   left = (r.top, has_first r r.left r.top (grind (arith, ints, between_tells)));
   top = (r.left, has_first r r.left r.top (grind (arith, ints, between_tells)));
   right = (r.top, has_first r r.right r.top (grind (arith, ints, between_tells)));
@@ -40,7 +34,7 @@ max_cases : (a b : ℤ) → (int_max a b ≡ a) ⊎ (int_max a b ≡ b)
 max_cases a b = grind (arith, ints, clamps)
 
 or_tells : (rs : List Rect) (r : Rect) (x y : ℤ) → region_has (rs ++ r ∷ []) x y ≡ true → (region_has rs x y ≡ true) ⊎ (rect_has r x y ≡ true)
-or_tells rs r x y h = elim (or_cases (region_has rs x y) (region_has (r ∷ []) x y) (sym (has-append rs (r ∷ []) x y) ∙ h)) [ inl k ↦ inl k | inr k ↦ inr (or_none (rect_has r x y) ∙ k) ]
+or_tells rs r x y h = elim (or_cases (region_has rs x y) (region_has (r ∷ []) x y) (sym (has-append rs (r ∷ []) x y) ∙ h)) [ inl k ↦ inl k | inr k ↦ inr (with_or_false (rect_has r x y) ∙ k) ]
 
 has_old : (rs : List Rect) (r : Rect) (x y : ℤ) → region_has rs x y ≡ true → region_has (rs ++ r ∷ []) x y ≡ true
 has_old rs r x y h = has-append rs (r ∷ []) x y ∙ or_left (region_has rs x y) (region_has (r ∷ []) x y) h

@@ -4,6 +4,7 @@ use Rattle.std.specs.List.{AllPairs}
 use Rattle.std.proofs.lemmas.Int.{ints, by_lt_z}
 use Rattle.std.proofs.lemmas.Bool.{true≢false}
 use Rattle.std.proofs.lemmas.List.Elements.{All-head, All-cons, All-append, All-weaker}
+use Rattle.be_facts.proofs.Truths.{or_false, or_true}
 use Rattle.be_geom.specs.declared.rect.Rect.{Rect}
 use Rattle.be_region.specs.declared.rule.Rule.{Rule}
 use Rattle.be_region.specs.Regions.{region_has, IsNotEmpty}
@@ -30,19 +31,11 @@ pub record AreWalked (rule : Rule) (one other above middle below made : List Rec
 
 -- ---- the pixels
 
-or_true : (b : Bool) → (b || true) ≡ true
-or_true true = refl
-or_true false = refl
-
-or_none : (b : Bool) → (b || false) ≡ b
-or_none true = refl
-or_none false = refl
-
 three_tests : (rule : Rule) → ((p : Bool) → keeps rule p false ≡ p) → (a m z w o : Bool) → w ≡ keeps rule m o → (a ≡ true → o ≡ false) → (z ≡ true → o ≡ false) → (a || (w || z)) ≡ keeps rule (a || (m || z)) o
 three_tests rule alone true m z w o e over under = sym (ap (keeps rule true) (over refl) ∙ alone true)
 three_tests rule alone false m true w o e over under =
     rw (or_true w, or_true m) (sym (ap (keeps rule true) (under refl) ∙ alone true))
-three_tests rule alone false m false w o e over under = rw (or_none w, or_none m) e
+three_tests rule alone false m false w o e over under = rw (or_false w, or_false m) e
 
 three_have : (as' bs cs : List Rect) (x y : ℤ) → region_has (as' ++ (bs ++ cs)) x y ≡ (region_has as' x y || (region_has bs x y || region_has cs x y))
 three_have as' bs cs x y = has-append as' (bs ++ cs) x y ∙ ap (λ b. region_has as' x y || b) (has-append bs cs x y)
@@ -119,7 +112,7 @@ walked_order rule one other above middle below made first last h =
 -- a row that no band above has, and none below
 made_alone : (above made below : List Rect) (x y bottom : ℤ) → All (λ (a : Rect). a.bottom <ℤ y) above → All (λ (z : Rect). bottom <ℤ z.top) below → y ≤ℤ bottom → region_has (above ++ (made ++ below)) x y ≡ region_has made x y
 made_alone above made below x y bottom h k l =
-    three_have above made below x y ∙ rw (none_above y above h x y (omega (arith, ints)), none_below bottom below k x y l) (or_none (region_has made x y))
+    three_have above made below x y ∙ rw (none_above y above h x y (omega (arith, ints)), none_below bottom below k x y l) (or_false (region_has made x y))
 
 differ_alone : (above made below : List Rect) (w : Rect) → IsNotEmpty w → All (λ (a : Rect). a.bottom <ℤ (w.top -ℤ pos 1)) above → All (λ (z : Rect). w.bottom <ℤ z.top) below → RowsDiffer made (w.top -ℤ pos 1) w.top → RowsDiffer (above ++ (made ++ below)) (w.top -ℤ pos 1) w.top
 differ_alone above made below w full h k d =

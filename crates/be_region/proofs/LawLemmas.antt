@@ -2,18 +2,18 @@
 use Rattle.std.proofs.Common.{◌≡◌, ℕ, ◌<◌, zero, suc, ℤ, pos, ◌+ℤ◌, ◌-ℤ◌, ◌≤ℤ◌, ◌<ℤ◌, ◌⊎◌, inl, inr, Bool, true, false, not, ◌||◌, ◌&&◌, List, [], ◌∷◌, length, get_or, All, arith, refl, sym, ap, ◌∙◌}
 use Rattle.std.specs.List.{AllPairs}
 use Rattle.std.proofs.lemmas.Int.{ints, by_lt_z}
-use Rattle.std.proofs.lemmas.Bool.{or_cases, or_left, or_right, true≢false, and_parts, and_from, cases_order}
+use Rattle.std.proofs.lemmas.Bool.{or_cases, or_left, or_right, true≢false, and_parts, and_from, cases_order, and_right}
 use Rattle.std.proofs.lemmas.List.{get_or_default}
 use Rattle.std.proofs.lemmas.List.Elements.{All-cons, All-head, All-tail}
+use Rattle.be_facts.proofs.Numbers.{int_le_self}
 use Rattle.be_geom.specs.declared.rect.Rect.{Rect}
 use Rattle.be_geom.specs.Points.{between}
 use Rattle.be_geom.specs.Rects.{rect_has}
-use Rattle.be_geom.proofs.Between.{between_tells}
+use Rattle.be_geom.proofs.Between.{between_parts, is_below, is_above, is_between}
+use Rattle.be_geom.proofs.RectLemmas.{same_rects}
 use Rattle.be_region.specs.Regions.{region_has, IsNotEmpty}
 use Rattle.be_region.specs.Bands.{IsBefore, AreBands, SamePixelsSameBands}
-use Rattle.be_region.proofs.LineLemmas.{not_between_left, not_between_right, is_between}
 use Rattle.be_region.proofs.PairLemmas.{pairs_head, pairs_tail}
-use Rattle.be_region.proofs.RowLemmas.{and_second}
 
 -- ---- what the pixels of bands tell of one of their rectangles
 
@@ -26,9 +26,6 @@ pub record IsEdged (S : ℤ → ℤ → Bool) (r : Rect) : Type 0 where
 
 abbrev Related : Rect → Rect → Type 0
 Related r s = (r ≡ s) ⊎ (IsBefore r s ⊎ IsBefore s r)
-
-le_self : (z : ℤ) → z ≤ℤ z
-le_self z = omega (arith, ints)
 
 le_along : (a b c : ℤ) → a ≤ℤ b → b ≤ℤ c → a ≤ℤ c
 le_along a b c h k = omega (arith, ints)
@@ -59,7 +56,7 @@ some_any (s ∷ rs) zero d x y h e = or_left (rect_has s x y) (region_has rs x y
 some_any (s ∷ rs) (suc i) d x y h e = or_right (rect_has s x y) (region_has rs x y) (some_any rs i d x y (omega arith) e)
 
 not_in_rows : (s : Rect) (x y : ℤ) → between s.top y s.bottom ≡ false → rect_has s x y ≡ false
-not_in_rows s x y h = and_second (between s.left x s.right) (between s.top y s.bottom) h
+not_in_rows s x y h = and_right (between s.left x s.right) (between s.top y s.bottom) h
 
 both_rows : (s : Rect) (x y z : ℤ) → between s.top y s.bottom ≡ between s.top z s.bottom → rect_has s x y ≡ rect_has s x z
 both_rows s x y z h = ap (λ b. between s.left x s.right && b) h
@@ -72,27 +69,27 @@ same_rows r s x y full (inr (inl (inl h))) from to =
     let down = full.down in let e = h.0 in let f = h.1 in
     both_rows s x y r.top (is_between s.top y s.bottom (omega (arith, ints)) (omega (arith, ints)) ∙ sym (is_between s.top r.top s.bottom (omega (arith, ints)) (omega (arith, ints))))
 same_rows r s x y full (inr (inl (inr h))) from to =
-    both_rows s x y r.top (not_between_left s.top y s.bottom (omega (arith, ints)) ∙ sym (not_between_left s.top r.top s.bottom (let down = full.down in omega (arith, ints))))
+    both_rows s x y r.top (is_below s.top y s.bottom (omega (arith, ints)) ∙ sym (is_below s.top r.top s.bottom (let down = full.down in omega (arith, ints))))
 same_rows r s x y full (inr (inr (inl h))) from to =
     let down = full.down in let e = h.0 in let f = h.1 in
     both_rows s x y r.top (is_between s.top y s.bottom (omega (arith, ints)) (omega (arith, ints)) ∙ sym (is_between s.top r.top s.bottom (omega (arith, ints)) (omega (arith, ints))))
 same_rows r s x y full (inr (inr (inr h))) from to =
-    both_rows s x y r.top (not_between_right s.top y s.bottom (omega (arith, ints)) ∙ sym (not_between_right s.top r.top s.bottom h))
+    both_rows s x y r.top (is_above s.top y s.bottom (omega (arith, ints)) ∙ sym (is_above s.top r.top s.bottom h))
 
 none_behind : (r s : Rect) → IsNotEmpty r → Related r s → rect_has s (r.right +ℤ pos 1) r.top ≡ false
 none_behind r s full (inl e) =
-    rw (sym e) (ap (λ b. b && between r.top r.top r.bottom) (not_between_right r.left (r.right +ℤ pos 1) r.right (omega (arith, ints))))
+    rw (sym e) (ap (λ b. b && between r.top r.top r.bottom) (is_above r.left (r.right +ℤ pos 1) r.right (omega (arith, ints))))
 none_behind r s full (inr (inl (inl h))) =
     let apart = h.2 in
-    ap (λ b. b && between s.top r.top s.bottom) (not_between_left s.left (r.right +ℤ pos 1) s.right apart)
+    ap (λ b. b && between s.top r.top s.bottom) (is_below s.left (r.right +ℤ pos 1) s.right apart)
 none_behind r s full (inr (inl (inr h))) =
     let down = full.down in
-    not_in_rows s (r.right +ℤ pos 1) r.top (not_between_left s.top r.top s.bottom (omega (arith, ints)))
+    not_in_rows s (r.right +ℤ pos 1) r.top (is_below s.top r.top s.bottom (omega (arith, ints)))
 none_behind r s full (inr (inr (inl h))) =
     let apart = h.2 in let across = full.across in
-    ap (λ b. b && between s.top r.top s.bottom) (not_between_right s.left (r.right +ℤ pos 1) s.right (omega (arith, ints)))
+    ap (λ b. b && between s.top r.top s.bottom) (is_above s.left (r.right +ℤ pos 1) s.right (omega (arith, ints)))
 none_behind r s full (inr (inr (inr h))) =
-    not_in_rows s (r.right +ℤ pos 1) r.top (not_between_right s.top r.top s.bottom h)
+    not_in_rows s (r.right +ℤ pos 1) r.top (is_above s.top r.top s.bottom h)
 
 pub edged : (rs : List Rect) → AreBands rs → All (IsEdged (region_has rs)) rs
 edged rs h i d m =
@@ -138,8 +135,8 @@ behind_further p r fp fr (inr h) x y (inl k) = let a = k.0 in inr (omega (arith,
 behind_further p r fp fr (inr h) x y (inr k) = let down = fr.down in inr (omega (arith, ints))
 
 not_ahead : (r : Rect) (x y : ℤ) → IsAhead r x y → rect_has r x y ≡ false
-not_ahead r x y (inl h) = ap (λ b. b && between r.top y r.bottom) (not_between_right r.left x r.right h.2)
-not_ahead r x y (inr h) = not_in_rows r x y (not_between_right r.top y r.bottom h)
+not_ahead r x y (inl h) = ap (λ b. b && between r.top y r.bottom) (is_above r.left x r.right h.2)
+not_ahead r x y (inr h) = not_in_rows r x y (is_above r.top y r.bottom h)
 
 tail_of : (S : ℤ → ℤ → Bool) (Reach : ℤ → ℤ → Type 0) (r : Rect) (rs : List Rect) → IsTail S Reach (r ∷ rs) → IsTail S (IsAhead r) rs
 tail_of S Reach r rs h =
@@ -168,16 +165,13 @@ all_found : (S : ℤ → ℤ → Bool) (Reach : ℤ → ℤ → Type 0) (s : Rec
 all_found S Reach s rs h =
     All-cons (IsFound S s) s rs (inl refl, All-head (IsEdged S) s rs h.edged) (λ k d m. (inr (pairs_head IsBefore s rs h.order k d m), All-tail (IsEdged S) s rs h.edged k d m))
 
-between_parts : (low high z : ℤ) → between low z high ≡ true → (low ≤ℤ z) × (z ≤ℤ high)
-between_parts low high z h = grind (arith, ints, between_tells)
-
 top_least : (s q : Rect) → IsNotEmpty s → (s ≡ q) ⊎ IsBefore s q → s.top ≤ℤ q.top
-top_least s q full (inl e) = rw e (le_self q.top)
+top_least s q full (inl e) = rw e (int_le_self q.top)
 top_least s q full (inr (inl h)) = let e = h.0 in omega (arith, ints)
 top_least s q full (inr (inr h)) = let down = full.down in omega (arith, ints)
 
 left_least : (s q : Rect) → IsNotEmpty s → (s ≡ q) ⊎ IsBefore s q → q.top ≤ℤ s.top → s.left ≤ℤ q.left
-left_least s q full (inl e) k = rw e (le_self q.left)
+left_least s q full (inl e) k = rw e (int_le_self q.left)
 left_least s q full (inr (inl h)) k = let across = full.across in let apart = h.2 in omega (arith, ints)
 left_least s q full (inr (inr h)) k = let down = full.down in absurd (omega (arith, ints))
 
@@ -216,13 +210,10 @@ bottom_within S Reach r s as' h k top =
     let r_edged = All-head (IsEdged S) r as' h.edged in
     let across = r_edged.full.across in
     let down = r_edged.full.down in
-    by_lt_z {P = s.bottom ≤ℤ r.bottom} r.bottom s.bottom (λ m. let y = r.bottom +ℤ pos 1 in let below : (x : ℤ) → S x y ≡ S x r.top = λ x. k.rows x y (omega (arith, ints)) (omega (arith, ints)) ∙ ap (S x) (sym top) in let there : region_has (r ∷ as') r.left y ≡ true = sym (h.pixels r.left y ((All-head (IsWithin Reach) r as' h.within).further r.left y (inr (omega (arith, ints))))) ∙ below r.left ∙ r_edged.inside r.left (omega (arith, ints)) across in let q = found (IsFound S r) (r ∷ as') r.left y (all_found S Reach r as' h) there in let parts = and_parts (between q.0.left r.left q.0.right) (between q.0.top y q.0.bottom) q.1.0 in let y_in = between_parts q.0.top q.0.bottom y parts.1 in let further = found_below S r q.0 y q.1.1.0 (omega (arith, ints)) y_in.1 in let high = y_in.0 in let at : q.0.top ≡ y = omega (arith, ints) in let x = q.1.1.1.above.0 in let last : q.0.top -ℤ pos 1 ≡ r.bottom = omega (arith, ints) in absurd (not_itself (S x r.top) (sym (r_edged.rows x r.bottom down (le_self r.bottom)) ∙ ap (S x) (sym last) ∙ q.1.1.1.above.1 ∙ ap (λ z. not (S x z)) at ∙ ap not (below x)))) (λ m. m)
+    by_lt_z {P = s.bottom ≤ℤ r.bottom} r.bottom s.bottom (λ m. let y = r.bottom +ℤ pos 1 in let below : (x : ℤ) → S x y ≡ S x r.top = λ x. k.rows x y (omega (arith, ints)) (omega (arith, ints)) ∙ ap (S x) (sym top) in let there : region_has (r ∷ as') r.left y ≡ true = sym (h.pixels r.left y ((All-head (IsWithin Reach) r as' h.within).further r.left y (inr (omega (arith, ints))))) ∙ below r.left ∙ r_edged.inside r.left (omega (arith, ints)) across in let q = found (IsFound S r) (r ∷ as') r.left y (all_found S Reach r as' h) there in let parts = and_parts (between q.0.left r.left q.0.right) (between q.0.top y q.0.bottom) q.1.0 in let y_in = between_parts q.0.top q.0.bottom y parts.1 in let further = found_below S r q.0 y q.1.1.0 (omega (arith, ints)) y_in.1 in let high = y_in.0 in let at : q.0.top ≡ y = omega (arith, ints) in let x = q.1.1.1.above.0 in let last : q.0.top -ℤ pos 1 ≡ r.bottom = omega (arith, ints) in absurd (not_itself (S x r.top) (sym (r_edged.rows x r.bottom down (int_le_self r.bottom)) ∙ ap (S x) (sym last) ∙ q.1.1.1.above.1 ∙ ap (λ z. not (S x z)) at ∙ ap not (below x)))) (λ m. m)
 
 le_both : (a b : ℤ) → a ≤ℤ b → b ≤ℤ a → a ≡ b
 le_both a b h k = omega (arith, ints)
-
-rebuilt : (l l' t t' r r' b b' : ℤ) → l ≡ l' → t ≡ t' → r ≡ r' → b ≡ b' → ◌≡◌ {A = Rect} record { left = l; top = t; right = r; bottom = b } record { left = l'; top = t'; right = r'; bottom = b' }
-rebuilt l l' t t' r r' b b' e f g h = rw (e, f, g, h) refl
 
 same_first : (S : ℤ → ℤ → Bool) (Reach : ℤ → ℤ → Type 0) (r s : Rect) (as' bs : List Rect) → IsTail S Reach (r ∷ as') → IsTail S Reach (s ∷ bs) → r ≡ s
 same_first S Reach r s as' bs h k =
@@ -232,7 +223,7 @@ same_first S Reach r s as' bs h k =
     let left : r.left ≡ s.left = le_both r.left s.left (q.1 p.0) (p.1 q.0) in
     let r_edged = All-head (IsEdged S) r as' h.edged in
     let s_edged = All-head (IsEdged S) s bs k.edged in
-    rebuilt r.left s.left r.top s.top r.right s.right r.bottom s.bottom left top (le_both r.right s.right (right_within S s r s_edged r_edged (sym top) (sym left)) (right_within S r s r_edged s_edged top left)) (le_both r.bottom s.bottom (bottom_within S Reach s r bs k r_edged (sym top)) (bottom_within S Reach r s as' h s_edged top))
+    same_rects r.left s.left r.top s.top r.right s.right r.bottom s.bottom left top (le_both r.right s.right (right_within S s r s_edged r_edged (sym top) (sym left)) (right_within S r s r_edged s_edged top left)) (le_both r.bottom s.bottom (bottom_within S Reach s r bs k r_edged (sym top)) (bottom_within S Reach r s as' h s_edged top))
 
 none_left : (S : ℤ → ℤ → Bool) (Reach : ℤ → ℤ → Type 0) (s : Rect) (bs : List Rect) → IsTail S Reach [] → IsTail S Reach (s ∷ bs) → ⊥
 none_left S Reach s bs h k =

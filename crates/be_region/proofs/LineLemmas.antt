@@ -1,26 +1,17 @@
 -- A line of rectangles side by side.
-use Rattle.std.proofs.Common.{◌≡◌, ℤ, pos, ◌+ℤ◌, ◌≤ℤ◌, ◌<ℤ◌, true, false, List, [], ◌∷◌, arith, refl}
+use Rattle.std.proofs.Common.{◌≡◌, ℤ, pos, ◌+ℤ◌, ◌≤ℤ◌, ◌<ℤ◌, false, List, [], ◌∷◌, arith, refl}
 use Rattle.std.proofs.lemmas.Int.{ints}
 use Rattle.std.proofs.lemmas.Bool.{or_from}
 use Rattle.be_geom.specs.declared.rect.Rect.{Rect}
 use Rattle.be_geom.specs.Points.{between}
-use Rattle.be_geom.proofs.Between.{between_tells}
+use Rattle.be_geom.proofs.Between.{is_below}
 use Rattle.be_region.specs.Rows.{line_has, IsLine, IsLineAfter, edge_of}
-
-pub not_between_right : (low z high : ℤ) → high <ℤ z → between low z high ≡ false
-not_between_right low z high h = grind (arith, ints, between_tells)
-
-pub not_between_left : (low z high : ℤ) → z <ℤ low → between low z high ≡ false
-not_between_left low z high h = grind (arith, ints, between_tells)
-
-pub is_between : (low z high : ℤ) → low ≤ℤ z → z ≤ℤ high → between low z high ≡ true
-is_between low z high h k = grind (arith, ints, between_tells)
 
 -- no column up to the one behind which a line begins
 pub before_line : (low : ℤ) (rs : List Rect) → IsLineAfter low rs → (z : ℤ) → z ≤ℤ low → line_has rs z ≡ false
 before_line low [] h z k = refl
 before_line low (r ∷ rs) h z k =
-    or_from (between r.left z r.right) (line_has rs z) (let before = h.0 in not_between_left r.left z r.right (omega (arith, ints))) (let before = h.0 in let full = h.1 in before_line (r.right +ℤ pos 1) rs h.2 z (omega (arith, ints)))
+    or_from (between r.left z r.right) (line_has rs z) (let before = h.0 in is_below r.left z r.right (omega (arith, ints))) (let before = h.0 in let full = h.1 in before_line (r.right +ℤ pos 1) rs h.2 z (omega (arith, ints)))
 
 pub line_rest : (low : ℤ) (rs : List Rect) → IsLineAfter low rs → IsLine rs
 line_rest low [] h = tt
@@ -31,7 +22,7 @@ pub before_first : (rs : List Rect) → IsLine rs → (z : ℤ) → z <ℤ edge_
 before_first [] h z k = refl
 before_first (r ∷ rs) h z k =
     let full = h.0 in
-    or_from (between r.left z r.right) (line_has rs z) (not_between_left r.left z r.right k) (before_line (r.right +ℤ pos 1) rs h.1 z (omega (arith, ints)))
+    or_from (between r.left z r.right) (line_has rs z) (is_below r.left z r.right k) (before_line (r.right +ℤ pos 1) rs h.1 z (omega (arith, ints)))
 
 -- the first edge is behind the column behind which the line begins
 pub edge_after : (low : ℤ) (rs : List Rect) → IsLineAfter low rs → low <ℤ pos 2147483647 → low <ℤ edge_of false rs

@@ -3,6 +3,7 @@ use Rattle.std.proofs.Common.{◌≡◌, ℤ, pos, negsuc, ◌+ℤ◌, ◌-ℤ�
 use Rattle.std.specs.Prelude.{int_le}
 use Rattle.std.specs.Int.{int_max, int_min}
 use Rattle.std.proofs.lemmas.Int.{ints, clamps, by_lt_z}
+use Rattle.be_facts.proofs.Truths.{and_false, or_false, or_assoc}
 use Rattle.be_geom.specs.declared.rect.Rect.{Rect}
 use Rattle.be_geom.specs.Points.{between}
 use Rattle.be_geom.proofs.Between.{between_tells}
@@ -44,41 +45,10 @@ first_edge line r rs e = rw e refl
 pub last_edge : (line : List Rect) (r : Rect) (rs : List Rect) → line ≡ r ∷ rs → edge_of true line ≡ (r.right +ℤ pos 1)
 last_edge line r rs e = rw e refl
 
-pub no_edge : (line : List Rect) → length line ≡ 0 → edge_of false line ≡ pos 2147483647
-no_edge line e = rw (no_line line e) refl
-
 -- ---- the union
 
 pub none_apart : (spans : List Span) → spans ≡ [] → AreSpans spans
 none_apart spans e = rw e (pos 0, (pos 1, omega (arith, ints)))
-
-pub only_left : (one other : List Rect) (r : Rect) (rs : List Rect) → length one ≡ 0 → other ≡ r ∷ rs → r.left ≤ℤ pos 32767 → r.left ≡ int_min (edge_of false one) (edge_of false other)
-only_left one other r rs none e h =
-    let end = no_edge one none in
-    let first = first_edge other r rs e in
-    omega (arith, ints, clamps)
-
-pub only_order : (one other : List Rect) (r : Rect) (rs : List Rect) → length one ≡ 0 → other ≡ r ∷ rs → IsLine other → r.left ≤ℤ pos 32767 → r.right ≤ℤ pos 32767 → (r.left ≤ℤ edge_of false one) × (r.left ≤ℤ edge_of false rs)
-only_order one other r rs none e h k m =
-    let end = no_edge one none in
-    let full = first_full other r rs e h in
-    let behind = rest_behind other r rs e h m in
-    (omega (arith, ints), omega (arith, ints))
-
-or_swap : (a r b : Bool) → (a || (r || b)) ≡ (r || (a || b))
-or_swap true true b = refl
-or_swap true false b = refl
-or_swap false r b = refl
-
-or_assoc : (a b c : Bool) → ((a || b) || c) ≡ (a || (b || c))
-or_assoc true b c = refl
-or_assoc false b c = refl
-
-pub first_of_one : (one other : List Rect) (r : Rect) (rs : List Rect) → one ≡ r ∷ rs → (x : ℤ) → (line_has one x || line_has other x) ≡ (between r.left x r.right || (line_has rs x || line_has other x))
-first_of_one one other r rs e x = rw e (or_assoc (between r.left x r.right) (line_has rs x) (line_has other x))
-
-pub first_of_other : (one other : List Rect) (r : Rect) (rs : List Rect) → other ≡ r ∷ rs → (x : ℤ) → (line_has one x || line_has other x) ≡ (between r.left x r.right || (line_has one x || line_has rs x))
-first_of_other one other r rs e x = rw e (or_swap (line_has one x) (between r.left x r.right) (line_has rs x))
 
 wider_has : (l r a b z : ℤ) → l ≤ℤ a → a ≤ℤ (r +ℤ pos 1) → l ≤ℤ r → a ≤ℤ b → between l z (int_max r b) ≡ (between l z r || between a z b)
 wider_has l r a b z h k m n = grind (arith, ints, clamps, between_tells)
@@ -120,14 +90,6 @@ united_next one other spans new last next r a b a' b' h full left apart columns 
   one_line = lines.0;
   other_line = lines.1;
 }
-
-or_false : (b : Bool) → (b || false) ≡ b
-or_false true = refl
-or_false false = refl
-
-pub united_have : (one other : List Rect) (spans new : List Span) (last : Span) (a b : List Rect) → AreUnited one other spans last a b → a ≡ [] → b ≡ [] → new ≡ spans ++ last ∷ [] → (x : ℤ) → spans_have new x ≡ (line_has one x || line_has other x)
-united_have one other spans new last a b h p q e x =
-    (ap (λ (t : List Span). spans_have t x) e ∙ spans_have-push spans last x) ∙ sym (h.columns x ∙ rw (p, q) (or_false (spans_have spans x || between last.left x last.right)))
 
 pub united_apart : (one other : List Rect) (spans new : List Span) (last : Span) (a b : List Rect) → AreUnited one other spans last a b → new ≡ spans ++ last ∷ [] → AreSpans new
 united_apart one other spans new last a b h e =
@@ -191,10 +153,6 @@ met_next one other spans new left right a b a' b' h e lines order taken apart co
   one_line = lines.0;
   other_line = lines.1;
 }
-
-and_false : (b : Bool) → (b && false) ≡ false
-and_false true = refl
-and_false false = refl
 
 none_common : (a b : List Rect) → (a ≡ []) ⊎ (b ≡ []) → (x : ℤ) → (line_has a x && line_has b x) ≡ false
 none_common a b (inl e) x = rw e refl

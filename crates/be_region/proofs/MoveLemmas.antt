@@ -1,5 +1,5 @@
 -- Rectangles moved, and those that leave the range.
-use Rattle.std.proofs.Common.{◌≡◌, ℕ, ◌+◌, ◌-◌, ◌<◌, ◌≤◌, ℤ, pos, negsuc, ◌+ℤ◌, ◌-ℤ◌, ◌≤ℤ◌, ◌<ℤ◌, Bool, true, false, not, ◌&&◌, ◌⊎◌, inl, inr, ◌↔◌, List, [], ◌∷◌, ◌++◌, length, get_or, set, take, drop, map, All, Result, Ok, Err, IsOk, IsErr, arith, refl, sym, ap, ◌∙◌}
+use Rattle.std.proofs.Common.{◌≡◌, ℕ, ◌+◌, ◌-◌, ◌<◌, ◌≤◌, ℤ, pos, negsuc, ◌+ℤ◌, ◌-ℤ◌, ◌<ℤ◌, Bool, true, false, not, ◌&&◌, ◌⊎◌, inl, inr, ◌↔◌, List, [], ◌∷◌, ◌++◌, length, get_or, set, take, drop, map, All, Result, Ok, Err, IsOk, IsErr, arith, refl, sym, ap, ◌∙◌}
 use Rattle.std.specs.List.{list_all}
 use Rattle.std.proofs.lemmas.Int.{ints}
 use Rattle.std.proofs.lemmas.Bool.{and_cases, and_left, and_right, and_parts, or_cases, or_left, or_right, true≢false}
@@ -10,7 +10,7 @@ use Rattle.be_geom.specs.declared.rect.Rect.{Rect}
 use Rattle.be_geom.specs.declared.point.OutOfRange.{OutOfRange}
 use Rattle.be_geom.specs.Points.{between, in_range}
 use Rattle.be_geom.specs.Rects.{rect_has, rect_fits, moved_rect}
-use Rattle.be_geom.proofs.Between.{between_tells}
+use Rattle.be_geom.proofs.Between.{between_tells, between_parts}
 use Rattle.be_region.specs.Regions.{region_has, IsNotEmpty, IsMoved, SomePixelLeaves}
 use Rattle.be_region.specs.Bands.{IsBefore, RowsDiffer, AreBands}
 use Rattle.be_region.proofs.PairLemmas.{pairs_head, pairs_tail, pairs_none, pairs_cons}
@@ -102,9 +102,6 @@ out_below z h = grind (arith, ints, between_tells)
 
 out_above : (z : ℤ) → pos 32767 <ℤ z → in_range z ≡ false
 out_above z h = grind (arith, ints, between_tells)
-
-between_parts : (low high z : ℤ) → between low z high ≡ true → (low ≤ℤ z) × (z ≤ℤ high)
-between_parts low high z h = grind (arith, ints, between_tells)
 
 end_leaves : (low high z d : ℤ) → between low z high ≡ true → in_range (z +ℤ d) ≡ false → (in_range (low +ℤ d) ≡ false) ⊎ (in_range (high +ℤ d) ≡ false)
 end_leaves low high z d h e =

@@ -1,17 +1,16 @@
 -- The bands of no rectangle and of one.
 use Rattle.std.proofs.Common.{◌≡◌, pos, ◌-ℤ◌, true, false, not, List, [], ◌∷◌, inl, inr, arith, refl, sym, ap, ◌∙◌}
 use Rattle.std.proofs.lemmas.Int.{ints, by_lt_z}
-use Rattle.std.proofs.lemmas.Bool.{or_from, or_left}
+use Rattle.std.proofs.lemmas.Bool.{or_from, or_left, and_right}
 use Rattle.std.proofs.lemmas.List.Elements.{All-nil, All-cons}
 use Rattle.be_geom.specs.declared.rect.Rect.{Rect}
 use Rattle.be_geom.specs.Points.{between}
 use Rattle.be_geom.specs.Rects.{rect_has, HasNoPixel}
 use Rattle.be_geom.proofs.RectLemmas.{reversed_edges, corner_inside}
+use Rattle.be_geom.proofs.Between.{is_below}
 use Rattle.be_region.specs.Regions.{region_has, IsNotEmpty}
 use Rattle.be_region.specs.Bands.{IsBefore, RowsDiffer, AreBands}
-use Rattle.be_region.proofs.LineLemmas.{not_between_left}
 use Rattle.be_region.proofs.PairLemmas.{pairs_none, pairs_cons}
-use Rattle.be_region.proofs.RowLemmas.{and_second}
 
 pub no_bands : AreBands []
 no_bands = record {
@@ -31,7 +30,7 @@ full_of r h = record {
 
 row_before : (r : Rect) → region_has (r ∷ []) r.left (r.top -ℤ pos 1) ≡ false
 row_before r =
-    or_from (rect_has r r.left (r.top -ℤ pos 1)) false (and_second (between r.left r.left r.right) (between r.top (r.top -ℤ pos 1) r.bottom) (not_between_left r.top (r.top -ℤ pos 1) r.bottom (omega (arith, ints)))) refl
+    or_from (rect_has r r.left (r.top -ℤ pos 1)) false (and_right (between r.left r.left r.right) (between r.top (r.top -ℤ pos 1) r.bottom) (is_below r.top (r.top -ℤ pos 1) r.bottom (omega (arith, ints)))) refl
 
 first_row : (r : Rect) → IsNotEmpty r → region_has (r ∷ []) r.left r.top ≡ true
 first_row r h = or_left (rect_has r r.left r.top) false (corner_inside r h.across h.down)

@@ -1,12 +1,12 @@
 -- Bands that stay as they are, above those that are walked and below them.
-use Rattle.std.proofs.Common.{◌≡◌, ℕ, ◌+◌, ◌-◌, ◌<◌, ◌≤◌, ℤ, pos, ◌+ℤ◌, ◌-ℤ◌, ◌≤ℤ◌, ◌<ℤ◌, inl, inr, true, false, List, [], ◌∷◌, ◌++◌, length, get_or, take, drop, All, arith, refl, sym, ap, ◌∙◌}
+use Rattle.std.proofs.Common.{◌≡◌, ℕ, ◌-◌, ◌<◌, ℤ, pos, ◌+ℤ◌, ◌-ℤ◌, ◌≤ℤ◌, ◌<ℤ◌, inl, inr, true, false, List, [], ◌∷◌, ◌++◌, length, get_or, take, drop, All, arith, refl, sym, ap, ◌∙◌}
 use Rattle.std.specs.Prelude.{int_lt, int_le}
-use Rattle.std.specs.List.{AllPairs, AllWithin}
+use Rattle.std.specs.List.{AllPairs}
 use Rattle.std.specs.List.Sorted.{IsPartitionedBy}
 use Rattle.std.proofs.lemmas.Int.{ints}
 use Rattle.std.proofs.lemmas.Bool.{cases_order}
-use Rattle.std.proofs.lemmas.List.{append_assoc, take-append-drop, length-take, length-drop, get_or-take, get_or-drop}
-use Rattle.std.proofs.lemmas.List.Elements.{All-nil, All-head, All-tail, All-cons, All-weaker, All-take}
+use Rattle.std.proofs.lemmas.List.{append_assoc, take-append-drop}
+use Rattle.std.proofs.lemmas.List.Elements.{All-nil, All-head, All-tail, All-cons, All-weaker}
 use Rattle.be_geom.specs.declared.rect.Rect.{Rect}
 use Rattle.be_region.specs.Regions.{region_has, IsNotEmpty}
 use Rattle.be_region.specs.Bands.{IsBefore, AreBands}
@@ -43,14 +43,8 @@ pairs_cross R (x ∷ xs) ys h =
 lt_true : (a b : ℤ) → int_lt a b ≡ true → a <ℤ b
 lt_true a b e = grind (arith, ints)
 
-lt_false : (a b : ℤ) → int_lt a b ≡ false → b ≤ℤ a
-lt_false a b e = grind (arith, ints)
-
 le_true : (a b : ℤ) → int_le a b ≡ true → a ≤ℤ b
 le_true a b e = grind (arith, ints)
-
-le_false : (a b : ℤ) → int_le a b ≡ false → b <ℤ a
-le_false a b e = grind (arith, ints)
 
 true_lt : (a b : ℤ) → a <ℤ b → int_lt a b ≡ true
 true_lt a b e = grind (arith, ints)
@@ -73,23 +67,6 @@ ends_partitioned rs y full order i j d m n e =
 pub begins_partitioned : (rs : List Rect) (y : ℤ) → All IsNotEmpty rs → AllPairs IsBefore rs → IsPartitionedBy (λ r. int_le r.top y) rs
 begins_partitioned rs y full order i j d m n e =
     elim (cases_order i j) [ inl same ↦ ap (λ k. int_le (get_or rs k d).top y) same ∙ e | inr other ↦ elim other [ inl less ↦ true_le (get_or rs i d).top y (top_before (get_or rs i d) (get_or rs j d) y (order i j d less n) (full i d (omega arith)) (le_true (get_or rs j d).top y e)) | inr more ↦ absurd (omega arith) ] ]
-
-front_holds : (P : Rect → Type 0) (rs : List Rect) (n : ℕ) → n ≤ length rs → AllWithin P rs 0 n → All P (take n rs)
-front_holds P rs n h k i d m = let l = length-take n rs in rw (get_or-take n rs i d (omega arith)) (k i d (omega arith) (omega arith))
-
-back_holds : (P : Rect → Type 0) (rs : List Rect) (n : ℕ) → n ≤ length rs → AllWithin P rs n (length rs) → All P (drop n rs)
-back_holds P rs n h k i d m = let l = length-drop n rs in rw (get_or-drop n rs i d) (k (n + i) d (omega arith) (omega arith))
-
-pub is_cut : (rs above rest middle below : List Rect) (n k : ℕ) (first last : ℤ) → n ≤ length rs → above ≡ take n rs → rest ≡ drop n rs → AllWithin (λ r. int_lt r.bottom first ≡ true) rs 0 n → AllWithin (λ r. int_lt r.bottom first ≡ false) rs n (length rs) → k ≤ length rest → middle ≡ take k rest → below ≡ drop k rest → AllWithin (λ r. int_le r.top last ≡ true) rest 0 k → AllWithin (λ r. int_le r.top last ≡ false) rest k (length rest) → IsCut rs first last above middle below
-is_cut rs above rest middle below n k first last within a r fa fr within' m b tm tb =
-    let later : All (λ q. first ≤ℤ q.bottom) rest = rw r (All-weaker (λ (q : Rect). int_lt q.bottom first ≡ false) (λ q. first ≤ℤ q.bottom) (λ q e. lt_false q.bottom first e) (drop n rs) (back_holds (λ q. int_lt q.bottom first ≡ false) rs n within fr)) in
-    record {
-      whole = rw (m, b, take-append-drop k rest, a, r) (sym (take-append-drop n rs));
-      above_first = rw a (All-weaker (λ (q : Rect). int_lt q.bottom first ≡ true) (λ q. q.bottom <ℤ first) (λ q e. lt_true q.bottom first e) (take n rs) (front_holds (λ q. int_lt q.bottom first ≡ true) rs n within fa));
-      from_first = rw m (All-take (λ (q : Rect). first ≤ℤ q.bottom) k rest later);
-      to_last = rw m (All-weaker (λ (q : Rect). int_le q.top last ≡ true) (λ q. q.top ≤ℤ last) (λ q e. le_true q.top last e) (take k rest) (front_holds (λ q. int_le q.top last ≡ true) rest k within' tm));
-      below_last = rw b (All-weaker (λ (q : Rect). int_le q.top last ≡ false) (λ q. last <ℤ q.top) (λ q e. le_false q.top last e) (drop k rest) (back_holds (λ q. int_le q.top last ≡ false) rest k within' tb));
-    }
 
 -- ---- the rows beside all bands
 

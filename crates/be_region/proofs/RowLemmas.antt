@@ -2,7 +2,7 @@
 use Rattle.std.proofs.Common.{◌≡◌, ℕ, ◌+◌, ◌-◌, ◌<◌, ◌≤◌, zero, suc, ℤ, pos, negsuc, ◌+ℤ◌, ◌≤ℤ◌, ◌<ℤ◌, ◌⊎◌, inl, inr, Bool, true, false, ◌||◌, ◌&&◌, List, [], ◌∷◌, ◌++◌, length, get_or, take, drop, All, arith, refl, sym, ap, ◌∙◌}
 use Rattle.std.specs.List.{AllPairs}
 use Rattle.std.proofs.lemmas.Int.{ints}
-use Rattle.std.proofs.lemmas.Bool.{or_from}
+use Rattle.std.proofs.lemmas.Bool.{or_from, and_right}
 use Rattle.std.proofs.lemmas.List.Elements.{All-nil, All-head, All-tail, All-append, All-weaker, All-take, All-drop}
 use Rattle.be_geom.specs.declared.rect.Rect.{Rect}
 use Rattle.be_geom.specs.Points.{between}
@@ -11,41 +11,31 @@ use Rattle.be_region.specs.Regions.{region_has, IsNotEmpty}
 use Rattle.be_region.specs.Bands.{IsBefore}
 use Rattle.be_region.specs.Rows.{line_has, IsLine, IsLineAfter, IsRows, AreFrom, AreAbove}
 use Rattle.be_region.proofs.CountLemmas.{has-append}
-use Rattle.be_region.proofs.LineLemmas.{not_between_left, not_between_right, is_between}
 use Rattle.be_region.proofs.PairLemmas.{pairs_head, pairs_tail, pairs_take, pairs_drop}
 use Rattle.std.proofs.lemmas.List.{length-take, length-drop, get_or-take, get_or-drop, take_rest}
-
-pub and_second : (p q : Bool) → q ≡ false → (p && q) ≡ false
-and_second true q h = h
-and_second false q h = refl
+use Rattle.be_facts.proofs.Truths.{and_spread}
+use Rattle.be_geom.proofs.Between.{is_below, is_above, is_between}
 
 -- no pixel in the rows below
 pub none_above : (y : ℤ) (rs : List Rect) → AreAbove y rs → (x z : ℤ) → y ≤ℤ z → region_has rs x z ≡ false
 none_above y [] h x z k = refl
 none_above y (r ∷ rs) h x z k =
     let above = All-head (λ (q : Rect). q.bottom <ℤ y) r rs h in
-    or_from (rect_has r x z) (region_has rs x z) (and_second (between r.left x r.right) (between r.top z r.bottom) (not_between_right r.top z r.bottom (omega (arith, ints)))) (none_above y rs (All-tail (λ (q : Rect). q.bottom <ℤ y) r rs h) x z k)
+    or_from (rect_has r x z) (region_has rs x z) (and_right (between r.left x r.right) (between r.top z r.bottom) (is_above r.top z r.bottom (omega (arith, ints)))) (none_above y rs (All-tail (λ (q : Rect). q.bottom <ℤ y) r rs h) x z k)
 
 -- no pixel in the rows above
 pub none_below : (y : ℤ) (rs : List Rect) → All (λ r. y <ℤ r.top) rs → (x z : ℤ) → z ≤ℤ y → region_has rs x z ≡ false
 none_below y [] h x z k = refl
 none_below y (r ∷ rs) h x z k =
     let below = All-head (λ (q : Rect). y <ℤ q.top) r rs h in
-    or_from (rect_has r x z) (region_has rs x z) (and_second (between r.left x r.right) (between r.top z r.bottom) (not_between_left r.top z r.bottom (omega (arith, ints)))) (none_below y rs (All-tail (λ (q : Rect). y <ℤ q.top) r rs h) x z k)
-
-pub factored : (p l q : Bool) → ((p && q) || (l && q)) ≡ ((p || l) && q)
-factored true true true = refl
-factored true true false = refl
-factored true false true = refl
-factored true false false = refl
-factored false l q = refl
+    or_from (rect_has r x z) (region_has rs x z) (and_right (between r.left x r.right) (between r.top z r.bottom) (is_below r.top z r.bottom (omega (arith, ints)))) (none_below y rs (All-tail (λ (q : Rect). y <ℤ q.top) r rs h) x z k)
 
 -- the pixels of rectangles in the same rows
 pub band_has : (band : List Rect) (top bottom : ℤ) → All (λ r. (r.top ≡ top) × (r.bottom ≡ bottom)) band → (x y : ℤ) → region_has band x y ≡ (line_has band x && between top y bottom)
 band_has [] top bottom h x y = refl
 band_has (r ∷ band) top bottom h x y =
     let rows = All-head (λ (q : Rect). (q.top ≡ top) × (q.bottom ≡ bottom)) r band h in
-    rw (rows.0, rows.1, band_has band top bottom (All-tail (λ (q : Rect). (q.top ≡ top) × (q.bottom ≡ bottom)) r band h) x y) (factored (between r.left x r.right) (line_has band x) (between top y bottom))
+    rw (rows.0, rows.1, band_has band top bottom (All-tail (λ (q : Rect). (q.top ≡ top) × (q.bottom ≡ bottom)) r band h) x y) (and_spread (between r.left x r.right) (line_has band x) (between top y bottom))
 
 -- ---- the bands from a row on
 
@@ -56,10 +46,7 @@ rows_have band rest top bottom h x y =
 pub none_before : (band rest : List Rect) (top bottom : ℤ) → IsRows band rest top bottom → (x y : ℤ) → y <ℤ top → region_has (band ++ rest) x y ≡ false
 none_before band rest top bottom h x y k =
     let down = h.down in
-    rows_have band rest top bottom h x y ∙ or_from (line_has band x && between top y bottom) (region_has rest x y) (and_second (line_has band x) (between top y bottom) (not_between_left top y bottom k)) (none_below bottom rest h.below x y (omega (arith, ints)))
-
-le_trans : (a b c : ℤ) → a ≤ℤ b → b ≤ℤ c → a ≤ℤ c
-le_trans a b c h k = omega (arith, ints)
+    rows_have band rest top bottom h x y ∙ or_from (line_has band x && between top y bottom) (region_has rest x y) (and_right (line_has band x) (between top y bottom) (is_below top y bottom k)) (none_below bottom rest h.below x y (omega (arith, ints)))
 
 ends_below : (y bottom : ℤ) (r : Rect) → IsNotEmpty r → bottom <ℤ r.top → y ≤ℤ bottom → y ≤ℤ r.bottom
 ends_below y bottom r full below k = let down = full.down in omega (arith, ints)
@@ -120,7 +107,7 @@ rest_from y band rest top bottom h from =
 
 pub rest_same : (y : ℤ) (band rest : List Rect) (top bottom : ℤ) → IsRows band rest top bottom → bottom ≤ℤ y → (x z : ℤ) → y <ℤ z → region_has rest x z ≡ region_has (band ++ rest) x z
 rest_same y band rest top bottom h k x z m =
-    sym (rows_have band rest top bottom h x z ∙ ap (λ b. b || region_has rest x z) (and_second (line_has band x) (between top z bottom) (not_between_right top z bottom (omega (arith, ints)))))
+    sym (rows_have band rest top bottom h x z ∙ ap (λ b. b || region_has rest x z) (and_right (line_has band x) (between top z bottom) (is_above top z bottom (omega (arith, ints)))))
 
 -- ---- the first band of a region
 
@@ -191,7 +178,3 @@ some_rows r rs (suc n) other = omega arith
 pub first_rows : (rects : List Rect) (r : Rect) (rs : List Rect) (n : ℕ) (top bottom : ℤ) → rects ≡ r ∷ rs → All IsNotEmpty rects → AllPairs IsBefore rects → n ≤ length rects → All (λ q. q.top ≡ r.top) (take n rects) → ((d : Rect) → n < length rects → (get_or rects n d).top ≡ r.top → ⊥) → top ≡ r.top → bottom ≡ r.bottom → negsuc 32767 ≤ℤ r.top → r.bottom ≤ℤ pos 32767 → IsRows (take n rects) (take (length rects - n) (drop n rects)) top bottom
 first_rows rects r rs n top bottom e full order some tops other t b low high =
     rw (take_rest rects n, e, t, b) (first_band r rs n (rw e at full) (rw e at order) (rw e at some) (some_rows r rs n (rw e at other)) (rw e at tops) (rw e at other) low high)
-
--- the last row of both
-pub from_less : (y z : ℤ) (rs : List Rect) → AreFrom z rs → y ≤ℤ z → AreFrom y rs
-from_less y z rs h k = λ i d m. le_trans y z (get_or rs i d).bottom k (h i d m)

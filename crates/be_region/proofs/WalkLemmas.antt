@@ -1,9 +1,11 @@
 -- Two regions, walked band by band.
-use Rattle.std.proofs.Common.{◌≡◌, ℕ, ◌+◌, ◌-◌, ◌<◌, suc, ℤ, pos, negsuc, ◌+ℤ◌, ◌≤ℤ◌, ◌<ℤ◌, ◌⊎◌, inl, inr, Bool, true, false, ◌||◌, ◌&&◌, List, [], arith, refl, sym, ◌∙◌}
+use Rattle.std.proofs.Common.{◌≡◌, ℕ, ◌+◌, ◌-◌, ◌<◌, suc, ℤ, pos, negsuc, ◌+ℤ◌, ◌≤ℤ◌, ◌<ℤ◌, false, ◌||◌, ◌&&◌, List, [], arith, refl, sym, ◌∙◌}
 use Rattle.std.specs.Int.{int_min}
 use Rattle.std.proofs.lemmas.Int.{ints, clamps, by_lt_z}
+use Rattle.be_facts.proofs.Truths.{or_false}
 use Rattle.be_geom.specs.declared.rect.Rect.{Rect}
 use Rattle.be_geom.specs.Points.{between}
+use Rattle.be_geom.proofs.Between.{is_below, is_between}
 use Rattle.be_region.specs.declared.rule.Rule.{Rule}
 use Rattle.be_region.specs.declared.bands.Bands.{Bands}
 use Rattle.be_region.specs.declared.span.Span.{Span}
@@ -11,7 +13,6 @@ use Rattle.be_region.specs.Regions.{region_has}
 use Rattle.be_region.specs.Rules.{keeps}
 use Rattle.be_region.specs.Rows.{line_has, AreFrom, AreAbove}
 use Rattle.be_region.specs.Spans.{spans_have, AreOpenBands, kept_of, bands_of}
-use Rattle.be_region.proofs.LineLemmas.{not_between_left, is_between}
 use Rattle.be_region.proofs.MergeLemmas.{keeps_none}
 use Rattle.be_region.proofs.RowLemmas.{none_above}
 
@@ -66,14 +67,6 @@ rows_first rule kept one other bands y e f m he hf ne nf none is_open stays low 
 
 -- ---- a step
 
--- the last row with the same pixels in both
-pub last_of_both : (y bottom e f : ℤ) (a b : List Rect) → bottom ≡ int_min e f → y ≤ℤ e → y ≤ℤ f → (e ≤ℤ pos 32767) ⊎ (a ≡ []) → (f ≤ℤ pos 32767) ⊎ (b ≡ []) → ((a ≡ []) × (b ≡ []) → ⊥) → (y ≤ℤ bottom) × (bottom ≤ℤ e) × (bottom ≤ℤ f) × (bottom ≤ℤ pos 32767)
-last_of_both y bottom e f a b m h k (inl p) q ne =
-    (omega (arith, ints, clamps), omega (arith, ints, clamps), omega (arith, ints, clamps), omega (arith, ints, clamps))
-last_of_both y bottom e f a b m h k (inr p) (inl q) ne =
-    (omega (arith, ints, clamps), omega (arith, ints, clamps), omega (arith, ints, clamps), omega (arith, ints, clamps))
-last_of_both y bottom e f a b m h k (inr p) (inr q) ne = absurd (ne (p, q))
-
 pub rest_next : (all rest next : List Rect) (y bottom : ℤ) → IsRest all rest y → y ≤ℤ bottom → AreFrom (bottom +ℤ pos 1) next → ((x z : ℤ) → bottom <ℤ z → region_has next x z ≡ region_has rest x z) → IsRest all next (bottom +ℤ pos 1)
 rest_next all rest next y bottom h k from same = record {
   same = λ x z m. h.same x z (omega (arith, ints)) ∙ sym (same x z (omega (arith, ints)));
@@ -84,13 +77,9 @@ pub rest_rows : (all rest : List Rect) (line : List Rect) (y last bottom : ℤ) 
 rest_rows all rest line y last bottom h down within columns same x z from to =
     h.same x z from ∙ same x z from (omega (arith, ints)) ∙ sym (columns x)
 
-or_none : (a : Bool) → (a || false) ≡ a
-or_none true = refl
-or_none false = refl
-
 pub made_more : (rule : Rule) (kept one other : List Rect) (bands new : Bands) (a b : List Rect) (y bottom : ℤ) (spans : List Span) (line line' : List Rect) → AreRowsMade rule kept one other bands a b y → ((x z : ℤ) → region_has (bands_of new) x z ≡ (region_has (bands_of bands) x z || (between y z bottom && spans_have spans x))) → ((x : ℤ) → spans_have spans x ≡ keeps rule (line_has line x) (line_has line' x)) → ((x z : ℤ) → y ≤ℤ z → z ≤ℤ bottom → region_has one x z ≡ line_has line x) → ((x z : ℤ) → y ≤ℤ z → z ≤ℤ bottom → region_has other x z ≡ line_has line' x) → (x z : ℤ) → z <ℤ (bottom +ℤ pos 1) → region_has (bands_of new) x z ≡ keeps rule (region_has one x z) (region_has other x z)
 made_more rule kept one other bands new a b y bottom spans line line' h pixels columns p q x z k =
-    pixels x z ∙ by_lt_z {P = (region_has (bands_of bands) x z || (between y z bottom && spans_have spans x)) ≡ keeps rule (region_has one x z) (region_has other x z)} z y (λ m. rw (not_between_left y z bottom m) (or_none (region_has (bands_of bands) x z) ∙ h.made x z m)) (λ m. rw (none_above y (bands_of bands) h.above x z m, is_between y z bottom m (omega (arith, ints)), columns x, p x z m (omega (arith, ints)), q x z m (omega (arith, ints))) refl)
+    pixels x z ∙ by_lt_z {P = (region_has (bands_of bands) x z || (between y z bottom && spans_have spans x)) ≡ keeps rule (region_has one x z) (region_has other x z)} z y (λ m. rw (is_below y z bottom m) (or_false (region_has (bands_of bands) x z) ∙ h.made x z m)) (λ m. rw (none_above y (bands_of bands) h.above x z m, is_between y z bottom m (omega (arith, ints)), columns x, p x z m (omega (arith, ints)), q x z m (omega (arith, ints))) refl)
 
 pub rows_next : (rule : Rule) (kept one other : List Rect) (bands new : Bands) (a b a' b' : List Rect) (y bottom : ℤ) (spans : List Span) (line line' : List Rect) → AreRowsMade rule kept one other bands a b y → y ≤ℤ bottom → bottom ≤ℤ pos 32767 → ((x z : ℤ) → y ≤ℤ z → z ≤ℤ bottom → region_has a x z ≡ region_has a x y) → ((x z : ℤ) → y ≤ℤ z → z ≤ℤ bottom → region_has b x z ≡ region_has b x y) → ((x : ℤ) → line_has line x ≡ region_has a x y) → ((x : ℤ) → line_has line' x ≡ region_has b x y) → ((x : ℤ) → spans_have spans x ≡ keeps rule (line_has line x) (line_has line' x)) → AreOpenBands new → kept_of new ≡ kept_of bands → AreAbove (bottom +ℤ pos 1) (bands_of new) → ((x z : ℤ) → region_has (bands_of new) x z ≡ (region_has (bands_of bands) x z || (between y z bottom && spans_have spans x))) → AreFrom (bottom +ℤ pos 1) a' → AreFrom (bottom +ℤ pos 1) b' → ((x z : ℤ) → bottom <ℤ z → region_has a' x z ≡ region_has a x z) → ((x z : ℤ) → bottom <ℤ z → region_has b' x z ≡ region_has b x z) → AreRowsMade rule kept one other new a' b' (bottom +ℤ pos 1)
 rows_next rule kept one other bands new a b a' b' y bottom spans line line' h down low sa sb la lb columns is_open stays above pixels fa fb na nb = record {

@@ -7,6 +7,7 @@ use Rattle.std.proofs.lemmas.Bool.Decides.{nat_tests}
 use Rattle.std.proofs.lemmas.List.Splits.{slice_split_first, length-slice_split}
 use Rattle.std.proofs.lemmas.List.Sums.{count_by-le-length}
 use Rattle.std.proofs.lemmas.Option.{same_Some, some_pair_parts}
+use Rattle.be_facts.proofs.Truths.{and_regroup}
 use Rattle.be_command.specs.declared.fault.Reason.TheVariants.{BadEntry}
 use Rattle.be_lex.specs.Lines.{Line, lines_from, lines_of}
 use Rattle.be_geom.specs.Points.{between}
@@ -14,6 +15,7 @@ use Rattle.be_lex.specs.Words.{is_space, is_empty, cut_at}
 use Rattle.be_lex.specs.Numbers.{is_number, number_of}
 use Rattle.be_lex.proofs.Ranges.{between_naturals, between_naturals_le}
 use Rattle.be_lex.proofs.Cuts.{split_pieces}
+use Rattle.be_lex.proofs.LineLemmas.{lines_from-more}
 use Rattle.be_said.specs.declared.fault.LineFault.{LineFault}
 use Rattle.be_said.specs.declared.fault.LineFault.TheVariants as fault
 use Rattle.be_script.specs.Script.{Declared}
@@ -22,33 +24,15 @@ use Rattle.be_report.specs.Entries.{entry_of}
 use Rattle.be_report.specs.Lines.{words_between}
 use Rattle.be_reader.specs.Outcomes.{fault_at}
 use Rattle.be_report.specs.Outcomes.{IsHistory, IsSaid, ReadsOr}
-use Rattle.be_report.specs.Readers.{Reader, next_word, optional, Reads, natural_of}
+use Rattle.be_report.specs.Readers.{Reader, next_word, Reads, natural_of}
 use Rattle.be_report.specs.Told.{count_in, begins_traces, entry_in, entry_then, before_entries, entries_in, promised_in, history_in, entries_of}
 use Rattle.be_report.proofs.NumberWords.{unsigned_number}
-use Rattle.be_report.proofs.Readings.{Words, next_back}
+use Rattle.be_report.proofs.Readings.{Words}
 
 -- ---- words
 
-word_reads : {X : Type 0} (said : List ℕ → Option X) (word : List ℕ) (after : Words) (o : Option X) → said word ≡ o → Reads (next_word said) (word ∷ after) o after
-word_reads said word after (Some x) e = next_back said word after x e
-word_reads {X} said word after None e = ap (option_map (λ (y : X). (y, after))) e
-
-pub reads_word : {X : Type 0} (said : List ℕ → Option X) (word : List ℕ) (before after : Words) (r : Option X) → before ≡ word ∷ after → r ≡ said word → Reads (next_word said) before r after
-reads_word said word before after r e h = subst (λ (ws : Words). Reads (next_word said) ws r after) (sym e) (word_reads said word after r (sym h))
-
 pub reads_end : {X : Type 0} (said : List ℕ → Option X) (before : Words) → before ≡ [] → next_word said before ≡ None
 reads_end said before e = ap (next_word said) e
-
-pub optional_end : {X : Type 0} (read : Reader X) (before : Words) → before ≡ [] → optional read before ≡ Some (None, before)
-optional_end {X} read before e = ap (optional read) e ∙ ap (λ (ws : Words). let none : Option X = None in Some (none, ws)) (sym e)
-
-pub optional_more : {X : Type 0} (read : Reader X) (before after : Words) (x : X) → before ≢ [] → read before ≡ Some (x, after) → optional read before ≡ Some (Some x, after)
-optional_more read [] after x some e = absurd (some refl)
-optional_more {X} read (word ∷ words) after x some e = ap (option_map (λ (p : X × Words). (Some p.0, p.1))) e
-
-pub optional_broken : {X : Type 0} (read : Reader X) (before : Words) → before ≢ [] → read before ≡ None → optional read before ≡ None
-optional_broken read [] some e = absurd (some refl)
-optional_broken {X} read (word ∷ words) some e = ap (option_map (λ (p : X × Words). (Some p.0, p.1))) e
 
 pub or_bad_entry : {X : Type 0} (read : Reader X) (before after : Words) (o : Option X) → Reads read before o after → ReadsOr read before (ok_or o (fault.Bad BadEntry)) after
 or_bad_entry read before after (Some x) r = r
@@ -143,13 +127,10 @@ words_are_some text e = let r = split_pieces is_space text in let no : r.0 ∷ r
 
 -- ---- lines
 
-more_lines : (line : List ℕ) (pieces : List (List ℕ)) → (next : List ℕ) × (others : List (List ℕ)) × (pieces ≡ next ∷ others) → lines_from (line ∷ pieces) ≡ record { bytes = line; ended = true } ∷ lines_from pieces
-more_lines line pieces h = rw h.2 refl
-
 -- a line in front of a line feed
 pub lines_cut : (text line behind : List ℕ) → Some (line, behind) ≡ cut_at 10 text → lines_of text ≡ record { bytes = line; ended = true } ∷ lines_of behind
 unfolding lines_of
-lines_cut text line behind e = ap lines_from (pieces_cut 10 text line behind e) ∙ more_lines line (slice_split (is_byte 10) behind) (split_pieces (is_byte 10) behind)
+lines_cut text line behind e = ap lines_from (pieces_cut 10 text line behind e) ∙ lines_from-more line (slice_split (is_byte 10) behind) (split_pieces (is_byte 10) behind)
 
 abbrev last_line : List ℕ → List Line
 last_line text = cond (is_empty text) [] (record { bytes = text; ended = false } ∷ [])
@@ -181,10 +162,6 @@ lines_of-le text =
 abbrev pub before_all : List Entry → Result (List Entry) ℕ → Result (List Entry) ℕ
 before_all es (Ok rest) = Ok (es ++ rest)
 before_all es (Err n) = Err n
-
-pub before_none : (r : Result (List Entry) ℕ) → before_all [] r ≡ r
-before_none (Ok rest) = refl
-before_none (Err n) = refl
 
 before_more : (es : List Entry) (e : Entry) (r : Result (List Entry) ℕ) → before_all es (before_entries e r) ≡ before_all (es ++ e ∷ []) r
 before_more es e (Ok rest) = ap Ok (sym (append_assoc es (e ∷ []) rest))
@@ -267,10 +244,6 @@ history_cut d text line behind e = ap (history_in d) (lines_cut text line behind
 
 -- ---- names
 
-grouped : (a b c : Bool) → (a && (b && c)) ≡ ((a && b) && c)
-grouped true b c = refl
-grouped false b c = refl
-
 -- a name that is put together of two texts
 pub joined_short : (front back word : List ℕ) → length word < length front → bytes_eq (front ++ back) word ≡ false
 joined_short [] back word lt = absurd (omega arith)
@@ -280,7 +253,7 @@ joined_short (x ∷ front) back (y ∷ word) lt = and_right (eqb x y) (bytes_eq 
 pub joined_long : (front back word : List ℕ) → length front ≤ length word → bytes_eq (front ++ back) word ≡ (bytes_eq front (take (length front) word) && bytes_eq back (drop (length front) word))
 joined_long [] back word le = refl
 joined_long (x ∷ front) back [] le = absurd (omega arith)
-joined_long (x ∷ front) back (y ∷ word) le = ap (λ (b : Bool). eqb x y && b) (joined_long front back word (omega arith)) ∙ grouped (eqb x y) (bytes_eq front (take (length front) word)) (bytes_eq back (drop (length front) word))
+joined_long (x ∷ front) back (y ∷ word) le = ap (λ (b : Bool). eqb x y && b) (joined_long front back word (omega arith)) ∙ and_regroup (eqb x y) (bytes_eq front (take (length front) word)) (bytes_eq back (drop (length front) word))
 
 -- the place of a name among names that stand one behind the other
 abbrev pub place_from : List ℕ → ℕ → List (List ℕ) → Option ℕ
@@ -321,8 +294,3 @@ window_passed word loop twin names k first second =
 
 pub looper_found : (word loop twin : List ℕ) (names : List (List ℕ)) (k : ℕ) → bytes_eq loop word ≡ true → place_from word (2 * k) (loop ∷ twin ∷ names) ≡ Some (2 * k)
 looper_found word loop twin names k first = ap (λ (b : Bool). cond b (Some (2 * k)) (cond (bytes_eq twin word) (Some (2 * k + 1)) (place_from word (2 * k + 1 + 1) names))) first
-
-pub twin_found : (word loop twin : List ℕ) (names : List (List ℕ)) (k : ℕ) → bytes_eq loop word ≡ false → bytes_eq twin word ≡ true → place_from word (2 * k) (loop ∷ twin ∷ names) ≡ Some (2 * k + 1)
-twin_found word loop twin names k first second =
-    ap (λ (b : Bool). cond b (Some (2 * k)) (cond (bytes_eq twin word) (Some (2 * k + 1)) (place_from word (2 * k + 1 + 1) names))) first
-    ∙ ap (λ (b : Bool). cond b (Some (2 * k + 1)) (place_from word (2 * k + 1 + 1) names)) second

@@ -1,5 +1,5 @@
 -- What is legal in a state whose counts are small can be written down.
-use Rattle.std.proofs.Common.{◌≡◌, ℕ, ◌+◌, ◌^◌, ◌<◌, ◌≤◌, Bool, true, false, not, ◌&&◌, List, [], ◌∷◌, ◌++◌, length, drop, Option, Some, None, refl, sym, ap, subst, ◌∙◌, arith, length-append, length-drop}
+use Rattle.std.proofs.Common.{◌≡◌, ℕ, ◌+◌, ◌^◌, ◌<◌, ◌≤◌, Bool, true, false, not, ◌&&◌, List, [], ◌∷◌, ◌++◌, length, drop, Option, Some, None, refl, sym, ap, subst, ◌∙◌, arith, length-drop}
 use Rattle.std.specs.Prelude.{slice_get, option_map, option_and_then, option_to_list, ◌==◌, nat_le, if◌then◌else◌}
 use Rattle.std.proofs.lemmas.Bool.{leb-true}
 use Rattle.std.proofs.lemmas.List.Sums.{length-filter, count_by-le-length}
@@ -19,7 +19,7 @@ use Rattle.be_message.specs.declared.target.Target.TheVariants as target
 use Rattle.be_pane.specs.Panes.{Pane}
 use Rattle.be_port.specs.declared.Posted.{Posted}
 use Rattle.be_port.specs.declared.Posted.TheVariants.{Accepted, WouldBlock, BadPort, TooDeep}
-use Rattle.be_port.specs.Ports.{Letter, Port, judged, counted, front, is_accepted, posted, with_letter}
+use Rattle.be_port.specs.Ports.{Letter, Port, judged, counted, front, posted}
 use Rattle.be_script.specs.declared.InputLine.{InputLine}
 use Rattle.be_script.specs.declared.InputLine.TheVariants as line
 use Rattle.be_script.specs.Script.{Declared}
@@ -45,10 +45,11 @@ use Rattle.be_machine.specs.Windows.{dirty_of}
 use Rattle.be_machine.specs.Wants.{Want, asks, takes, begins, flushes, draws_end, ends, notifies, executes, uses, stops}
 use Rattle.be_machine.proofs.Found.{mapped, chained, joined, tested, untested, locked_there}
 use Rattle.be_machine.proofs.HasParts.{HasParts}
-use Rattle.be_machine.proofs.Lists.{AtPlace, length_at, there}
+use Rattle.be_machine.proofs.Lists.{AtPlace, there}
 use Rattle.be_machine.proofs.NumbersGrow.{Holds, Made, ports_change, ports_stay}
 use Rattle.be_machine.proofs.Tallied.{AreNumbered, IsTallied}
-use Rattle.be_machine.proofs.WorkDeliveries.{press_one, release_one, key_one}
+use Rattle.be_machine.proofs.WorkDeliveries.{press_one, release_one, key_one, option_alone}
+use Rattle.be_machine.proofs.NumbersSteps.{length_ports_with, posted_more}
 use Rattle.be_report.specs.Possible.{IsWindow, IsAnswer, IsPost, AreDeliveries, IsActOf}
 use Rattle.be_report.proofs.NotedWords.{is_noted}
 
@@ -237,21 +238,9 @@ unlock_fits d n s who a h there e =
 
 -- ---- input
 
-posted_by : (b : Bool) (letter : Letter Message) (p : Port Message) → length (if b then with_letter letter p else p).arrived ≤ length p.arrived + 1
-posted_by true letter p = let more = length-append p.arrived (letter ∷ []) in omega arith
-posted_by false letter p = omega arith
-
-posted_more : (letter : Letter Message) (p : Port Message) → length (posted letter p).arrived ≤ length p.arrived + 1
-unfolding posted
-posted_more letter p = posted_by (is_accepted (judged p letter.hop)) letter p
-
 holds_more : (n : ℕ) (ports : List (Port Message)) (o : Option Post) (w : ℕ) → ((v : ℕ) → AtPlace (Holds n) ports v) → AtPlace (Holds (n + 1)) (ports_with ports o) w
 holds_more n ports (Some post) w h = ports_change ports post.window (posted (input_letter post)) 1 (posted_more (input_letter post)) w n (n + 1) (omega arith) (h w)
 holds_more n ports None w h = ports_stay ports w n (n + 1) (omega arith) (h w)
-
-as_many : (ports : List (Port Message)) (o : Option Post) → length (ports_with ports o) ≡ length ports
-as_many ports (Some post) = length_at ports post.window (posted (input_letter post))
-as_many ports None = refl
 
 outcome_fits : (d : Declared) (n : ℕ) (ports : List (Port Message)) (o : Option Post) (x : ℕ × Posted) → n < 2 ^ 31 → length ports ≡ length d.windows → ((w : ℕ) → AtPlace (Holds n) ports w) → option_and_then (outcome_in ports) o ≡ Some x → IsPost d x
 outcome_fits d n ports o x few same held e =
@@ -278,14 +267,9 @@ delivery_fits d n s x few h sole =
       count,
       fit_by d (option_and_then (outcome_in s.ports) x.first) (option_and_then (outcome_in second) x.second)
           (λ y e. outcome_fits d n s.ports x.first y (omega arith) h.parts.ports h.letters e)
-          (λ y e. outcome_fits d (n + 1) second x.second y few (as_many s.ports x.first ∙ h.parts.ports) (λ w. holds_more n s.ports x.first w h.letters) e)
+          (λ y e. outcome_fits d (n + 1) second x.second y few (length_ports_with s.ports x.first ∙ h.parts.ports) (λ w. holds_more n s.ports x.first w h.letters) e)
           (λ none. ap (option_and_then (outcome_in second)) (sole none)),
     )
-
--- the second one of a move
-option_alone : (o : Option Post) → slice_get (option_to_list o) 1 ≡ None
-option_alone (Some post) = refl
-option_alone None = refl
 
 -- a message to a view about a pixel
 abbrev post_at : (Point → Message) → Point → ℕ × ℕ → Point → Point → Post

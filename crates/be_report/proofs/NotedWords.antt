@@ -2,6 +2,9 @@
 use Rattle.std.proofs.Common.{◌≡◌, ℕ, Bool, true, false, List, [], ◌∷◌, Option, Some, None, refl, subst}
 use Rattle.std.specs.Prelude.{slice_get, ◌==◌, if◌then◌else◌}
 use Rattle.std.specs.List.{list_all}
+use Rattle.std.proofs.lemmas.Bool.{and_from}
+use Rattle.be_facts.proofs.Truths.{and_first, and_second}
+use Rattle.be_facts.proofs.Lists.{all_at}
 use Rattle.be_actor.specs.declared.Instruction.{Instruction}
 use Rattle.be_actor.specs.declared.Instruction.TheVariants as instruction
 use Rattle.be_actor.specs.declared.Place.{Place}
@@ -17,10 +20,10 @@ use Rattle.be_script.specs.Script.{Declared}
 use Rattle.be_machine.specs.Activities.{Runner, app, looper, runner}
 use Rattle.be_machine.specs.Program.{app_program, app_wish, body_wish, letter_program, update_program, buffered}
 use Rattle.be_machine.specs.State.{State, App, Looper, free, locked, handling, Stage, in_body, beginning, in_update, ending}
-use Rattle.be_machine.specs.Wants.{Want, asks, flushes, draws_end, ends, asks_or, end_want, draw_end_want, stage_want, looper_want, want_of}
+use Rattle.be_machine.specs.Wants.{asks, flushes, draws_end, ends, end_want, draw_end_want, stage_want, looper_want, want_of}
 use Rattle.be_machine.proofs.Found.{IsMapped, mapped, IsChained, chained}
-use Rattle.be_machine.proofs.Lists.{both, both_first, both_second, all_get}
 use Rattle.be_machine.proofs.Programs.{body_steps, update_steps, app_rest}
+use Rattle.be_machine.proofs.BodyWishes.{same_wish, asked}
 
 -- ---- instructions
 
@@ -106,26 +109,22 @@ app_step_noted d lock (instruction.Draw c) h = refl
 
 all_noted : (p : Instruction → Bool) (steps : List Instruction) → ((i : Instruction) → p i ≡ true → notes_well i ≡ true) → list_all p steps ≡ true → list_all notes_well steps ≡ true
 all_noted p [] each all = refl
-all_noted p (i ∷ steps) each all = both (notes_well i) (list_all notes_well steps) (each i (both_first (p i) (list_all p steps) all)) (all_noted p steps each (both_second (p i) (list_all p steps) all))
+all_noted p (i ∷ steps) each all = and_from (notes_well i) (list_all notes_well steps) (each i (and_first (p i) (list_all p steps) all)) (all_noted p steps each (and_second (p i) (list_all p steps) all))
 
 rest_noted : (d : Declared) (lock : Option ℕ) (steps : List Instruction) → is_rest_of_app d lock steps ≡ true → list_all notes_well steps ≡ true
 rest_noted d lock [] h = refl
 rest_noted d None (i ∷ rest) h =
-    both (notes_well i) (list_all notes_well rest) (app_step_noted d None i (both_first (is_app_step d None i) _ h)) (rest_noted d (lock_behind None i) rest (both_second (is_app_step d None i) _ h))
+    and_from (notes_well i) (list_all notes_well rest) (app_step_noted d None i (and_first (is_app_step d None i) _ h)) (rest_noted d (lock_behind None i) rest (and_second (is_app_step d None i) _ h))
 rest_noted d (Some w) (i ∷ rest) h =
-    both (notes_well i) (list_all notes_well rest) (app_step_noted d (Some w) i (both_first (is_app_step d (Some w) i) _ h)) (rest_noted d (lock_behind (Some w) i) rest (both_second (is_app_step d (Some w) i) _ h))
+    and_from (notes_well i) (list_all notes_well rest) (app_step_noted d (Some w) i (and_first (is_app_step d (Some w) i) _ h)) (rest_noted d (lock_behind (Some w) i) rest (and_second (is_app_step d (Some w) i) _ h))
 
 program_noted : (steps : List Instruction) (place : Place) (now : Option Message) (buffered : ℕ) (wish : Wish) → list_all notes_well steps ≡ true → wish_of steps place now buffered ≡ Some wish → is_noted wish ≡ true
 unfolding wish_of
 program_noted steps place now buffered wish all e =
     let at : IsMapped (wish_at place.part now buffered) (slice_get steps place.step) wish = mapped (wish_at place.part now buffered) (slice_get steps place.step) wish e in
-    subst (λ (x : Wish). is_noted x ≡ true) at.is (step_noted place.part buffered now at.from (all_get notes_well steps place.step at.from all at.read))
+    subst (λ (x : Wish). is_noted x ≡ true) at.is (step_noted place.part buffered now at.from (all_at notes_well steps place.step at.from all at.read))
 
 -- ---- loopers
-
-asked : (who : Runner) (o : Option Wish) (last : Want) (wish : Wish) → ((other : Runner) (x : Wish) → last ≡ asks other x → ⊥) → asks_or who o last ≡ asks who wish → o ≡ Some wish
-asked who (Some x) last wish not e = cc
-asked who None last wish not e = absurd (not who wish e)
 
 end_asks : (w : ℕ) (b : Bool) (other : Runner) (x : Wish) → (if b then ends w else flushes w) ≡ asks other x → ⊥
 end_asks w true other x e = cc
@@ -151,9 +150,6 @@ looper_noted : (d : Declared) (s : State) (w : ℕ) (l : Looper) (wish : Wish) �
 looper_noted d s w (handling hand g) wish limits e = stage_noted d s w hand g wish limits e
 looper_noted d s w (locked m) wish limits e = cc
 looper_noted d s w free wish limits e = cc
-
-same_wish : (who : Runner) (x y : Wish) → asks who x ≡ asks who y → x ≡ y
-same_wish who x y e = cc
 
 -- whoever asks for a note
 pub asked_note : (d : Declared) (s : State) (who : Runner) (wish : Wish) → IsWithinLimits d → want_of d s (runner who) ≡ Some (asks who wish) → is_noted wish ≡ true

@@ -1,11 +1,12 @@
 -- The text of a history tells it.
-use Rattle.std.proofs.Common.{◌≡◌, ℕ, ◌+◌, ◌^◌, ◌<◌, ◌≤◌, Bool, true, cond, ◌&&◌, List, [], ◌∷◌, ◌++◌, length, Option, Some, None, Ok, Err, option_and_then, codes, decimal, All, refl, ap, ◌∙◌, arith, append_assoc}
+use Rattle.std.proofs.Common.{◌≡◌, ℕ, ◌+◌, ◌^◌, ◌<◌, ◌≤◌, Bool, true, cond, ◌&&◌, List, [], ◌∷◌, ◌++◌, length, Option, Some, None, Ok, Err, option_and_then, codes, decimal, All, refl, ap, ◌∙◌, arith}
 use Rattle.std.specs.List.{join_with_byte}
 use Rattle.std.specs.Result.{result_ok}
 use Rattle.std.specs.Str.{bytes_eq}
 use Rattle.std.proofs.lemmas.Bool.{and_from, lt-ltb, le-ltb, le-leb}
 use Rattle.std.proofs.lemmas.Fmt.{length-decimal-le}
 use Rattle.std.proofs.lemmas.List.Elements.{All-head, All-tail}
+use Rattle.be_facts.proofs.Lists.{append_moved}
 use Rattle.be_lex.specs.Lines.{Line, lines_of}
 use Rattle.be_script.specs.Limits.{IsWithinLimits}
 use Rattle.be_script.specs.Script.{Declared}
@@ -26,12 +27,6 @@ use Rattle.be_report.proofs.Splits.{split_join, lines_of-line}
 
 abbrev pub traces_line : List ℕ
 traces_line = line_of (codes "traces" ∷ [])
-
-moved_right : (a b c rest : List ℕ) → ((a ++ b) ++ c) ++ rest ≡ a ++ ((b ++ c) ++ rest)
-moved_right a b c rest = ap (λ (x : List ℕ). x ++ rest) (append_assoc a b c) ∙ append_assoc a (b ++ c) rest
-
-abbrev line_with : List (List ℕ) → Line
-line_with words = record { bytes = join_with_byte 32 words; ended = true }
 
 -- ---- the entries
 
@@ -61,7 +56,7 @@ unfolding entries_from
 entries_back d last k [] rest limits each small count = end_back d last k rest (omega arith)
 entries_back d last k (e ∷ es) rest limits each small count =
     let behind = (entries_from d (k + 1) es ++ traces_line) ++ rest in
-    ap (λ (text : List ℕ). entries_in d last k (lines_of text)) (moved_right (line_of (entry_words d k e)) (entries_from d (k + 1) es) traces_line rest)
+    ap (λ (text : List ℕ). entries_in d last k (lines_of text)) (append_moved (line_of (entry_words d k e)) (entries_from d (k + 1) es) traces_line rest)
     ∙ entry_back d last k e es behind limits (All-head (IsPossible d) e es each) (omega arith) (omega arith)
     (entries_back d last (k + 1) es rest limits (All-tail (IsPossible d) e es each) small (omega arith))
 
@@ -90,7 +85,7 @@ text_tells_history d h rest limits possible =
     let n = length h in
     let behind = (entries_from d 1 h ++ traces_line) ++ rest in
     let plain = plain-decimal n possible.counted in
-    ap (λ (text : List ℕ). result_ok (history_in d (lines_of text))) (moved_right (line_of (codes "history" ∷ decimal n ∷ [])) (entries_from d 1 h) traces_line rest)
+    ap (λ (text : List ℕ). result_ok (history_in d (lines_of text))) (append_moved (line_of (codes "history" ∷ decimal n ∷ [])) (entries_from d 1 h) traces_line rest)
     ∙ ap (λ (lines : List Line). result_ok (history_in d lines)) (lines_of-line (codes "history") (decimal n ∷ []) behind refl (and_from (is_plain (decimal n)) true plain refl))
     ∙ ap (λ (o : Option ℕ). result_ok (promised_in d o (lines_of behind))) (count_back n possible.counted)
     ∙ ap result_ok (entries_back d n 1 h rest limits possible.each possible.counted (omega arith))

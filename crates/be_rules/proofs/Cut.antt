@@ -1,12 +1,13 @@
 -- A state that is cut into slices is put together again.
-use Rattle.std.proofs.Common.{◌≡◌, ℕ, zero, suc, ◌+◌, ◌*◌, ◌<◌, Bool, true, false, List, [], ◌∷◌, ◌++◌, map, length, Option, Some, None, refl, sym, ap, ◌∙◌, subst, arith}
-use Rattle.std.specs.Prelude.{ℤ, pos, ◌/◌, ◌%◌, ◌≤◌, nat_lt, slice_get, option_map, find, if◌then◌else◌}
+use Rattle.std.proofs.Common.{◌≡◌, ℕ, zero, suc, ◌+◌, ◌*◌, ◌<◌, Bool, true, List, [], ◌∷◌, ◌++◌, map, length, Option, Some, None, refl, sym, ap, ◌∙◌, subst, arith}
+use Rattle.std.specs.Prelude.{ℤ, pos, ◌/◌, ◌%◌, ◌≤◌, nat_lt, slice_get, option_map}
 use Rattle.std.proofs.lemmas.Bool.Decides.{nat_tests}
 use Rattle.std.proofs.lemmas.List.{length-map}
 use Rattle.std.proofs.lemmas.List.FromFn.{length-range_with_len}
-use Rattle.std.proofs.lemmas.Option.{same_Some}
+use Rattle.std.proofs.lemmas.Option.{same_Some, slice_get_past}
 use Rattle.std.specs.List.{range_with_len}
 use Rattle.std.proofs.lemmas.Nat.{div-add-mod', mod_below}
+use Rattle.be_facts.proofs.Lists.{get_map, get_range, append_none, none_past}
 use Rattle.be_script.specs.Script.{Declared}
 use Rattle.be_span.specs.Cells.{desktop_cell}
 use Rattle.be_span.specs.declared.Cell.{Cell}
@@ -20,11 +21,11 @@ use Rattle.be_machine.specs.Touched.{Part}
 use Rattle.be_machine.specs.Touched as part
 use Rattle.be_machine.specs.Windows.{width_of, owned}
 use Rattle.be_machine.proofs.HasParts.{HasParts}
-use Rattle.be_machine.proofs.Lists.{find_passes}
 use Rattle.be_machine.proofs.ReadsDirt.{is_owned}
 use Rattle.be_machine.proofs.PixelSteps.{IsDesktopAt}
+use Rattle.be_machine.proofs.WorkStages.{found_if}
 use Rattle.be_rules.specs.Slices.{Slice, own_from, slice_of, slices, pick, app_in, looper_in, buffer_in, port_in, link_in, kept_in, cells_in, cell_from, screen_from, state_of}
-use Rattle.be_rules.proofs.ListLemmas.{pick_append, picks_nothing, picks_all, same_list, get_map, get_range, append-nil, there_below, none_past, past_none}
+use Rattle.be_rules.proofs.ListLemmas.{pick_append, picks_nothing, picks_all, same_list, there_below}
 
 -- what each segment of the slices gives
 module _ {Y : Type 0} (f : Slice → Option Y) (d : Declared) (s : State) where
@@ -65,7 +66,7 @@ module _ (d : Declared) (s : State) (h : HasParts d s) where
   apps_back =
       rows app_in d s
       ∙ ap (λ l. pick app_in (map (λ i. slice_of s (part.cell i)) (range_with_len 0 (length d.apps))) ++ l) (λ i. picks_nothing app_in (λ w. slice_of s (part.looper w)) (range_with_len 0 (length d.windows)) (λ w. refl) i ++ (picks_nothing app_in (λ w. slice_of s (part.port w)) (range_with_len 0 (length d.windows)) (λ w. refl) i ++ (picks_nothing app_in (λ w. slice_of s (part.link w)) (range_with_len 0 (length d.windows)) (λ w. refl) i ++ picks_nothing app_in (λ w. slice_of s (part.pane w)) (range_with_len 0 (length d.windows)) (λ w. refl) i)))
-      ∙ append-nil _
+      ∙ append_none _
       ∙ picks_all app_in (λ i. slice_of s (part.cell i)) (length d.apps) s.apps h.apps (λ i. refl)
 
   -- in front of the row that is picked nothing is, and behind it
@@ -77,13 +78,13 @@ module _ (d : Declared) (s : State) (h : HasParts d s) where
     cells = pick f (map (λ i. slice_of s (part.cell i)) (range_with_len 0 (length d.apps)))
 
     of_loopers : cells ≡ [] → row part.looper ≡ ys → row part.port ≡ [] → row part.link ≡ [] → row part.pane ≡ [] → cells ++ (row part.looper ++ (row part.port ++ (row part.link ++ row part.pane))) ≡ ys
-    of_loopers a b c e g = (λ i. a i ++ (b i ++ (c i ++ (e i ++ g i)))) ∙ append-nil ys
+    of_loopers a b c e g = (λ i. a i ++ (b i ++ (c i ++ (e i ++ g i)))) ∙ append_none ys
 
     of_ports : cells ≡ [] → row part.looper ≡ [] → row part.port ≡ ys → row part.link ≡ [] → row part.pane ≡ [] → cells ++ (row part.looper ++ (row part.port ++ (row part.link ++ row part.pane))) ≡ ys
-    of_ports a b c e g = (λ i. a i ++ (b i ++ (c i ++ (e i ++ g i)))) ∙ append-nil ys
+    of_ports a b c e g = (λ i. a i ++ (b i ++ (c i ++ (e i ++ g i)))) ∙ append_none ys
 
     of_links : cells ≡ [] → row part.looper ≡ [] → row part.port ≡ [] → row part.link ≡ ys → row part.pane ≡ [] → cells ++ (row part.looper ++ (row part.port ++ (row part.link ++ row part.pane))) ≡ ys
-    of_links a b c e g = (λ i. a i ++ (b i ++ (c i ++ (e i ++ g i)))) ∙ append-nil ys
+    of_links a b c e g = (λ i. a i ++ (b i ++ (c i ++ (e i ++ g i)))) ∙ append_none ys
 
     of_panes : cells ≡ [] → row part.looper ≡ [] → row part.port ≡ [] → row part.link ≡ [] → row part.pane ≡ ys → cells ++ (row part.looper ++ (row part.port ++ (row part.link ++ row part.pane))) ≡ ys
     of_panes a b c e g = λ i. a i ++ (b i ++ (c i ++ (e i ++ g i)))
@@ -143,13 +144,9 @@ covered_there [] w x y e = absurd (cc)
 covered_there (z ∷ zs) zero x y e = omega arith
 covered_there (z ∷ zs) (suc w) x y e = let h = covered_there zs w x y e in omega arith
 
-owner_if : (b : Bool) (windows : Windows) (x y : ℤ) (w : ℕ) → (if b then find (covers windows.windows x y) windows.order else None) ≡ Some w → covers windows.windows x y w ≡ true
-owner_if true windows x y w e = find_passes (covers windows.windows x y) windows.order w e
-owner_if false windows x y w e = absurd (cc)
-
 pub owner_there : (windows : Windows) (x y : ℤ) (w : ℕ) → owner_at windows x y ≡ Some w → w < length windows.windows
 unfolding owner_at
-owner_there windows x y w e = covered_there windows.windows w x y (owner_if _ windows x y w e)
+owner_there windows x y w e = covered_there windows.windows w x y (found_if _ windows x y w e)
 
 within : (a b : ℕ) → 0 < b → nat_lt (a % b) b ≡ true
 within a b h = let lt : a % b < b = mod_below a b h in grind (arith, nat_tests)
@@ -182,7 +179,7 @@ module _ (d : Declared) (s : State) (h : IsWhole d s) where
       ∙ ap Some (ap (λ w. cell_from (shown_cells d s h.parts) k (owner_at s.desk.windows (pos (k % w)) (pos (k / w)))) (sym h.parts.width) ∙ cell_there k c _ read refl)
   screen_there k None read =
       let past : length s.screen ≤ k = none_past s.screen k read in
-      past_none _ k (subst (λ n. n ≤ k) (h.parts.screen ∙ sym (length-map (range_with_len 0 (d.width * d.height)) _ ∙ length-range_with_len 0 (d.width * d.height))) past)
+      slice_get_past _ k (subst (λ n. n ≤ k) (h.parts.screen ∙ sym (length-map (range_with_len 0 (d.width * d.height)) _ ∙ length-range_with_len 0 (d.width * d.height))) past)
 
   screen_back : screen_from d s.desk (pick cells_in (slices d s)) ≡ s.screen
   screen_back = ap (screen_from d s.desk) (cells_back d s h.parts) ∙ same_list _ s.screen (λ k. screen_there k (slice_get s.screen k) refl)

@@ -2,6 +2,7 @@
 use Rattle.std.proofs.Common.{◌≡◌, ℕ, zero, suc, ◌<◌, Bool, true, false, List, [], ◌∷◌, ◌++◌, length, Option, Some, None, inl, inr, refl, sym, subst, ◌∙◌}
 use Rattle.std.specs.Prelude.{ℤ, slice_get, option_map, option_and_then, option_to_list, if◌then◌else◌}
 use Rattle.std.proofs.lemmas.Option.{same_Some}
+use Rattle.be_facts.proofs.Numbers.{nat_lt_tells}
 use Rattle.be_geom.specs.declared.point.Point.{Point}
 use Rattle.be_geom.specs.Places.{less}
 use Rattle.be_input.specs.Deliveries.{Post, Delivery, where_message, transit_message, place_in, mouse_posts, accepts, activates, pressed, window_under, is_same, move_posts, key_message, focus_target, key_post, delivered}
@@ -23,7 +24,6 @@ use Rattle.be_machine.specs.State.{State}
 use Rattle.be_machine.specs.Touched.{Part, cell, port, pane}
 use Rattle.be_machine.specs.Wants.{uses}
 use Rattle.be_machine.proofs.HasParts.{HasParts}
-use Rattle.be_machine.proofs.ProgressCan.{is_below}
 use Rattle.be_machine.proofs.ProgressCases.{by_outcome}
 use Rattle.be_rules.specs.Places.{IsPart}
 use Rattle.be_rules.specs.Sure.{seen_in, maybe, post_parts, delivery_parts, event_parts, parts_by, IsAmong}
@@ -139,7 +139,7 @@ module _ (d : Declared) (s : State) (h : HasParts d s) (p : Part) where
   shown_named (line.Release at) is k = delivery_named (event.Release at) k
   shown_named (line.Move at) is k = delivery_named (event.Move at) k
   shown_named (line.Key key) is k = delivery_named (event.Key key) k
-  shown_named (line.After m) is k = alone d p (cell m) (is_below m (length d.apps) is) k
+  shown_named (line.After m) is k = alone d p (cell m) (nat_lt_tells m (length d.apps) is) k
 
   pub event_named : (it : InputLine) → is_event d it ≡ true → IsAmong p (parts_by (seen_in s) (uses it)) → IsPart d p
   event_named it is (inl own) = subst (IsPart d) (sym own) tt

@@ -43,7 +43,7 @@ use Rattle.be_rules.proofs.Spots.{changes_hands}
 
 -- ---- the windows behind a change
 
-windows_changed : (s : State) (w : ℕ) (change : Change) → (changed s w change).desk.windows ≡ windows_behind s.desk w change
+pub windows_changed : (s : State) (w : ℕ) (change : Change) → (changed s w change).desk.windows ≡ windows_behind s.desk w change
 unfolding changed
 windows_changed s w change = by_result (desk_after s.desk w change)
   where
@@ -51,7 +51,7 @@ windows_changed s w change = by_result (desk_after s.desk w change)
     by_result (Ok new) = refl
     by_result (Err f) = refl
 
-as_large : (desk : Desk) (w : ℕ) (change : Change) → IsAsLarge desk.windows (windows_behind desk w change)
+pub as_large : (desk : Desk) (w : ℕ) (change : Change) → IsAsLarge desk.windows (windows_behind desk w change)
 as_large desk w change = by_result (desk_after desk w change) (desk_sizes desk w change)
   where
     by_result : (r : Result Desk ChangeFault) → KeepsCounts desk r → IsAsLarge desk.windows (windows_or desk.windows r)
@@ -86,7 +86,7 @@ exec_touches d s e w u c change wanted front effect other =
 -- ---- by an event
 
 -- what is remembered of the pointer changes no windows
-under_same : (x : Delivery) (desk : Desk) (w : ℕ) → windows_behind (with_under x desk) w Activate ≡ windows_behind desk w Activate
+pub under_same : (x : Delivery) (desk : Desk) (w : ℕ) → windows_behind (with_under x desk) w Activate ≡ windows_behind desk w Activate
 unfolding desk_after
 under_same x desk w = by_result (windows_after desk.windows w Activate)
   where
@@ -94,7 +94,7 @@ under_same x desk w = by_result (windows_after desk.windows w Activate)
     by_result (Ok windows) = refl
     by_result (Err f) = refl
 
-activates : (s : State) (x : Delivery) (w : ℕ) → x.activate ≡ Some w → (with_delivery s x).desk.windows ≡ windows_behind s.desk w Activate
+pub activates : (s : State) (x : Delivery) (w : ℕ) → x.activate ≡ Some w → (with_delivery s x).desk.windows ≡ windows_behind s.desk w Activate
 activates s x w is =
     let posted : State = record (used s) { ports = ports_with (ports_with s.ports x.first) x.second; desk = with_under x s.desk } in
     ap (λ o. (activated posted o).desk.windows) is ∙ windows_changed posted w Activate ∙ under_same x s.desk w

@@ -5,6 +5,7 @@ use Rattle.std.proofs.lemmas.Option.{same_Some}
 use mathlib.Core.Option as opt
 use mathlib.Core.Option.{some, none, some-ne-none}
 use lib.ListN.{get_elem?}
+use Rattle.be_facts.proofs.Numbers.{eq_tells}
 use Rattle.be_actor.specs.declared.Wish.{Wish}
 use Rattle.be_actor.specs.declared.Wish.TheVariants as wish
 use Rattle.be_command.specs.Effects.{Effect}
@@ -27,7 +28,6 @@ use Rattle.be_machine.specs.Step.{step}
 use Rattle.be_machine.specs.Touched.{Part, Touches}
 use Rattle.be_machine.specs.Touched as part
 use Rattle.be_machine.specs.Wants.{Want, asks, takes, begins, flushes, draws_end, ends, notifies, executes, uses, stops}
-use Rattle.be_machine.proofs.Lists.{same_number}
 use Rattle.be_machine.proofs.ProgressAfter.{IsSettled, settled_after}
 use Rattle.be_machine.proofs.ProgressLocksMet.{IsLockedState}
 use Rattle.be_rules.specs.Rules.{IsSound, TouchesPlace}
@@ -56,7 +56,7 @@ found_in d s f [] y P fits e h = absurd (cc)
 found_in d s f (x ∷ xs) y P fits e h = by_later (f x.1) (find_in f xs) y P e (λ here. by_element s (all_parts d) f x.0 x.1 y P (get_elem? (all_parts d) x.0) refl fits.0 here h) (λ later. found_in d s f xs y P fits.1 later h)
 
 if_same : {Y : Type 0} (n m : ℕ) (b : Bool) (g : ℕ → Option Y) (y : Y) → (n == m) ≡ b → (if b then g n else None) ≡ Some y → g m ≡ Some y
-if_same n m true g y e is = subst (λ k. g k ≡ Some y) (same_number n m e) is
+if_same n m true g y e is = subst (λ k. g k ≡ Some y) (eq_tells n m e) is
 if_same n m false g y e is = absurd (cc)
 
 pub app_there : (s : State) (m : ℕ) (a : App) (x : Part) → app_of m (slice_of s x) ≡ Some a → slice_get s.apps m ≡ Some a

@@ -35,7 +35,7 @@ own_of (twin w) = part.pane w
 own_of input = part.input
 own_of closing = part.input
 
-long : (g : ℕ → Part) (n : ℕ) → length (map g (range_with_len 0 n)) ≡ n
+pub long : (g : ℕ → Part) (n : ℕ) → length (map g (range_with_len 0 n)) ≡ n
 long g n = length-map (range_with_len 0 n) g ∙ length-range_with_len 0 n
 
 pub kept_there : (d : Declared) (who : Activity) → InRange (length d.apps) (length d.windows) who → get_elem? (all_parts d) (kept_at d (Some who)) ≡ some (own_of who)

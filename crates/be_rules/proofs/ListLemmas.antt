@@ -47,16 +47,6 @@ same_list [] (y ∷ ys) h = let no : None ≡ Some y = h 0 in absurd (cc)
 same_list (x ∷ xs) [] h = let no : Some x ≡ None = h 0 in absurd (cc)
 same_list (x ∷ xs) (y ∷ ys) h = λ i. same_Some x y (h 0) i ∷ same_list xs ys (λ j. h (suc j)) i
 
-pub get_map : {X Y : Type 0} (f : X → Y) (xs : List X) (i : ℕ) (x : X) → slice_get xs i ≡ Some x → slice_get (map f xs) i ≡ Some (f x)
-get_map f [] i x e = absurd (cc)
-get_map f (z ∷ zs) zero x e = ap (λ y. Some (f y)) (same_Some z x e)
-get_map f (z ∷ zs) (suc i) x e = get_map f zs i x e
-
-pub get_range : (k n i : ℕ) → i < n → slice_get (range_with_len k n) i ≡ Some (k + i)
-get_range k zero i lt = absurd (omega arith)
-get_range k (suc n) zero lt = let here : k ≡ k + 0 = omega arith in ap Some here
-get_range k (suc n) (suc i) lt = let there : k + 1 + i ≡ k + suc i = omega arith in get_range (k + 1) n i (omega arith) ∙ ap Some there
-
 -- ---- by the other word for the element of a number
 
 pub elem_map : {X Y : Type 0} (f : X → Y) (xs : List X) (i : ℕ) (x : X) → get_elem? xs i ≡ some x → get_elem? (map f xs) i ≡ some (f x)
@@ -66,32 +56,14 @@ elem_map f (z ∷ zs) (suc i) x e = elem_map f zs i x e
 
 -- ---- sums
 
-pub total_append : {X : Type 0} (f : X → ℕ) (xs ys : List X) → total f (xs ++ ys) ≡ total f xs + total f ys
-total_append f [] ys = omega arith
-total_append f (x ∷ xs) ys = omega (arith, total_append f xs ys)
-
 pub total_sum : {Z : Type 0} (f g h : Z → ℕ) (zs : List Z) → ((z : Z) → f z ≡ g z + h z) → total f zs ≡ total g zs + total h zs
 total_sum f g h [] e = refl
 total_sum f g h (z ∷ zs) e = omega (arith, e z, total_sum f g h zs e)
-
-pub append-nil : {X : Type 0} (xs : List X) → xs ++ [] ≡ xs
-append-nil [] = refl
-append-nil (x ∷ xs) = ap (λ l. x ∷ l) (append-nil xs)
 
 pub there_below : {X : Type 0} (xs : List X) (i : ℕ) (x : X) → slice_get xs i ≡ Some x → i < length xs
 there_below [] i x e = absurd (cc)
 there_below (z ∷ zs) zero x e = omega arith
 there_below (z ∷ zs) (suc i) x e = let h = there_below zs i x e in omega arith
-
-pub none_past : {X : Type 0} (xs : List X) (i : ℕ) → slice_get xs i ≡ None → length xs ≤ i
-none_past [] i e = omega arith
-none_past (z ∷ zs) zero e = absurd (cc)
-none_past (z ∷ zs) (suc i) e = let h = none_past zs i e in omega arith
-
-pub past_none : {X : Type 0} (xs : List X) (i : ℕ) → length xs ≤ i → slice_get xs i ≡ None
-past_none [] i le = refl
-past_none (z ∷ zs) zero le = absurd (omega arith)
-past_none (z ∷ zs) (suc i) le = past_none zs i (omega arith)
 
 -- ---- sums over places
 

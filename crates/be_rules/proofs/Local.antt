@@ -1,16 +1,17 @@
 -- What holds of one sound list with these parts in hand holds of each: an entry whose touched parts are in hand.
-use Rattle.std.proofs.Common.{◌≡◌, ℕ, zero, suc, ◌+◌, ◌*◌, ◌<◌, ◌≤◌, Bool, true, false, List, [], ◌∷◌, ◌++◌, map, length, Option, Some, None, ◌⊎◌, inl, inr, ⊎_elim, refl, sym, ap, ◌∙◌, subst, arith}
+use Rattle.std.proofs.Common.{◌≡◌, ℕ, suc, ◌+◌, ◌*◌, ◌<◌, ◌≤◌, Bool, true, false, List, [], ◌++◌, map, length, Option, Some, None, ◌⊎◌, inl, inr, ⊎_elim, refl, sym, ap, ◌∙◌, subst, arith}
 use Rattle.std.specs.Prelude.{ℤ, pos, negsuc, ◌&&◌, nat_lt, int_le, int_lt, slice_get, option_map, find, if◌then◌else◌}
 use Rattle.std.specs.List.{range_with_len}
-use Rattle.std.proofs.lemmas.List.{length-map}
-use Rattle.std.proofs.lemmas.List.FromFn.{length-range_with_len}
 use Rattle.std.proofs.lemmas.Bool.Decides.{nat_tests}
-use Rattle.std.proofs.lemmas.Option.{same_Some}
+use Rattle.std.proofs.lemmas.Option.{same_Some, slice_get_past}
 use mathlib.Core.Option.{some}
 use lib.ListN.{get_elem?}
+use Rattle.be_facts.proofs.Numbers.{nat_lt_from, index_below}
+use Rattle.be_facts.proofs.Truths.{and_second, and_first}
+use Rattle.be_facts.proofs.Lists.{element}
+use Rattle.be_geom.proofs.Numbered.{number_is}
 use Rattle.be_script.specs.Script.{Declared}
 use Rattle.be_span.specs.declared.Cell.{Cell}
-use Rattle.be_span.specs.Screen.{cell_at}
 use Rattle.be_stack.specs.Owner.{covers, is_on_screen, owner_at}
 use Rattle.be_stack.specs.declared.window.Window.{Window}
 use Rattle.be_views.specs.Trees.{left_top}
@@ -19,12 +20,14 @@ use Rattle.be_machine.specs.State.{State}
 use Rattle.be_machine.specs.Touched.{Part, SamePart, SamePixels, Touches}
 use Rattle.be_machine.specs.Touched as part
 use Rattle.be_machine.specs.Windows.{width_of, owned, corner_at}
-use Rattle.be_machine.proofs.ReadsDirt.{number_is, is_owned}
+use Rattle.be_machine.proofs.ReadsDirt.{is_owned}
+use Rattle.be_machine.proofs.PixelExposed.{cell_if}
 use Rattle.be_rules.specs.Places.{place_of, IsPart}
 use Rattle.be_rules.specs.Slices.{Shown, Slice, desk, input, cell, looper, port, link, pane, desk_in, input_in, app_in, looper_in, buffer_in, port_in, link_in, look_at, shown_of, slice_of, all_parts}
 use Rattle.be_rules.proofs.Cut.{IsWhole, owner_there}
-use Rattle.be_rules.proofs.ListLemmas.{past_none, elem_left, elem_right, elem_range}
+use Rattle.be_rules.proofs.ListLemmas.{elem_left, elem_right, elem_range}
 use Rattle.be_rules.proofs.Looks.{look_own}
+use Rattle.be_rules.proofs.Keepers.{long}
 
 abbrev shown_in : Slice → Option Shown
 shown_in (desk x) = None
@@ -37,48 +40,25 @@ shown_in (pane w p) = Some p
 
 -- ---- a pixel that a window owns is on the screen
 
-element : {X : Type 0} (xs : List X) (i : ℕ) → i < length xs → (x : X) × (slice_get xs i ≡ Some x)
-element [] i lt = absurd (omega arith)
-element (x ∷ xs) zero lt = (x, refl)
-element (x ∷ xs) (suc i) lt = element xs i (omega arith)
-
-both_first : (a b : Bool) → (a && b) ≡ true → a ≡ true
-both_first true b h = refl
-both_first false b h = h
-
-both_second : (a b : Bool) → (a && b) ≡ true → b ≡ true
-both_second true b h = h
-both_second false b h = absurd (cc)
-
 below : (x width : ℕ) → is_on_screen width (pos x) ≡ true → x < width
-below x width e = let lt : nat_lt x width ≡ true = both_second (int_le (pos 0) (pos x)) (int_lt (pos x) (pos width)) e in grind (arith, nat_tests)
+below x width e = let lt : nat_lt x width ≡ true = and_second (int_le (pos 0) (pos x)) (int_lt (pos x) (pos width)) e in grind (arith, nat_tests)
 
 on_by : (b : Bool) (o : Option ℕ) (w : ℕ) → (if b then o else None) ≡ Some w → b ≡ true
 on_by true o w e = refl
 on_by false o w e = absurd (cc)
-
-product_below : (x y width height : ℕ) → x < width → y < height → y * width + x < width * height
-product_below x y width height a b = grind (arith)
-
-at_by : (width : ℕ) (cells : List Cell) (x y : ℕ) (c : Cell) → nat_lt x width ≡ true → slice_get cells (y * width + x) ≡ Some c → cell_at width cells (pos x) (pos y) ≡ Some c
-unfolding cell_at
-at_by width cells x y c inside read = rw inside read
-
-is_below : (x width : ℕ) → x < width → nat_lt x width ≡ true
-is_below x width lt = grind (arith, nat_tests)
 
 module _ (d : Declared) (s : State) (h : IsWhole d s) where
   full_at : (x y : ℤ) (w : ℕ) → owner_in s x y ≡ Some w → (c : Cell) × (pixel_at s x y ≡ Some c)
   unfolding owner_at
   full_at (pos x) (pos y) w e =
       let on : (is_on_screen s.desk.windows.width (pos x) && is_on_screen s.desk.windows.height (pos y)) ≡ true = on_by _ (find (covers s.desk.windows.windows (pos x) (pos y)) s.desk.windows.order) w e in
-      let column : x < s.desk.windows.width = below x s.desk.windows.width (both_first _ _ on) in
-      let row : y < s.desk.windows.height = below y s.desk.windows.height (both_second (is_on_screen s.desk.windows.width (pos x)) _ on) in
+      let column : x < s.desk.windows.width = below x s.desk.windows.width (and_first _ _ on) in
+      let row : y < s.desk.windows.height = below y s.desk.windows.height (and_second (is_on_screen s.desk.windows.width (pos x)) _ on) in
       let long : length s.screen ≡ s.desk.windows.width * s.desk.windows.height = h.parts.screen ∙ (λ i. sym h.parts.width i * sym h.parts.height i) in
-      let c : (c : Cell) × (slice_get s.screen (y * s.desk.windows.width + x) ≡ Some c) = element s.screen (y * s.desk.windows.width + x) (subst (λ n. y * s.desk.windows.width + x < n) (sym long) (product_below x y s.desk.windows.width s.desk.windows.height column row)) in
-      (c.0, at_by s.desk.windows.width s.screen x y c.0 (is_below x s.desk.windows.width column) c.1)
-  full_at (pos x) (negsuc y) w e = let no = on_by _ (find (covers s.desk.windows.windows (pos x) (negsuc y)) s.desk.windows.order) w e in let never : false ≡ true = both_first (int_le (pos 0) (negsuc y)) (int_lt (negsuc y) (pos s.desk.windows.height)) (both_second (is_on_screen s.desk.windows.width (pos x)) (is_on_screen s.desk.windows.height (negsuc y)) no) in absurd (cc)
-  full_at (negsuc x) y w e = let no = on_by _ (find (covers s.desk.windows.windows (negsuc x) y) s.desk.windows.order) w e in let never : false ≡ true = both_first (int_le (pos 0) (negsuc x)) (int_lt (negsuc x) (pos s.desk.windows.width)) (both_first (is_on_screen s.desk.windows.width (negsuc x)) (is_on_screen s.desk.windows.height y) no) in absurd (cc)
+      let c : (c : Cell) × (slice_get s.screen (y * s.desk.windows.width + x) ≡ Some c) = element s.screen (y * s.desk.windows.width + x) (subst (λ n. y * s.desk.windows.width + x < n) (sym long) (index_below x y s.desk.windows.width s.desk.windows.height column row)) in
+      (c.0, cell_if s.desk.windows.width s.screen x y c.0 (nat_lt_from x s.desk.windows.width column) c.1)
+  full_at (pos x) (negsuc y) w e = let no = on_by _ (find (covers s.desk.windows.windows (pos x) (negsuc y)) s.desk.windows.order) w e in let never : false ≡ true = and_first (int_le (pos 0) (negsuc y)) (int_lt (negsuc y) (pos s.desk.windows.height)) (and_second (is_on_screen s.desk.windows.width (pos x)) (is_on_screen s.desk.windows.height (negsuc y)) no) in absurd (cc)
+  full_at (negsuc x) y w e = let no = on_by _ (find (covers s.desk.windows.windows (negsuc x) y) s.desk.windows.order) w e in let never : false ≡ true = and_first (int_le (pos 0) (negsuc x)) (int_lt (negsuc x) (pos s.desk.windows.width)) (and_first (is_on_screen s.desk.windows.width (negsuc x)) (is_on_screen s.desk.windows.height y) no) in absurd (cc)
 
 -- ---- from slices back to parts
 
@@ -123,9 +103,6 @@ apps d = map part.cell (range_with_len 0 (length d.apps))
 row : (ℕ → Part) → Declared → List Part
 row g d = map g (range_with_len 0 (length d.windows))
 
-long : (g : ℕ → Part) (n : ℕ) → length (map g (range_with_len 0 n)) ≡ n
-long g n = length-map (range_with_len 0 n) g ∙ length-range_with_len 0 n
-
 module _ (d : Declared) where
   n : ℕ
   n = length d.windows
@@ -151,7 +128,7 @@ module _ (d : Declared) where
 -- ---- parts that aren't the script's are the same in all states
 
 none_both : {X : Type 0} (xs ys : List X) (n i : ℕ) → length xs ≡ n → length ys ≡ n → n ≤ i → slice_get xs i ≡ slice_get ys i
-none_both xs ys n i a b le = past_none xs i (subst (λ k. k ≤ i) (sym a) le) ∙ sym (past_none ys i (subst (λ k. k ≤ i) (sym b) le))
+none_both xs ys n i a b le = slice_get_past xs i (subst (λ k. k ≤ i) (sym a) le) ∙ sym (slice_get_past ys i (subst (λ k. k ≤ i) (sym b) le))
 
 below_by : (a b : ℕ) (t : Bool) → nat_lt a b ≡ t → (a < b → ⊥) → b ≤ a
 below_by a b true e out = let lt : a < b = grind (arith, nat_tests) in absurd (out lt)

@@ -4,6 +4,9 @@ use Rattle.std.specs.Prelude.{◌==◌, ◌&&◌, nat_lt, drop, slice_get, optio
 use Rattle.std.proofs.lemmas.Bool.Decides.{nat_tests}
 use Rattle.std.proofs.lemmas.List.Quantifiers.{position-Some}
 use Rattle.std.proofs.lemmas.Option.{same_Some}
+use Rattle.be_facts.proofs.Truths.{and_first}
+use Rattle.be_facts.proofs.Numbers.{nat_lt_tells}
+use Rattle.be_facts.proofs.Lists.{all_at}
 use Rattle.be_actor.specs.declared.Instruction.{Instruction}
 use Rattle.be_actor.specs.declared.Instruction.TheVariants.{Note, Post, Send, Reply, Forward, Lock, Unlock, Flush, Sync, Draw}
 use Rattle.be_actor.specs.declared.Place.{Place}
@@ -28,9 +31,7 @@ use Rattle.be_machine.specs.Touched.{Part, desk, cell, looper, port, link, pane,
 use Rattle.be_machine.specs.Update.{owes_notice}
 use Rattle.be_machine.specs.Wants.{Want, asks, flushes, draws_end, ends, notifies, executes, uses, stops, asks_or, end_want, draw_end_want, stage_want, looper_want, want_of}
 use Rattle.be_machine.proofs.Histories.{InRange}
-use Rattle.be_machine.proofs.Lists.{all_get}
 use Rattle.be_machine.proofs.ProgressAfter.{IsSettled}
-use Rattle.be_machine.proofs.ProgressCan.{is_below}
 use Rattle.be_machine.proofs.ProgressCases.{by_outcome}
 use Rattle.be_machine.proofs.ProgressLocks.{Follows, StepKeeps, step_keeps}
 use Rattle.be_machine.proofs.ProgressStands.{AppStands, app_stands, draw_step_is}
@@ -60,15 +61,11 @@ goes_to (Draw c) = None
 abbrev IsKnown : Declared → Instruction → Type 0
 IsKnown d i = (v : ℕ) → goes_to i ≡ Some v → v < length d.windows
 
-both_first : (a b : Bool) → (a && b) ≡ true → a ≡ true
-both_first true b h = refl
-both_first false b h = h
-
 below : (d : Declared) (v : ℕ) (b : Bool) → (nat_lt v (length d.windows) && b) ≡ true → (w : ℕ) → Some v ≡ Some w → w < length d.windows
-below d v b h w e = subst (λ n. n < length d.windows) (same_Some v w e) (is_below v (length d.windows) (both_first (nat_lt v (length d.windows)) b h))
+below d v b h w e = subst (λ n. n < length d.windows) (same_Some v w e) (nat_lt_tells v (length d.windows) (and_first (nat_lt v (length d.windows)) b h))
 
 within : (d : Declared) (v : ℕ) (a b : Bool) → ((nat_lt v (length d.windows) && a) && b) ≡ true → (w : ℕ) → Some v ≡ Some w → w < length d.windows
-within d v a b h = below d v a (both_first (nat_lt v (length d.windows) && a) b h)
+within d v a b h = below d v a (and_first (nat_lt v (length d.windows) && a) b h)
 
 nowhere : (d : Declared) (w : ℕ) → None ≡ Some w → w < length d.windows
 nowhere d w e = absurd (cc)
@@ -82,7 +79,7 @@ app_known d (Some w) (Send v target draft) h = absurd (cc)
 app_known d lock (Reply draft) h = nowhere d
 app_known d None (Forward v target) h = absurd (cc)
 app_known d (Some w) (Forward v target) h = absurd (cc)
-app_known d None (Lock v) h = λ w e. subst (λ n. n < length d.windows) (same_Some v w e) (is_below v (length d.windows) h)
+app_known d None (Lock v) h = λ w e. subst (λ n. n < length d.windows) (same_Some v w e) (nat_lt_tells v (length d.windows) h)
 app_known d (Some w) (Lock v) h = absurd (cc)
 app_known d lock Unlock h = nowhere d
 app_known d lock Flush h = nowhere d
@@ -187,11 +184,11 @@ module _ (d : Declared) (s : State) (h : IsSettled d s) (limits : IsWithinLimits
       unfolding wish_of
       stage_named hand (in_body place) =
           let program = letter_program d w hand in
-          steps_named hand program place (end_want s w) (slice_get program place.step) refl (λ i next. all_get (is_body_step d w) program place.step i (body_steps d w hand.letter.body.what hand.route limits) next) end_named
+          steps_named hand program place (end_want s w) (slice_get program place.step) refl (λ i next. all_at (is_body_step d w) program place.step i (body_steps d w hand.letter.body.what hand.route limits) next) end_named
       stage_named hand beginning = one (looper w) lt (link w ∷ pane w ∷ []) (one (link w) lt (pane w ∷ []) (one (pane w) lt [] none))
       stage_named hand (in_update views place) =
           let program = update_program d w views in
-          steps_named hand program place (draw_end_want s w) (slice_get program place.step) refl (λ i next. draw_step_is d w i (all_get (is_draw_step d w) program place.step i (update_steps d w views limits) next)) draw_end_named
+          steps_named hand program place (draw_end_want s w) (slice_get program place.step) refl (λ i next. draw_step_is d w i (all_at (is_draw_step d w) program place.step i (update_steps d w views limits) next)) draw_end_named
       stage_named hand ending = end_named
 
       looper_named : (l : Looper) → AreParts (looper_want d s w l)
@@ -270,5 +267,5 @@ parts_named d s h limits (runner (by.looper w)) want lt wanted p =
 parts_named d s h limits (twin w) want lt wanted p =
     subst (λ z. AreParts d s h limits (λ w n. waits_by d s h w n (slice_get s.loopers w) refl) p z) (same_Some _ want wanted) (twin_named d s h limits (λ w n. waits_by d s h w n (slice_get s.loopers w) refl) p w lt (owes_notice s w))
 parts_named d s h limits input want lt wanted p =
-    some_map uses (slice_get d.input s.events) want (λ z. IsAmong p (parts_by (seen_in s) z) → IsPart d p) wanted (λ it is. event_named d s h.parts p it (all_get (is_event d) d.input s.events it limits.input is))
+    some_map uses (slice_get d.input s.events) want (λ z. IsAmong p (parts_by (seen_in s) z) → IsPart d p) wanted (λ it is. event_named d s h.parts p it (all_at (is_event d) d.input s.events it limits.input is))
 parts_named d s h limits closing want lt wanted p = subst (λ z. IsAmong p (parts_by (seen_in s) z) → IsPart d p) (same_Some stops want wanted) (λ k. absurd k)

@@ -2,6 +2,7 @@
 use Rattle.std.proofs.Common.{◌≡◌, ℕ, zero, suc, ◌<◌, ℤ, pos, negsuc, Bool, true, false, Option, Some, None, ◌⊎◌, inl, inr, refl, sym, ap, ◌∙◌, arith}
 use Rattle.std.specs.Prelude.{◌&&◌, int_le, int_lt}
 use Rattle.std.proofs.lemmas.Bool.Decides.{nat_tests}
+use Rattle.be_facts.proofs.Truths.{and_second, and_first}
 use Rattle.be_desk.specs.Affected.{OwnsTheSame}
 use Rattle.be_geom.specs.Numbers.{is_number}
 use Rattle.be_stack.specs.Owner.{owner_at, is_on_screen}
@@ -34,16 +35,8 @@ decide true false = inl not_both
 decide false true = inl (λ e. not_both (sym e))
 decide false false = inr refl
 
-both_first : (a b : Bool) → (a && b) ≡ true → a ≡ true
-both_first true b h = refl
-both_first false b h = h
-
-both_second : (a b : Bool) → (a && b) ≡ true → b ≡ true
-both_second true b h = h
-both_second false b h = absurd (cc)
-
 inside : (x size : ℕ) → is_on_screen size (pos x) ≡ true → x < size
-inside x size on = let lt : int_lt (pos x) (pos size) ≡ true = both_second (int_le (pos 0) (pos x)) (int_lt (pos x) (pos size)) on in grind (arith, nat_tests)
+inside x size on = let lt : int_lt (pos x) (pos size) ≡ true = and_second (int_le (pos 0) (pos x)) (int_lt (pos x) (pos size)) on in grind (arith, nat_tests)
 
 off : (windows : Windows) (x y : ℤ) → (is_on_screen windows.width x && is_on_screen windows.height y) ≡ false → owner_at windows x y ≡ None
 unfolding owner_at
@@ -73,9 +66,9 @@ module _ (before after : Windows) (width : after.width ≡ before.width) (height
 
   all_stay : ((y : ℕ) → y < before.height → RowStays y) → (x y : ℤ) (b : Bool) → on x y ≡ b → Stays before after u x y
   all_stay rows x y false e = off_stays x y e
-  all_stay rows (pos x) (pos y) true e = rows y (inside y before.height (both_second (is_on_screen before.width (pos x)) (is_on_screen before.height (pos y)) e)) x (inside x before.width (both_first (is_on_screen before.width (pos x)) (is_on_screen before.height (pos y)) e))
-  all_stay rows (pos x) (negsuc y) true e = let never : false ≡ true = both_first (int_le (pos 0) (negsuc y)) (int_lt (negsuc y) (pos before.height)) (both_second (is_on_screen before.width (pos x)) (is_on_screen before.height (negsuc y)) e) in absurd (cc)
-  all_stay rows (negsuc x) y true e = let never : false ≡ true = both_first (int_le (pos 0) (negsuc x)) (int_lt (negsuc x) (pos before.width)) (both_first (is_on_screen before.width (negsuc x)) (is_on_screen before.height y) e) in absurd (cc)
+  all_stay rows (pos x) (pos y) true e = rows y (inside y before.height (and_second (is_on_screen before.width (pos x)) (is_on_screen before.height (pos y)) e)) x (inside x before.width (and_first (is_on_screen before.width (pos x)) (is_on_screen before.height (pos y)) e))
+  all_stay rows (pos x) (negsuc y) true e = let never : false ≡ true = and_first (int_le (pos 0) (negsuc y)) (int_lt (negsuc y) (pos before.height)) (and_second (is_on_screen before.width (pos x)) (is_on_screen before.height (negsuc y)) e) in absurd (cc)
+  all_stay rows (negsuc x) y true e = let never : false ≡ true = and_first (int_le (pos 0) (negsuc x)) (int_lt (negsuc x) (pos before.width)) (and_first (is_on_screen before.width (negsuc x)) (is_on_screen before.height y) e) in absurd (cc)
 
   found : ((y : ℕ) × (y < before.height) × InRow y) ⊎ ((y : ℕ) → y < before.height → RowStays y) → (OwnsTheSame before after u → ⊥) → (x : ℤ) × (y : ℤ) × (Stays before after u x y → ⊥)
   found (inl at) other = (pos at.2.0, pos at.0, at.2.2)

@@ -6,6 +6,7 @@ use Rattle.std.specs.Prelude.{slice_get, filter_map}
 use Rattle.std.specs.List.{range_with_len, cons_option}
 use Rattle.std.proofs.lemmas.List.Elements.{filter_map-append}
 use Rattle.std.proofs.Math.ListN.{get_or}
+use Rattle.be_facts.proofs.Lists.{range_more}
 use Rattle.be_serial.specs.Scheduled.{pushed_if, ready_below}
 use Rattle.be_turns.specs.Turning.{is_some}
 
@@ -48,12 +49,6 @@ module _ {E : Type 0} (f : ℕ → Option E) where
   made_by [] [] k all below = absurd (omega arith)
   made_by [] (e ∷ es) k all below = absurd all
   made_by (a ∷ ns) [] k all below = absurd all
-
-range_more : (a n : ℕ) → range_with_len a (suc n) ≡ range_with_len a n ++ (a + n) ∷ []
-range_more a zero = let same : a ≡ a + 0 = omega arith in ap (λ j. j ∷ []) same
-range_more a (suc n) =
-    let same : a + 1 + n ≡ a + suc n = omega arith in
-    ap (λ l. a ∷ l) (range_more (a + 1) n ∙ ap (λ j. range_with_len (a + 1) n ++ j ∷ []) same)
 
 module _ {M E : Type 0} (legal : List M → ℕ → Option E) (all : List M) where
   -- those that are listed make just the entries that there are

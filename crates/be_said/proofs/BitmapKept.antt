@@ -6,6 +6,7 @@ use Rattle.std.proofs.lemmas.Option.{slice_get_within, slice_get-get_or, get_or_
 use Rattle.std.proofs.Math.ListN.{get_or-append}
 use Rattle.std.proofs.Math.Seq.{get_or-append_seam}
 use Rattle.std.specs.Prelude.{nat_lt, slice_get}
+use Rattle.be_facts.proofs.Lists.{map_length}
 use Rattle.be_bitmap.specs.declared.fault.BitmapFault.{BitmapFault}
 use Rattle.be_bitmap.specs.declared.fault.BitmapFault.TheVariants.{TooLarge, WrongLength}
 use Rattle.be_bitmap.specs.Sides.{IsRefused, is_too_large}
@@ -24,7 +25,6 @@ use Rattle.be_said.specs.SoFar.{SoFar, Begun, nothing, bitmap, bitmap_names, kno
 use Rattle.be_said.proofs.DueLemmas.{row-done}
 use Rattle.be_said.proofs.EventKept.{begun-kept}
 use Rattle.be_said.proofs.EverywhereLemmas.{none_before, there_before}
-use Rattle.be_said.proofs.ListLemmas.{count_as}
 use Rattle.be_said.proofs.ViewLemmas.{no_name_fault}
 
 -- ---- one that is begun
@@ -122,7 +122,7 @@ pub bitmap_name_fits : (said : SoFar) (insides : List Inside) (name : List ℕ) 
 bitmap_name_fits said insides name kept few new w inside there =
     let names : inside.names.bitmaps ≡ bitmap_names said = ap (λ (k : Known). k.bitmaps) (kept.each w inside there).names in
     ap (λ (ns : List (List ℕ)). name_fault 64 ns name) names
-    ∙ no_name_fault 64 (bitmap_names said) name new (omega (arith, few, count_as (λ (line : BitmapLine). line.name) said.bitmaps))
+    ∙ no_name_fault 64 (bitmap_names said) name new (omega (arith, few, map_length (λ (line : BitmapLine). line.name) said.bitmaps))
 
 pub bitmap-ended : (said : SoFar) (insides : List Inside) (line : BitmapLine) → AreInside said insides → said.begun ≡ nothing → length said.bitmaps < 64 →
     IsNew (bitmap_names said) line.name → AreInside (record said { bitmaps = said.bitmaps ++ line ∷ [] }) (map (with_bitmap line.name) insides)
@@ -131,7 +131,7 @@ bitmap-ended said insides line kept free few new =
     let next : SoFar = record said { bitmaps = said.bitmaps ++ line ∷ [] } in
     let name_of : BitmapLine → List ℕ = λ other. other.name in
     let more : bitmap_names next ≡ bitmap_names said ++ line.name ∷ [] = map-append name_of said.bitmaps (line ∷ []) in
-    let same : length (map (with_bitmap line.name) insides) ≡ length insides = count_as (with_bitmap line.name) insides in
+    let same : length (map (with_bitmap line.name) insides) ≡ length insides = map_length (with_bitmap line.name) insides in
     let grown : (w : ℕ) (old : Inside) → IsInside said w old → IsInside next w (with_bitmap line.name old) = λ w old is. record {
       names =
           ap (λ (k : Known). record k { bitmaps = k.bitmaps ++ line.name ∷ [] }) is.names

@@ -4,6 +4,9 @@ use Rattle.std.specs.Prelude.{nat_lt, nat_le, slice_index_or}
 use Rattle.std.specs.List.{list_any}
 use Rattle.std.proofs.lemmas.Bool.{eq-eqb, le-leb, leb-false, leb-true, lt-ltb, ltb-true, ltb-false}
 use Rattle.std.proofs.lemmas.List.{length-map}
+use Rattle.std.proofs.lemmas.Bool.{and_from}
+use Rattle.be_facts.proofs.Truths.{and_first, or_false_first, or_false_second}
+use Rattle.be_facts.proofs.Lists.{map_push, all_weaker, length_push}
 use Rattle.be_actor.specs.declared.Instruction.{Instruction}
 use Rattle.be_bitmap.specs.Pictures.{Picture}
 use Rattle.be_color.specs.declared.colors.Color.{Color}
@@ -13,8 +16,8 @@ use Rattle.be_handler.specs.declared.Rule.TheVariants.{Skip, Pass, Redirect}
 use Rattle.be_handler.specs.Routes.{same_target}
 use Rattle.be_message.specs.declared.target.Target.{Target}
 use Rattle.be_message.specs.declared.target.Target.TheVariants as target
-use Rattle.be_said.proofs.AppendLemmas.{all-append, all-weaker, length-last, or-left, or-right}
-use Rattle.be_said.proofs.DeclaredNames.{map-last, names-last}
+use Rattle.be_said.proofs.AppendLemmas.{all-append}
+use Rattle.be_said.proofs.DeclaredNames.{names-last}
 use Rattle.be_said.proofs.GrowthLemmas.{Grows, app_steps-grow, body_step-grows, draw_step-grows, handler-grows, window-grows}
 use Rattle.be_said.proofs.KeptLemmas.{grows-size, kept-app, kept-filter, kept-input, kept-picture, kept-size}
 use Rattle.be_said.proofs.KeptWindows.{kept-handler, kept-view, kept-window}
@@ -29,8 +32,6 @@ use Rattle.be_script.specs.Names.{are_names}
 use Rattle.be_script.specs.Programs.{is_app_step, is_body_step, is_draw_step, is_handler_of, lock_behind}
 use Rattle.be_script.specs.Script.{Declared}
 use Rattle.be_script.specs.Windows.{body_lines, view_lines}
-use Rattle.be_script.proofs.RoutableLemmas.{and-both}
-use Rattle.be_script.proofs.WorkNumbers.{and-left}
 
 -- ---- deeds that may be done
 
@@ -96,7 +97,7 @@ begun_size d e g (handler_body w t what steps) pictures bodies draws apps h = re
   few = subst (λ lines. length (filter (λ line. line.window == w) lines) < 512) (sym bodies) h.few;
   new = ap (list_any (λ line. line.window == w && same_target line.target t && line.what == what)) bodies ∙ h.new;
   short = h.short;
-  each = all-weaker (is_body_step d w) (is_body_step e w) (body_step-grows d e g w) steps h.each;
+  each = all_weaker (is_body_step d w) (is_body_step e w) (body_step-grows d e g w) steps h.each;
 }
 begun_size d e g (draw_body w v steps) pictures bodies draws apps h =
     let more = g.views w in
@@ -105,7 +106,7 @@ begun_size d e g (draw_body w v steps) pictures bodies draws apps h =
       view = omega (arith, h.view);
       new = ap (list_any (λ line. line.window == w && line.view == v)) draws ∙ h.new;
       short = h.short;
-      each = all-weaker (is_draw_step d w) (is_draw_step e w) (draw_step-grows d e g w) steps h.each;
+      each = all_weaker (is_draw_step d w) (is_draw_step e w) (draw_step-grows d e g w) steps h.each;
     }
 begun_size d e g (program name lock steps) pictures bodies draws apps h = record {
   few = subst (λ lines. length lines < 16) (sym apps) h.few;
@@ -140,8 +141,8 @@ bitmap_begins said name width height k many w1 w2 h1 h2 =
       declared = k.declared;
       begun = record {
         few = omega arith;
-        wide = and-both (nat_le 1 width) (nat_le width 256) (le-leb 1 width w1) (le-leb width 256 w2);
-        high = and-both (nat_le 1 height) (nat_le height 256) (le-leb 1 height h1) (le-leb height 256 h2);
+        wide = and_from (nat_le 1 width) (nat_le width 256) (le-leb 1 width w1) (le-leb width 256 w2);
+        high = and_from (nat_le 1 height) (nat_le height 256) (le-leb 1 height h1) (le-leb height 256 h2);
         rows = height;
         some = h1;
         rest = omega arith;
@@ -162,7 +163,7 @@ row_ends zero width some h = absurd (h refl)
 row_ends (suc left) width some h = omega arith
 
 side_some : (side : ℕ) → is_side side ≡ true → 1 ≤ side
-side_some side h = leb-true 1 side (and-left (nat_le 1 side) (nat_le side 256) h)
+side_some side h = leb-true 1 side (and_first (nat_le 1 side) (nat_le side 256) h)
 
 -- what is said behind a row
 row_adds : (said : SoFar) (name : List ℕ) (width height : ℕ) (colors row : List Color) → Keeps (record said { begun = bitmap name width height colors }) → length row ≡ width →
@@ -202,10 +203,10 @@ row_adds said name width height colors row k fits false above =
     let by = left.1 in
     let count : length (colors ++ row) ≡ width * height = omega arith in
     let here : is_picture p ≡ true =
-    and-both (is_side width && is_side height) (length (colors ++ row) == width * height) (and-both (is_side width) (is_side height) old.wide old.high) (eq-eqb (length (colors ++ row)) (width * height) count) in
+    and_from (is_side width && is_side height) (length (colors ++ row) == width * height) (and_from (is_side width) (is_side height) old.wide old.high) (eq-eqb (length (colors ++ row)) (width * height) count) in
     record {
       screen = k.screen;
-      declared = subst (λ (pictures : List Picture). AreKept (record d { pictures = pictures })) (sym (map-last (λ line. line.bitmap) said.bitmaps (record { name = name; bitmap = p })))
+      declared = subst (λ (pictures : List Picture). AreKept (record d { pictures = pictures })) (sym (map_push (λ line. line.bitmap) said.bitmaps (record { name = name; bitmap = p })))
           (kept-picture d p old.few here k.declared);
       begun = tt;
     }
@@ -225,7 +226,7 @@ step_in said nothing step k has few fits = absurd has
 step_in said (bitmap name width height colors) step k has few fits = absurd has
 step_in said (handler_body w t what steps) step k has few fits =
     let old = k.begun in
-    let more = length-last steps step in
+    let more = length_push steps step in
     record {
       screen = k.screen;
       declared = k.declared;
@@ -242,7 +243,7 @@ step_in said (handler_body w t what steps) step k has few fits =
     }
 step_in said (draw_body w v steps) step k has few fits =
     let old = k.begun in
-    let more = length-last steps step in
+    let more = length_push steps step in
     record {
       screen = k.screen;
       declared = k.declared;
@@ -257,7 +258,7 @@ step_in said (draw_body w v steps) step k has few fits =
 step_in said (program name lock steps) step k has few fits =
     let old = k.begun in
     let d = declared_so_far said in
-    let more = length-last steps step in
+    let more = length_push steps step in
     record {
       screen = k.screen;
       declared = k.declared;
@@ -271,7 +272,7 @@ step_in said (program name lock steps) step k has few fits =
     }
 
 few_steps : (said : SoFar) (step : Instruction) → is_too_many said (adds_step step) ≡ false → length (steps_begun said.begun) < 1024
-few_steps said step many = leb-false 1024 (length (steps_begun said.begun)) (or-left (nat_le 1024 (length (steps_begun said.begun))) _ many)
+few_steps said step many = leb-false 1024 (length (steps_begun said.begun)) (or_false_first (nat_le 1024 (length (steps_begun said.begun))) _ many)
 
 -- ---- the end of what was begun
 
@@ -315,8 +316,8 @@ keeps_then said (adds_view line) k f i taken many =
     record {
       screen = k.screen;
       declared =
-          kept-view d line (window-there said line.window f.1) (leb-false 31 (length (view_lines d line.window)) (or-left full deep many))
-          (view_there said line.window line.parent f.3) (or-right full deep many) f.2 k.declared;
+          kept-view d line (window-there said line.window f.1) (leb-false 31 (length (view_lines d line.window)) (or_false_first full deep many))
+          (view_there said line.window line.parent f.3) (or_false_second full deep many) f.2 k.declared;
       begun = nothing_begun (declared_so_far (record said { views = said.views ++ line ∷ [] })) said.begun f.0;
     }
 keeps_then said (adds_handler line) k f i taken many =

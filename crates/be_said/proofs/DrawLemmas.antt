@@ -2,6 +2,8 @@
 use Rattle.std.proofs.Common.{◌≡◌, ℕ, ◌+◌, ◌<◌, ◌==◌, ◌&&◌, ◌||◌, Bool, true, false, List, length, get_or, Some, Ok, Err, refl, ap, sym, ◌∙◌, arith}
 use Rattle.std.proofs.lemmas.List.FromFn.{get_or-map-range_with_len, length-map-range_with_len}
 use Rattle.std.specs.List.{list_any}
+use Rattle.be_facts.proofs.Truths.{or_false}
+use Rattle.be_facts.proofs.Lists.{map_length}
 use Rattle.be_command.specs.declared.fault.Reason.TheVariants.{NameTaken}
 use Rattle.be_script.specs.declared.DrawLine.{DrawLine}
 use Rattle.be_script.specs.declared.ViewLine.{ViewLine}
@@ -11,12 +13,11 @@ use Rattle.be_said.specs.Inside.{IsInside, is_drawn, is_drawn_by}
 use Rattle.be_said.specs.Judging.{done, said_then}
 use Rattle.be_said.specs.SoFar.{SoFar, Begun, nothing, view_names, views_in}
 use Rattle.be_said.proofs.DueLemmas.{may-be-done, taken-before}
-use Rattle.be_said.proofs.ListLemmas.{count_as}
 use Rattle.be_said.proofs.WindowKept.{depth_count}
 
 -- each view has a name, the root too
 pub view_count : (said : SoFar) (w : ℕ) → length (view_names said (Some w)) ≡ length (views_in said w) + 1
-view_count said w = omega (arith, count_as (λ (line : ViewLine). line.name) (views_in said w))
+view_count said w = omega (arith, map_length (λ (line : ViewLine). line.name) (views_in said w))
 
 -- and a depth
 pub depths_count : (said : SoFar) (w : ℕ) (here : Inside) → IsInside said w here → length here.depths.items ≡ length (views_in said w) + 1
@@ -26,10 +27,6 @@ depths_count said w here is = ap length is.depths ∙ depth_count (views_in said
 pub draw_count : (said : SoFar) (w : ℕ) (here : Inside) → IsInside said w here → length here.draws.items ≡ length (views_in said w) + 1
 draw_count said w here is =
     ap length is.draws ∙ length-map-range_with_len (is_drawn said w) 0 (length here.depths.items) ∙ depths_count said w here is
-
-or_false : (b : Bool) → (b || false) ≡ b
-or_false true = refl
-or_false false = refl
 
 draw_line : (said : SoFar) (w v : ℕ) → said.begun ≡ nothing →
     is_drawn said w v ≡ list_any (λ (line : DrawLine). line.window == w && line.view == v) said.draws

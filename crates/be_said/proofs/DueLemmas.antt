@@ -2,6 +2,7 @@
 use Rattle.std.proofs.Common.{◌≡◌, ℕ, ◌<◌, ◌≤◌, Bool, true, false, cond, ◌||◌, List, length, Result, Ok, Err, refl, ap, ◌∙◌}
 use Rattle.std.proofs.lemmas.Bool.{le-leb, lt-leb}
 use Rattle.std.specs.Prelude.{nat_le}
+use Rattle.be_facts.proofs.Truths.{or_true}
 use Rattle.be_actor.specs.declared.Instruction.{Instruction}
 use Rattle.be_color.specs.declared.colors.Color.{Color}
 use Rattle.be_command.specs.declared.fault.Reason.{Reason}
@@ -72,10 +73,6 @@ pub step-many : (said : SoFar) (step : Instruction) → 1024 ≤ length (steps_b
 step-many said step many =
     let either : Bool → Bool = λ b. b || is_long_step step in
     too-many said (adds_step step) refl (ap either (le-leb 1024 (length (steps_begun said.begun)) many))
-
-or_true : (b : Bool) → (b || true) ≡ true
-or_true true = refl
-or_true false = refl
 
 pub step-long : (said : SoFar) (step : Instruction) → is_long_step step ≡ true → done said (adds_step step) ≡ Err TooMany
 step-long said step long =

@@ -5,12 +5,13 @@ use Rattle.std.proofs.lemmas.List.{take_all, take-append-le}
 use Rattle.std.proofs.lemmas.Option.{same_Some, slice_get-get_or}
 use Rattle.std.specs.List.{range_with_len}
 use Rattle.std.specs.Prelude.{slice_get}
+use Rattle.be_facts.proofs.Lists.{set_same}
 use Rattle.be_script.specs.Windows.{chain_of}
 use Rattle.be_said.specs.declared.inside.Inside.{Inside}
 use Rattle.be_said.specs.Inside.{IsInside, AreInside, is_drawn, with_begun}
 use Rattle.be_said.specs.Judging.{depths_of}
 use Rattle.be_said.specs.SoFar.{SoFar, declared_in, known_in, plain_names, views_in}
-use Rattle.be_said.proofs.ListLemmas.{get_set_same, get_set_other, map_same, none_of_length}
+use Rattle.be_said.proofs.ListLemmas.{get_set_other, map_same, none_of_length}
 
 -- a window of which nothing changed
 pub inside_as : (old new : SoFar) (w : ℕ) (inside : Inside) → IsInside old w inside →
@@ -35,7 +36,7 @@ each_set old new insides w here below kept made others u inside there =
     elim (cases_eq u w) [
       | inl at ↦
           let at_w : slice_get (set insides w here) w ≡ Some inside = subst (λ (k : ℕ). slice_get (set insides w here) k ≡ Some inside) at there in
-          let is : here ≡ inside = same_Some here inside (sym (get_set_same insides w here below) ∙ at_w) in
+          let is : here ≡ inside = same_Some here inside (sym (set_same insides w here below) ∙ at_w) in
           subst (λ (k : ℕ). IsInside new k inside) (sym at) (subst (λ (i : Inside). IsInside new w i) is made)
       | inr apart ↦
           others u inside (ne_eqb w u (λ at. apart (sym at))) (kept u inside (get_set_other insides w u here inside apart there))

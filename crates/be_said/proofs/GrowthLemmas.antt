@@ -1,9 +1,11 @@
 -- What names what is declared still does where more is declared.
-use Rattle.std.proofs.Common.{◌≡◌, ℕ, ◌+◌, ◌<◌, ◌≤◌, ◌==◌, ◌-ℤ◌, pos, ℤ, Bool, true, false, not, ◌&&◌, List, [], ◌∷◌, length, filter, Option, Some, None, refl, arith, ltb-true}
+use Rattle.std.proofs.Common.{◌≡◌, ℕ, ◌+◌, ◌<◌, ◌≤◌, ◌==◌, ◌-ℤ◌, pos, ℤ, true, false, not, ◌&&◌, List, [], ◌∷◌, length, filter, Option, Some, None, refl, arith, ltb-true}
 use Rattle.std.specs.Prelude.{nat_lt}
 use Rattle.std.specs.List.{list_all}
 use Rattle.std.proofs.lemmas.Bool.{lt-ltb}
 use Rattle.std.proofs.lemmas.Int.{ints}
+use Rattle.be_facts.proofs.Truths.{and_map}
+use Rattle.be_facts.proofs.Lists.{all_weaker}
 use Rattle.be_actor.specs.declared.Instruction.{Instruction}
 use Rattle.be_actor.specs.declared.Instruction.TheVariants.{Note, Post, Send, Reply, Forward, Lock, Unlock, Flush, Sync, Draw}
 use Rattle.be_actor.specs.Limits.{is_draft, is_reserved, is_what}
@@ -19,7 +21,6 @@ use Rattle.be_handler.specs.declared.Rule.TheVariants.{Skip, Pass, Redirect}
 use Rattle.be_handler.specs.Routes.{same_target}
 use Rattle.be_message.specs.declared.target.Target.{Target}
 use Rattle.be_message.specs.declared.target.Target.TheVariants as target
-use Rattle.be_said.proofs.AppendLemmas.{all-weaker}
 use Rattle.be_said.specs.Keeps.{are_app_steps}
 use Rattle.be_script.specs.declared.BodyLine.{BodyLine}
 use Rattle.be_script.specs.declared.DrawLine.{DrawLine}
@@ -31,13 +32,8 @@ use Rattle.be_script.specs.Limits.{are_plain_from, is_at_most, is_body_line, is_
 use Rattle.be_script.specs.Programs.{is_address, is_app_program, is_app_step, is_body_program, is_body_step, is_command_for, is_draw_program, is_draw_step, is_free_step, is_handler_of, is_locked_step, is_rest_of_app, is_short, lock_behind, plain_count, view_count}
 use Rattle.be_script.specs.Script.{Declared}
 use Rattle.be_script.specs.Windows.{body_lines}
-use Rattle.be_script.proofs.RoutableLemmas.{and-both}
-use Rattle.be_script.proofs.WorkNumbers.{and-left, and-right}
 
 -- ---- tests
-
-pub and-map : (a b c e : Bool) → (a ≡ true → c ≡ true) → (b ≡ true → e ≡ true) → (a && b) ≡ true → (c && e) ≡ true
-and-map a b c e f g h = and-both c e (f (and-left a b h)) (g (and-right a b h))
 
 pub lt-more : (k m n : ℕ) → m ≤ n → nat_lt k m ≡ true → nat_lt k n ≡ true
 lt-more k m n more h = let below : k < m = ltb-true k m h in lt-ltb k n (omega arith)
@@ -64,7 +60,7 @@ module _ (d e : Declared) (g : Grows d e) where
 
   address-grows : (w : ℕ) (t : Target) → is_address d w t ≡ true → is_address e w t ≡ true
   address-grows w t h =
-      and-map (is_window d w) (is_handler_of d w t) (is_window e w) (is_handler_of e w t) (window-grows w) (handler-grows w t) h
+      and_map (is_window d w) (is_handler_of d w t) (is_window e w) (is_handler_of e w t) (window-grows w) (handler-grows w t) h
 
 -- ---- commands
 
@@ -101,7 +97,7 @@ change-grows w v x y p q Close h = refl
 
 effect-grows : (w v b x y c : ℕ) → w ≤ x → v ≤ y → b ≤ c → (f : Effect) → effect_names w v b f ≡ true → effect_names x y c f ≡ true
 effect-grows w v b x y c p q r (at_view u deed) h =
-    and-map (nat_lt u v) (deed_names b deed) (nat_lt u y) (deed_names c deed) (lt-more u v y q) (deed-grows b c r deed) h
+    and_map (nat_lt u v) (deed_names b deed) (nat_lt u y) (deed_names c deed) (lt-more u v y q) (deed-grows b c r deed) h
 effect-grows w v b x y c p q r (changes change) h = change-grows w v x y p q change h
 effect-grows w v b x y c p q r ends_update h = refl
 
@@ -114,7 +110,7 @@ module _ (d e : Declared) (g : Grows d e) where
   command-grows w c h =
       let old = names_what_is (length d.windows) (view_count d w) (length d.pictures) c in
       let new = names_what_is (length e.windows) (view_count e w) (length e.pictures) c in
-      and-map (is_command c) old (is_command c) new (λ x. x)
+      and_map (is_command c) old (is_command c) new (λ x. x)
       (names-grow (length d.windows) (view_count d w) (length d.pictures) (length e.windows) (view_count e w) (length e.pictures) g.windows (g.views w) g.pictures c) h
 
   -- ---- instructions
@@ -122,7 +118,7 @@ module _ (d e : Declared) (g : Grows d e) where
   pub body_step-grows : (w : ℕ) (step : Instruction) → is_body_step d w step ≡ true → is_body_step e w step ≡ true
   body_step-grows w (Note word) h = h
   body_step-grows w (Post v t draft) h =
-      and-map (is_address d v t) (is_draft true draft) (is_address e v t) (is_draft true draft) (address-grows d e g v t) (λ x. x) h
+      and_map (is_address d v t) (is_draft true draft) (is_address e v t) (is_draft true draft) (address-grows d e g v t) (λ x. x) h
   body_step-grows w (Send v t draft) h = h
   body_step-grows w (Reply draft) h = h
   body_step-grows w (Forward v t) h = address-grows d e g v t h
@@ -143,14 +139,14 @@ module _ (d e : Declared) (g : Grows d e) where
   draw_step-grows w Flush h = h
   draw_step-grows w Sync h = h
   draw_step-grows w (Draw c) h =
-      and-map (is_command_for d w c) (is_drawing c) (is_command_for e w c) (is_drawing c) (command-grows w c) (λ x. x) h
+      and_map (is_command_for d w c) (is_drawing c) (is_command_for e w c) (is_drawing c) (command-grows w c) (λ x. x) h
 
   free_step-grows : (step : Instruction) → is_free_step d step ≡ true → is_free_step e step ≡ true
   free_step-grows (Note word) h = h
   free_step-grows (Post v t draft) h =
-      and-map (is_address d v t) (is_draft false draft) (is_address e v t) (is_draft false draft) (address-grows d e g v t) (λ x. x) h
+      and_map (is_address d v t) (is_draft false draft) (is_address e v t) (is_draft false draft) (address-grows d e g v t) (λ x. x) h
   free_step-grows (Send v t draft) h =
-      and-map (is_address d v t) (is_draft false draft) (is_address e v t) (is_draft false draft) (address-grows d e g v t) (λ x. x) h
+      and_map (is_address d v t) (is_draft false draft) (is_address e v t) (is_draft false draft) (address-grows d e g v t) (λ x. x) h
   free_step-grows (Reply draft) h = h
   free_step-grows (Forward v t) h = h
   free_step-grows (Lock v) h = window-grows d e g v h
@@ -162,7 +158,7 @@ module _ (d e : Declared) (g : Grows d e) where
   locked_step-grows : (w : ℕ) (step : Instruction) → is_locked_step d w step ≡ true → is_locked_step e w step ≡ true
   locked_step-grows w (Note word) h = h
   locked_step-grows w (Post v t draft) h =
-      and-map (is_address d v t) (is_draft false draft) (is_address e v t) (is_draft false draft) (address-grows d e g v t) (λ x. x) h
+      and_map (is_address d v t) (is_draft false draft) (is_address e v t) (is_draft false draft) (address-grows d e g v t) (λ x. x) h
   locked_step-grows w (Send v t draft) h = h
   locked_step-grows w (Reply draft) h = h
   locked_step-grows w (Forward v t) h = h
@@ -181,35 +177,35 @@ module _ (d e : Declared) (g : Grows d e) where
   pub app_steps-grow : (lock : Option ℕ) (steps : List Instruction) → are_app_steps d lock steps ≡ true → are_app_steps e lock steps ≡ true
   app_steps-grow lock [] h = refl
   app_steps-grow lock (step ∷ rest) h =
-      and-map (is_app_step d lock step) (are_app_steps d (lock_behind lock step) rest) (is_app_step e lock step) (are_app_steps e (lock_behind lock step) rest)
+      and_map (is_app_step d lock step) (are_app_steps d (lock_behind lock step) rest) (is_app_step e lock step) (are_app_steps e (lock_behind lock step) rest)
       (app_step-grows lock step) (app_steps-grow (lock_behind lock step) rest) h
 
   rest-grows : (lock : Option ℕ) (steps : List Instruction) → is_rest_of_app d lock steps ≡ true → is_rest_of_app e lock steps ≡ true
   rest-grows None [] h = refl
   rest-grows (Some w) [] h = h
   rest-grows None (step ∷ rest) h =
-      and-map (is_app_step d None step) (is_rest_of_app d (lock_behind None step) rest) (is_app_step e None step) (is_rest_of_app e (lock_behind None step) rest)
+      and_map (is_app_step d None step) (is_rest_of_app d (lock_behind None step) rest) (is_app_step e None step) (is_rest_of_app e (lock_behind None step) rest)
       (app_step-grows None step) (rest-grows (lock_behind None step) rest) h
   rest-grows (Some w) (step ∷ rest) h =
-      and-map (is_app_step d (Some w) step) (is_rest_of_app d (lock_behind (Some w) step) rest) (is_app_step e (Some w) step) (is_rest_of_app e (lock_behind (Some w) step) rest)
+      and_map (is_app_step d (Some w) step) (is_rest_of_app d (lock_behind (Some w) step) rest) (is_app_step e (Some w) step) (is_rest_of_app e (lock_behind (Some w) step) rest)
       (app_step-grows (Some w) step) (rest-grows (lock_behind (Some w) step) rest) h
 
   pub app-grows : (steps : List Instruction) → is_app_program d steps ≡ true → is_app_program e steps ≡ true
   unfolding is_app_program
   app-grows steps h =
-      and-map (is_short steps) (is_rest_of_app d None steps) (is_short steps) (is_rest_of_app e None steps) (λ x. x) (rest-grows None steps) h
+      and_map (is_short steps) (is_rest_of_app d None steps) (is_short steps) (is_rest_of_app e None steps) (λ x. x) (rest-grows None steps) h
 
   body_steps-grow : (w : ℕ) (steps : List Instruction) → is_body_program d w steps ≡ true → is_body_program e w steps ≡ true
   unfolding is_body_program
   body_steps-grow w steps h =
-      and-map (is_short steps) (list_all (is_body_step d w) steps) (is_short steps) (list_all (is_body_step e w) steps) (λ x. x)
-      (all-weaker (is_body_step d w) (is_body_step e w) (body_step-grows w) steps) h
+      and_map (is_short steps) (list_all (is_body_step d w) steps) (is_short steps) (list_all (is_body_step e w) steps) (λ x. x)
+      (all_weaker (is_body_step d w) (is_body_step e w) (body_step-grows w) steps) h
 
   draw_steps-grow : (w : ℕ) (steps : List Instruction) → is_draw_program d w steps ≡ true → is_draw_program e w steps ≡ true
   unfolding is_draw_program
   draw_steps-grow w steps h =
-      and-map (is_short steps) (list_all (is_draw_step d w) steps) (is_short steps) (list_all (is_draw_step e w) steps) (λ x. x)
-      (all-weaker (is_draw_step d w) (is_draw_step e w) (draw_step-grows w) steps) h
+      and_map (is_short steps) (list_all (is_draw_step d w) steps) (is_short steps) (list_all (is_draw_step e w) steps) (λ x. x)
+      (all_weaker (is_draw_step d w) (is_draw_step e w) (draw_step-grows w) steps) h
 
   -- ---- filters and bodies
 
@@ -238,8 +234,8 @@ module _ (d e : Declared) (g : Grows d e) where
       let r' = is_rule e w line.rule in
       let f = is_at_most 32 (filter (λ other. other.window == line.window && same_list other.list line.list) d.filters) in
       let f' = is_at_most 32 (filter (λ other. other.window == line.window && same_list other.list line.list) e.filters) in
-      and-map (((a && b) && c) && r) f (((a' && b') && c) && r') f'
-      (and-map ((a && b) && c) r ((a' && b') && c) r' (and-map (a && b) c (a' && b') c (and-map a b a' b' (window-grows d e g w) (list-grows w line.list)) (λ x. x)) (rule-grows w line.rule))
+      and_map (((a && b) && c) && r) f (((a' && b') && c) && r') f'
+      (and_map ((a && b) && c) r ((a' && b') && c) r' (and_map (a && b) c (a' && b') c (and_map a b a' b' (window-grows d e g w) (list-grows w line.list)) (λ x. x)) (rule-grows w line.rule))
       few h
 
   -- so is that of the others for its handler and word
@@ -259,9 +255,9 @@ module _ (d e : Declared) (g : Grows d e) where
       let p' = is_body_program e w line.program in
       let f = is_at_most 1 (filter (λ other. same_target other.target line.target && other.what == line.what) (body_lines d w)) in
       let f' = is_at_most 1 (filter (λ other. same_target other.target line.target && other.what == line.what) (body_lines e w)) in
-      and-map ((((a && b) && c) && r) && p) f ((((a' && b') && c) && r) && p') f'
-      (and-map (((a && b) && c) && r) p (((a' && b') && c) && r) p'
-      (and-map ((a && b) && c) r ((a' && b') && c) r (and-map (a && b) c (a' && b') c (and-map a b a' b' (window-grows d e g w) (handler-grows d e g w line.target)) (λ x. x)) (λ x. x))
+      and_map ((((a && b) && c) && r) && p) f ((((a' && b') && c) && r) && p') f'
+      (and_map (((a && b) && c) && r) p (((a' && b') && c) && r) p'
+      (and_map ((a && b) && c) r ((a' && b') && c) r (and_map (a && b) c (a' && b') c (and_map a b a' b' (window-grows d e g w) (handler-grows d e g w line.target)) (λ x. x)) (λ x. x))
       (body_steps-grow w line.program))
       few h
 
@@ -279,8 +275,8 @@ module _ (d e : Declared) (g : Grows d e) where
       let p' = is_draw_program e w line.program in
       let f = is_at_most 1 (filter (λ other. other.window == line.window && other.view == line.view) d.draws) in
       let f' = is_at_most 1 (filter (λ other. other.window == line.window && other.view == line.view) e.draws) in
-      and-map ((a && b) && p) f ((a' && b') && p') f'
-      (and-map (a && b) p (a' && b') p' (and-map a b a' b' (window-grows d e g w) (lt-more line.view (view_count d w) (view_count e w) (g.views w))) (draw_steps-grow w line.program))
+      and_map ((a && b) && p) f ((a' && b') && p') f'
+      (and_map (a && b) p (a' && b') p' (and_map a b a' b' (window-grows d e g w) (lt-more line.view (view_count d w) (view_count e w) (g.views w))) (draw_steps-grow w line.program))
       few h
 
   -- ---- plain handlers
@@ -293,7 +289,7 @@ module _ (d e : Declared) (g : Grows d e) where
   pub plain-grows : (w k : ℕ) (lines : List HandlerLine) → are_plain_from d w k lines ≡ true → are_plain_from e w k lines ≡ true
   plain-grows w k [] h = refl
   plain-grows w k (line ∷ lines) h =
-      and-map (is_next d w k line.next) (are_plain_from d w (k + 1) lines) (is_next e w k line.next) (are_plain_from e w (k + 1) lines)
+      and_map (is_next d w k line.next) (are_plain_from d w (k + 1) lines) (is_next e w k line.next) (are_plain_from e w (k + 1) lines)
       (next-grows w k line.next) (plain-grows w (k + 1) lines) h
 
 -- ---- input
@@ -305,7 +301,7 @@ less-more m n z more h = grind (arith, ints)
 module _ (d e : Declared) (g : Grows d e) where
   place-grows : (p : Point) → is_place d p ≡ true → is_place e p ≡ true
   place-grows p h =
-      and-map (between (pos 0) p.x (pos d.width -ℤ pos 1)) (between (pos 0) p.y (pos d.height -ℤ pos 1))
+      and_map (between (pos 0) p.x (pos d.width -ℤ pos 1)) (between (pos 0) p.y (pos d.height -ℤ pos 1))
       (between (pos 0) p.x (pos e.width -ℤ pos 1)) (between (pos 0) p.y (pos e.height -ℤ pos 1))
       (less-more d.width e.width p.x g.width) (less-more d.height e.height p.y g.height) h
 

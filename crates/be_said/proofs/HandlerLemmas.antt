@@ -3,6 +3,7 @@ use Rattle.std.proofs.Common.{◌≡◌, ℕ, suc, ◌+◌, ◌<◌, ◌≤◌, 
 use Rattle.std.proofs.lemmas.Bool.{cases_lt, lt-ltb, le-leb, lt-leb}
 use Rattle.std.specs.List.{list_any}
 use Rattle.std.specs.Result.{IsErrAnd, OnOk}
+use Rattle.be_facts.proofs.Lists.{map_length}
 use Rattle.be_command.specs.declared.fault.Reason.{Reason}
 use Rattle.be_command.specs.declared.fault.Reason.TheVariants.{NameTaken, TooMany}
 use Rattle.be_handler.specs.declared.fault.ChainFault.{ChainFault}
@@ -30,7 +31,7 @@ use Rattle.be_said.specs.Inside.{IsInside, with_begun}
 use Rattle.be_said.specs.Judging.{done, filters_beside, said_then}
 use Rattle.be_said.specs.SoFar.{SoFar, Begun, nothing, declared_in, plain_in, views_in}
 use Rattle.be_said.proofs.DueLemmas.{may-be-done, taken-before, too-many}
-use Rattle.be_said.proofs.ListLemmas.{any_twice, count_as, filter_twice}
+use Rattle.be_said.proofs.ListLemmas.{any_twice, filter_twice}
 
 -- ---- what a chain answers
 
@@ -71,10 +72,10 @@ unfolding chain_of
 there_of said w target.Window fits = refl
 there_of said w (target.View v) fits =
     lt-ltb v (suc (length (map (λ (line : ViewLine). Some line.parent) (views_in said w))))
-    (omega (arith, fits, count_as (λ (line : ViewLine). Some line.parent) (views_in said w), count_as (λ (line : ViewLine). line.name) (views_in said w)))
+    (omega (arith, fits, map_length (λ (line : ViewLine). Some line.parent) (views_in said w), map_length (λ (line : ViewLine). line.name) (views_in said w)))
 there_of said w (target.Plain p) fits =
     lt-ltb p (length (map (λ (line : HandlerLine). line.next) (plain_in said w)))
-    (omega (arith, fits, count_as (λ (line : HandlerLine). line.next) (plain_in said w), count_as (λ (line : HandlerLine). line.name) (plain_in said w)))
+    (omega (arith, fits, map_length (λ (line : HandlerLine). line.next) (plain_in said w), map_length (λ (line : HandlerLine). line.name) (plain_in said w)))
 
 -- a handler that a line names is there
 pub target_there : (said : SoFar) (w : ℕ) (here : Inside) (handler : Target) → IsInside said w here → said.begun ≡ nothing → IsTarget said w handler →
@@ -97,7 +98,7 @@ body_before said w handler what =
 
 body_count : (said : SoFar) (w : ℕ) → length (chain_of (declared_in said (0, 0)) w).bodies ≡ length (filter (λ (line : BodyLine). line.window == w) said.bodies)
 unfolding chain_of
-body_count said w = count_as declared_body (filter (λ (line : BodyLine). line.window == w) said.bodies)
+body_count said w = map_length declared_body (filter (λ (line : BodyLine). line.window == w) said.bodies)
 
 pub body-taken : (said : SoFar) (w : ℕ) (handler : Target) (what : ℕ) (here : Inside) → IsInside said w here → said.begun ≡ nothing →
     has_body here.chain what handler ≡ true → done said (begins_body w handler what) ≡ Err NameTaken
@@ -186,7 +187,7 @@ filter-done said line here is free few =
 
 plain_count : (said : SoFar) (w : ℕ) → length (chain_of (declared_in said (0, 0)) w).nexts ≡ length (plain_in said w)
 unfolding chain_of
-plain_count said w = count_as (λ (line : HandlerLine). line.next) (plain_in said w)
+plain_count said w = map_length (λ (line : HandlerLine). line.next) (plain_in said w)
 
 plain_length : (said : SoFar) (w : ℕ) (here : Inside) → IsInside said w here → said.begun ≡ nothing → length here.chain.nexts ≡ length (plain_in said w)
 plain_length said w here is free = ap (λ (c : Chain). length c.nexts) (here_chain said w here is free) ∙ plain_count said w
@@ -204,14 +205,14 @@ plain-done said line here is free few =
 -- each plain handler has a name
 pub plain_room : (said : SoFar) (w : ℕ) (here : Inside) → IsInside said w here → said.begun ≡ nothing → length here.chain.nexts < 16 → length here.plain.items < 16
 plain_room said w here is free few =
-    let names : length here.plain.items ≡ length (plain_in said w) = ap length is.plain ∙ count_as (λ (line : HandlerLine). line.name) (plain_in said w) in
+    let names : length here.plain.items ≡ length (plain_in said w) = ap length is.plain ∙ map_length (λ (line : HandlerLine). line.name) (plain_in said w) in
     omega (arith, few, names, plain_length said w here is free)
 
 -- ---- views
 
 parent_count : (said : SoFar) (w : ℕ) → length (chain_of (declared_in said (0, 0)) w).parents ≡ length (views_in said w) + 1
 unfolding chain_of
-parent_count said w = omega (arith, count_as (λ (line : ViewLine). Some line.parent) (views_in said w))
+parent_count said w = omega (arith, map_length (λ (line : ViewLine). Some line.parent) (views_in said w))
 
 pub parent_length : (said : SoFar) (w : ℕ) (here : Inside) → IsInside said w here → said.begun ≡ nothing → length here.chain.parents ≡ length (views_in said w) + 1
 parent_length said w here is free = ap (λ (c : Chain). length c.parents) (here_chain said w here is free) ∙ parent_count said w

@@ -1,10 +1,12 @@
 -- A window more, a view more or a plain handler more.
 use Rattle.std.proofs.Common.{◌≡◌, ℕ, zero, suc, ◌+◌, ◌<◌, ◌==◌, Bool, true, false, not, ◌&&◌, codes, List, [], ◌∷◌, ◌++◌, length, filter, fold, map, Option, Some, None, refl, ap, sym, ◌∙◌, subst, arith, ltb-true, length-append}
 use Rattle.std.specs.Prelude.{nat_lt, nat_le, slice_get, slice_index_or}
-use Rattle.std.proofs.lemmas.Bool.{eqb-true, leb-false, lt-ltb, ltb-false}
+use Rattle.std.proofs.lemmas.Bool.{eqb-true, leb-false, lt-ltb, ltb-false, and_from}
+use Rattle.be_facts.proofs.Truths.{and_first, and_second}
+use Rattle.be_facts.proofs.Lists.{all_weaker, length_push}
 use Rattle.be_message.specs.declared.target.Target.{Target}
 use Rattle.be_message.specs.declared.target.Target.TheVariants as target
-use Rattle.be_said.proofs.AppendLemmas.{all-append, all-weaker, at-most-of, drops-last, filter-more, keeps-last, length-last, none-beyond}
+use Rattle.be_said.proofs.AppendLemmas.{all-append, at-most-of, drops-last, filter-more, keeps-last, none-beyond}
 use Rattle.be_said.proofs.DeclaredNames.{named-last, no-names, plain-named, view-named}
 use Rattle.be_said.proofs.GrowthLemmas.{Grows}
 use Rattle.be_said.proofs.KeptLemmas.{apps-kept, are_of_window, bodies-kept, draws-kept, filters-kept, handlers-kept, input-kept, views-kept, window-kept, windows-kept}
@@ -22,14 +24,12 @@ use Rattle.be_script.specs.Names.{are_names}
 use Rattle.be_script.specs.Programs.{is_body_program, is_handler_of, plain_count, view_count}
 use Rattle.be_script.specs.Script.{Declared}
 use Rattle.be_script.specs.Windows.{body_lines, view_lines}
-use Rattle.be_script.proofs.RoutableLemmas.{and-both}
-use Rattle.be_script.proofs.WorkNumbers.{and-left, and-right}
 
 -- ---- a window
 
 grows-window : (d : Declared) (line : WindowLine) → Grows d (record d { windows = d.windows ++ line ∷ [] })
 grows-window d line =
-    let more = length-last d.windows line in
+    let more = length_push d.windows line in
     record {
       windows = omega arith;
       views = λ w. omega arith;
@@ -48,7 +48,7 @@ body_window d line h =
     let e = not (is_reserved line.what) in
     let f = is_body_program d line.window line.program in
     let g = is_at_most 1 (filter (λ other. same_target other.target line.target && other.what == line.what) (body_lines d line.window)) in
-    and-left a b (and-left (a && b) c (and-left ((a && b) && c) e (and-left (((a && b) && c) && e) f (and-left ((((a && b) && c) && e) && f) g h))))
+    and_first a b (and_first (a && b) c (and_first ((a && b) && c) e (and_first (((a && b) && c) && e) f (and_first ((((a && b) && c) && e) && f) g h))))
 
 nothing_of : (d : Declared) (w : ℕ) → are_of_window d w [] [] [] ≡ true
 nothing_of d w = ap (λ b. b && true) no-names
@@ -62,7 +62,7 @@ new_window d e w k same views plain bodies =
     let of_plain : filter (λ line. line.window == n) e.handlers ≡ [] = ap (filter (λ line. line.window == n)) plain ∙ none-beyond (λ line. line.window) n d.handlers k.handlers in
     let of_bodies : filter (λ line. line.window == n) e.bodies ≡ [] =
     ap (filter (λ line. line.window == n)) bodies
-    ∙ none-beyond (λ line. line.window) n d.bodies (all-weaker (is_body_line d) (λ line. is_window d line.window) (body_window d) d.bodies k.bodies) in
+    ∙ none-beyond (λ line. line.window) n d.bodies (all_weaker (is_body_line d) (λ line. is_window d line.window) (body_window d) d.bodies k.bodies) in
     subst at (sym same)
     (ap (λ lines. are_of_window e n lines (plain_lines e n) (body_lines e n)) of_views
     ∙ ap (λ lines. are_of_window e n [] lines (body_lines e n)) of_plain
@@ -74,7 +74,7 @@ pub kept-window : (d : Declared) (line : WindowLine) → length d.windows < 32 �
 kept-window d line few here name k =
     let e : Declared = record d { windows = d.windows ++ line ∷ [] } in
     let g : Grows d e = grows-window d line in
-    let more = length-last d.windows line in
+    let more = length_push d.windows line in
     record {
       few_windows = omega arith;
       few_apps = k.few_apps;
@@ -99,7 +99,7 @@ kept-window d line few here name k =
     by w there true h = windows-kept d (record d { windows = d.windows ++ line ∷ [] }) (grows-window d line) refl refl refl w (k.each_window w (ltb-true w (length d.windows) h))
     by w there false h =
         let above = ltb-false w (length d.windows) h in
-        let more = length-last d.windows line in
+        let more = length_push d.windows line in
         new_window d (record d { windows = d.windows ++ line ∷ [] }) w k (omega arith) refl refl refl
 
 -- ---- how deep views lie
@@ -124,8 +124,8 @@ lies_with : (depths : List ℕ) (parent : ℕ) (more : List ℕ → Bool) (new :
 lies_with depths parent more new None at rest h = h
 lies_with depths parent more new (Some depth) at rest h =
     let same : slice_index_or depths parent 0 ≡ depth = found depths parent depth at in
-    and-both (nat_lt depth 8) (new (depths ++ (depth + 1) ∷ [])) (and-left (nat_lt depth 8) (more (depths ++ (depth + 1) ∷ [])) h)
-    (subst (λ (n : ℕ). more (depths ++ (n + 1) ∷ []) ≡ true → new (depths ++ (n + 1) ∷ []) ≡ true) same rest (and-right (nat_lt depth 8) (more (depths ++ (depth + 1) ∷ [])) h))
+    and_from (nat_lt depth 8) (new (depths ++ (depth + 1) ∷ [])) (and_first (nat_lt depth 8) (more (depths ++ (depth + 1) ∷ [])) h)
+    (subst (λ (n : ℕ). more (depths ++ (n + 1) ∷ []) ≡ true → new (depths ++ (n + 1) ∷ []) ≡ true) same rest (and_second (nat_lt depth 8) (more (depths ++ (depth + 1) ∷ [])) h))
 
 -- one more behind the others
 below_last : (lines : List ViewLine) (depths : List ℕ) (line : ViewLine) → are_views_below lines depths ≡ true →
@@ -145,17 +145,17 @@ count_depths (x ∷ lines) depths =
 last_lies : (depths : List ℕ) (line : ViewLine) → line.parent < length depths → slice_index_or depths line.parent 0 < 8 → are_views_below (line ∷ []) depths ≡ true
 last_lies depths line there shallow =
     ap (λ o. lies_below depths o (λ more. true)) (within depths line.parent there)
-    ∙ and-both (nat_lt (slice_index_or depths line.parent 0) 8) true (lt-ltb (slice_index_or depths line.parent 0) 8 shallow) refl
+    ∙ and_from (nat_lt (slice_index_or depths line.parent 0) 8) true (lt-ltb (slice_index_or depths line.parent 0) 8 shallow) refl
 
 views-last : (lines : List ViewLine) (line : ViewLine) → are_views lines ≡ true → length lines < 31 → line.parent < length lines + 1 →
     nat_le 8 (slice_index_or (depths_of lines) line.parent 0) ≡ false → are_views (lines ++ line ∷ []) ≡ true
 views-last lines line h few there shallow =
-    let below = and-right (is_at_most 31 lines) (are_views_below lines (1 ∷ [])) h in
+    let below = and_second (is_at_most 31 lines) (are_views_below lines (1 ∷ [])) h in
     let count = count_depths lines (1 ∷ []) in
-    let more = length-last lines line in
+    let more = length_push lines line in
     let last : are_views_below (line ∷ []) (depths_of lines) ≡ true =
     last_lies (depths_of lines) line (omega arith) (leb-false 8 (slice_index_or (depths_of lines) line.parent 0) shallow) in
-    and-both (is_at_most 31 (lines ++ line ∷ [])) (are_views_below (lines ++ line ∷ []) (1 ∷ []))
+    and_from (is_at_most 31 (lines ++ line ∷ [])) (are_views_below (lines ++ line ∷ []) (1 ∷ []))
     (at-most-of 31 (lines ++ line ∷ []) (omega arith)) (below_last lines (1 ∷ []) line below last)
 
 -- ---- a view
@@ -174,13 +174,13 @@ grows-view d line = record {
 -- the parts of what a window declares
 pub of_parts : (a b c e f : Bool) → ((((a && b) && c) && e) && f) ≡ true → (a ≡ true) × (b ≡ true) × (c ≡ true) × (e ≡ true) × (f ≡ true)
 of_parts a b c e f h =
-    let four = and-left (((a && b) && c) && e) f h in
-    let three = and-left ((a && b) && c) e four in
-    let two = and-left (a && b) c three in
-    (and-left a b two, and-right a b two, and-right (a && b) c three, and-right ((a && b) && c) e four, and-right (((a && b) && c) && e) f h)
+    let four = and_first (((a && b) && c) && e) f h in
+    let three = and_first ((a && b) && c) e four in
+    let two = and_first (a && b) c three in
+    (and_first a b two, and_second a b two, and_second (a && b) c three, and_second ((a && b) && c) e four, and_second (((a && b) && c) && e) f h)
 
 pub from_parts : (a b c e f : Bool) → a ≡ true → b ≡ true → c ≡ true → e ≡ true → f ≡ true → ((((a && b) && c) && e) && f) ≡ true
-from_parts a b c e f p q r s t = and-both (((a && b) && c) && e) f (and-both ((a && b) && c) e (and-both (a && b) c (and-both a b p q) r) s) t
+from_parts a b c e f p q r s t = and_from (((a && b) && c) && e) f (and_from ((a && b) && c) e (and_from (a && b) c (and_from a b p q) r) s) t
 
 -- of its window
 view_in : (d : Declared) (w : ℕ) (views : List ViewLine) (plain : List HandlerLine) (bodies : List BodyLine) (line : ViewLine) → are_of_window d w views plain bodies ≡ true →
@@ -249,11 +249,11 @@ plain_last : (d : Declared) (w k : ℕ) (lines : List HandlerLine) (line : Handl
     are_plain_from d w k (lines ++ line ∷ []) ≡ true
 plain_last d w k [] line h last =
     let same : k + 0 ≡ k = omega arith in
-    and-both (is_next d w k line.next) true (subst (λ (n : ℕ). is_next d w n line.next ≡ true) same last) refl
+    and_from (is_next d w k line.next) true (subst (λ (n : ℕ). is_next d w n line.next ≡ true) same last) refl
 plain_last d w k (x ∷ lines) line h last =
     let same : k + suc (length lines) ≡ k + 1 + length lines = omega arith in
-    and-both (is_next d w k x.next) (are_plain_from d w (k + 1) (lines ++ line ∷ [])) (and-left (is_next d w k x.next) (are_plain_from d w (k + 1) lines) h)
-    (plain_last d w (k + 1) lines line (and-right (is_next d w k x.next) (are_plain_from d w (k + 1) lines) h) (subst (λ (n : ℕ). is_next d w n line.next ≡ true) same last))
+    and_from (is_next d w k x.next) (are_plain_from d w (k + 1) (lines ++ line ∷ [])) (and_first (is_next d w k x.next) (are_plain_from d w (k + 1) lines) h)
+    (plain_last d w (k + 1) lines line (and_second (is_next d w k x.next) (are_plain_from d w (k + 1) lines) h) (subst (λ (n : ℕ). is_next d w n line.next ≡ true) same last))
 
 -- the handler behind all others may go on to each of them
 next_of : (d e : Declared) (w : ℕ) (t : Target) → view_count e w ≡ view_count d w → is_handler_of d w t ≡ true → is_next e w (plain_count d w) t ≡ true
@@ -267,7 +267,7 @@ handler_in : (d : Declared) (w : ℕ) (views : List ViewLine) (plain : List Hand
 handler_in d w views plain bodies line h few next name =
     let old : List HandlerLine → Bool = λ lines. are_names (map (λ line. line.name) views ++ map (λ line. line.name) lines) in
     let p = of_parts (are_views views) (is_at_most 16 plain) (are_plain_from d w 0 plain) (old plain) (is_at_most 512 bodies) h in
-    let more = length-last plain line in
+    let more = length_push plain line in
     let same : length plain ≡ 0 + length plain = omega arith in
     from_parts (are_views views) (is_at_most 16 (plain ++ line ∷ [])) (are_plain_from d w 0 (plain ++ line ∷ [])) (old (plain ++ line ∷ [])) (is_at_most 512 bodies)
     p.0 (at-most-of 16 (plain ++ line ∷ []) (omega arith)) (plain_last d w 0 plain line p.2 (subst (λ (n : ℕ). is_next d w n line.next ≡ true) same next))

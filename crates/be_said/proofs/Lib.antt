@@ -15,7 +15,6 @@ pub mod HandlerLemmas
 pub mod InsideLemmas
 pub mod NameFaults
 pub mod NameLemmas
-pub mod NameText
 pub mod ProgramKept
 pub mod ViewLemmas
 pub mod BitmapKept

@@ -1,16 +1,13 @@
 -- Lists that get one item more.
-use Rattle.std.proofs.Common.{◌≡◌, ◌&&◌, ◌||◌, ℕ, suc, ◌<◌, ◌≤◌, Bool, true, false, cond, List, [], ◌∷◌, ◌++◌, length, filter, map, set, get_or, Some, None, refl, ap, sym, ◌∙◌, inl, inr, ◌⊎◌, arith, get_or-set_same, get_or-set_other, length-set}
-use Rattle.std.proofs.lemmas.Bool.{cases_eq, cases_lt}
+use Rattle.std.proofs.Common.{◌≡◌, ◌&&◌, ◌||◌, ℕ, suc, ◌<◌, Bool, true, false, cond, List, [], ◌∷◌, ◌++◌, length, filter, map, set, get_or, Some, None, refl, ap, sym, ◌∙◌, inl, inr, arith, get_or-set_same, get_or-set_other, length-set}
+use Rattle.std.proofs.lemmas.Bool.{cases_eq}
 use Rattle.std.proofs.lemmas.List.{ext_get_or}
 use Rattle.std.proofs.lemmas.List.Elements.{filter-append}
 use Rattle.std.proofs.lemmas.List.FromFn.{get_or-map-range_with_len, length-map-range_with_len}
 use Rattle.std.proofs.lemmas.Option.{slice_get_within, slice_get_past, slice_get-get_or, get_or_from_slice_get}
 use Rattle.std.specs.List.{list_any, range_with_len}
 use Rattle.std.specs.Prelude.{slice_get}
-
-pub true_or_false : (b : Bool) → (b ≡ true) ⊎ (b ≡ false)
-true_or_false true = inl refl
-true_or_false false = inr refl
+use Rattle.be_facts.proofs.Lists.{none_past, append_none}
 
 -- ---- the lines of a window, as they are seen
 
@@ -18,10 +15,6 @@ pub filter_same : {X : Type 0} (p : X → Bool) (xs : List X) (x : X) → p x �
 filter_same {X} p xs x hit =
     let one : Bool → List X = λ b. filter p xs ++ cond b (x ∷ []) [] in
     filter-append p xs (x ∷ []) ∙ ap one hit
-
-pub append_none : {X : Type 0} (xs : List X) → xs ++ [] ≡ xs
-append_none [] = refl
-append_none (x ∷ xs) = ap (λ ys. x ∷ ys) (append_none xs)
 
 pub filter_other : {X : Type 0} (p : X → Bool) (xs : List X) (x : X) → p x ≡ false → filter p (xs ++ x ∷ []) ≡ filter p xs
 filter_other {X} p xs x apart =
@@ -34,19 +27,8 @@ none_there : {X : Type 0} (xs : List X) (k : ℕ) → k < length xs → slice_ge
 none_there [] k below none = omega arith
 none_there (x ∷ xs) k below none = let some = slice_get-get_or (x ∷ xs) k x below in (cc)
 
-pub none_past : {X : Type 0} (xs : List X) (k : ℕ) → slice_get xs k ≡ None → length xs ≤ k
-none_past xs k none =
-    elim (cases_lt k (length xs)) [
-      | inl below ↦ absurd (none_there xs k below none)
-      | inr past ↦ past
-    ]
-
 pub none_of_length : {X Y : Type 0} (xs : List X) (ys : List Y) (k : ℕ) → length ys ≡ length xs → slice_get ys k ≡ None → slice_get xs k ≡ None
 none_of_length xs ys k same none = slice_get_past xs k (let past = none_past ys k none in omega arith)
-
-pub get_set_same : {X : Type 0} (xs : List X) (k : ℕ) (x : X) → k < length xs → slice_get (set xs k x) k ≡ Some x
-get_set_same xs k x below =
-    slice_get-get_or (set xs k x) k x (let same = length-set xs k x in omega arith) ∙ ap Some (get_or-set_same xs k x x below)
 
 pub get_set_other : {X : Type 0} (xs : List X) (k j : ℕ) (x y : X) → (j ≡ k → ⊥) → slice_get (set xs k x) j ≡ Some y → slice_get xs j ≡ Some y
 get_set_other xs k j x y apart there =
@@ -79,11 +61,6 @@ table_set f g n v below hit others =
     ])
 
 -- ---- items that are chosen twice
-
--- as many as they are seen as
-pub count_as : {X Y : Type 0} (f : X → Y) (xs : List X) → length (map f xs) ≡ length xs
-count_as f [] = refl
-count_as f (x ∷ xs) = ap suc (count_as f xs)
 
 length_cond : {X Y : Type 0} (b c : Bool) (x : X) (y : Y) (xs : List X) (ys : List Y) → b ≡ c → length xs ≡ length ys → length (cond b (x ∷ xs) xs) ≡ length (cond c (y ∷ ys) ys)
 length_cond true true x y xs ys same lengths = ap suc lengths

@@ -7,6 +7,8 @@ use Rattle.std.proofs.Math.ListN.{get_or-append}
 use Rattle.std.proofs.Math.Seq.{get_or-append_seam}
 use Rattle.std.specs.List.{range_with_len}
 use Rattle.std.specs.Prelude.{option_map, slice_get}
+use Rattle.be_facts.proofs.Lists.{map_length, none_past}
+use Rattle.be_facts.proofs.Truths.{true_or_false}
 use Rattle.be_command.specs.declared.fault.Reason.TheVariants.{TooMany}
 use Rattle.be_command.specs.Names.{Known, name_fault}
 use Rattle.be_handler.specs.Routes.{Chain}
@@ -26,7 +28,6 @@ use Rattle.be_said.specs.SoFar.{SoFar, Begun, nothing, bitmap_names, declared_in
 use Rattle.be_said.proofs.BitmapKept.{are_new_more}
 use Rattle.be_said.proofs.DueLemmas.{may-be-done, too-many}
 use Rattle.be_said.proofs.EverywhereLemmas.{there_before}
-use Rattle.be_said.proofs.ListLemmas.{count_as, none_past, true_or_false}
 use Rattle.be_said.proofs.ViewLemmas.{no_name_fault}
 
 -- ---- names one by one
@@ -38,19 +39,19 @@ named_at f xs k x below is = slice_get-map f xs k ∙ ap (option_map f) (slice_g
 pub next_fits : {X : Type 0} (most : ℕ) (f : X → List ℕ) (xs : List X) (k : ℕ) (x : X) (names : List (List ℕ)) → length xs ≤ most → AreNew (map f xs) →
     k < length xs → x ≡ get_or xs k x → names ≡ take k (map f xs) → name_fault most names (f x) ≡ None
 next_fits most f xs k x names few all below is so_far =
-    let count : length (map f xs) ≡ length xs = count_as f xs in
+    let count : length (map f xs) ≡ length xs = map_length f xs in
     let before : length (take k (map f xs)) ≡ k = length-take-le k (map f xs) (omega arith) in
     ap (λ ns. name_fault most ns (f x)) so_far ∙ no_name_fault most (take k (map f xs)) (f x) (all k (f x) (named_at f xs k x below is)) (omega arith)
 
 -- and stands behind the others then
 pub next_named : {X : Type 0} (f : X → List ℕ) (xs : List X) (k : ℕ) (x : X) → k < length xs → x ≡ get_or xs k x → take (k + 1) (map f xs) ≡ take k (map f xs) ++ f x ∷ []
 next_named f xs k x below is =
-    let count : length (map f xs) ≡ length xs = count_as f xs in
+    let count : length (map f xs) ≡ length xs = map_length f xs in
     take_more (map f xs) k (f x) (omega arith)
     ∙ ap (λ n. take k (map f xs) ++ n ∷ []) (get_or_from_slice_get (map f xs) k (f x) (f x) (named_at f xs k x below is))
 
 pub all_named : {X : Type 0} (f : X → List ℕ) (xs : List X) (k : ℕ) → length xs ≤ k → take k (map f xs) ≡ map f xs
-all_named f xs k all = let count : length (map f xs) ≡ length xs = count_as f xs in take_all k (map f xs) (omega arith)
+all_named f xs k all = let count : length (map f xs) ≡ length xs = map_length f xs in take_all k (map f xs) (omega arith)
 
 -- ---- one window more
 
@@ -89,7 +90,7 @@ window-kept said insides line new kept free few fresh is =
     let name_of : WindowLine → List ℕ = λ other. other.name in
     let more : window_names next ≡ window_names said ++ line.name ∷ [] = map-append name_of said.windows (line ∷ []) in
     let olds : List Inside = map (with_window line.name) insides in
-    let same : length olds ≡ n = count_as (with_window line.name) insides in
+    let same : length olds ≡ n = map_length (with_window line.name) insides in
     let count : length (olds ++ new ∷ []) ≡ n + 1 = omega (arith, length-append olds (new ∷ []), same) in
     let missing : (u : ℕ) → slice_get (olds ++ new ∷ []) u ≡ None → slice_get insides u ≡ None =
     λ u none. let past = none_past (olds ++ new ∷ []) u none in slice_get_past insides u (omega arith) in
@@ -166,7 +167,7 @@ pub window_name_fits : (said : SoFar) (insides : List Inside) (name : List ℕ) 
 window_name_fits said insides name kept few new w inside there =
     let names : inside.names.windows ≡ window_names said = ap (λ (k : Known). k.windows) (kept.each w inside there).names in
     ap (λ (ns : List (List ℕ)). name_fault 32 ns name) names
-    ∙ no_name_fault 32 (window_names said) name new (omega (arith, few, count_as (λ (line : WindowLine). line.name) said.windows))
+    ∙ no_name_fault 32 (window_names said) name new (omega (arith, few, map_length (λ (line : WindowLine). line.name) said.windows))
 
 pub window-many : (said : SoFar) (line : WindowLine) → 32 ≤ length said.windows → done said (adds_window line) ≡ Err TooMany
 window-many said line many = too-many said (adds_window line) refl (le-leb 32 (length said.windows) many)

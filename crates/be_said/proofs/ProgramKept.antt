@@ -1,9 +1,11 @@
 -- What is kept stays so, where a body or a program is begun, gets an instruction or is closed.
 use Rattle.std.proofs.Common.{◌≡◌, ℕ, ◌+◌, ◌<◌, ◌≤◌, ◌==◌, ◌&&◌, ◌||◌, ◌++◌, ◌∷◌, Bool, true, false, cond, List, [], length, map, filter, set, Option, Some, None, refl, ap, sym, ◌∙◌, subst, arith, inl, inr, eq-eqb, ne_eqb, length-append, length-set}
-use Rattle.std.proofs.lemmas.Bool.{cases_eq}
+use Rattle.std.proofs.lemmas.Bool.{cases_eq, and_right}
 use Rattle.std.proofs.lemmas.List.{map-append}
 use Rattle.std.proofs.lemmas.List.Folds.{list_any-append}
 use Rattle.std.specs.List.{list_any, range_with_len}
+use Rattle.be_facts.proofs.Truths.{or_true, true_or_false}
+use Rattle.be_facts.proofs.Lists.{none_past}
 use Rattle.be_actor.specs.declared.Instruction.{Instruction}
 use Rattle.be_actor.specs.declared.Instruction.TheVariants as instruction
 use Rattle.be_handler.specs.Growth.{with_new_body}
@@ -22,15 +24,7 @@ use Rattle.be_said.specs.Judging.{closed, said_then, with_step}
 use Rattle.be_said.specs.SoFar.{SoFar, Begun, nothing, bitmap, handler_body, draw_body, program, app_names, declared_in, views_in}
 use Rattle.be_said.proofs.EventKept.{begun-kept}
 use Rattle.be_said.proofs.GrownInside.{inside_as, each_set, none_set}
-use Rattle.be_said.proofs.ListLemmas.{filter_same, filter_other, map_same, none_past, table_set, true_or_false}
-
-none_right : (a b : Bool) → b ≡ false → (a && b) ≡ false
-none_right true b none = none
-none_right false b none = refl
-
-or_true : (a : Bool) → (a || true) ≡ true
-or_true true = refl
-or_true false = refl
+use Rattle.be_said.proofs.ListLemmas.{filter_same, filter_other, map_same, table_set}
 
 or_none : (a b : Bool) → ((a || (b || false)) || false) ≡ (a || b)
 or_none true b = refl
@@ -141,7 +135,7 @@ draw-kept said insides w v here new kept free below low view is names plain dept
     let other_window : (u t : ℕ) → (w == u) ≡ false → is_drawn next u t ≡ is_drawn said u t =
     λ u t apart. ap (λ (b : Bool). lines u t || (b && v == t)) apart ∙ sym (before u t) in
     let other_view : (t : ℕ) → (t ≡ v → ⊥) → is_drawn next w t ≡ is_drawn said w t =
-    λ t apart. ap (λ (b : Bool). lines w t || b) (none_right (w == w) (v == t) (ne_eqb v t (λ at. apart (sym at)))) ∙ sym (before w t) in
+    λ t apart. ap (λ (b : Bool). lines w t || b) (and_right (w == w) (v == t) (ne_eqb v t (λ at. apart (sym at)))) ∙ sym (before w t) in
     let hit : is_drawn next w v ≡ true =
     ap (λ (b : Bool). lines w v || (b && v == v)) (eq-eqb w w refl) ∙ ap (λ (b : Bool). lines w v || b) (eq-eqb v v refl) ∙ or_true (lines w v) in
     let made : IsInside next w new = record {

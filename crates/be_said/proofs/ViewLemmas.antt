@@ -6,6 +6,7 @@ use Rattle.std.proofs.lemmas.List.Folds.{list_any-append}
 use Rattle.std.specs.List.{list_any}
 use Rattle.std.specs.Prelude.{nat_le}
 use Rattle.std.specs.Str.{bytes_eq}
+use Rattle.be_facts.proofs.Truths.{or_true, or_false_first}
 use Rattle.be_command.specs.declared.fault.NameFault.TheVariants as refused
 use Rattle.be_command.specs.declared.fault.Reason.TheVariants.{NameTaken, Shape, TooMany}
 use Rattle.be_command.specs.Names.{Known, name_fault}
@@ -36,20 +37,12 @@ no_fault : (named reserved there full : Bool) → named ≡ true → reserved �
     cond (not named) (Some refused.BadName) (cond (reserved || there) (Some refused.NameTaken) (cond full (Some refused.TooMany) None)) ≡ None
 no_fault named reserved there full n r t f = rw (n, r, t, f) refl
 
--- a new name is a name
-pub new_is_name : (names : List (List ℕ)) (name : List ℕ) → IsNew names name → is_name name ≡ true
-new_is_name names name new = (new_parts name (is_name name) (is_reserved_name name) (list_any (λ other. bytes_eq other name) names) new).0
-
 -- and is taken where there is room
 pub no_name_fault : (most : ℕ) (names : List (List ℕ)) (name : List ℕ) → IsNew names name → length names < most → name_fault most names name ≡ None
 no_name_fault most names name new room =
     let parts = new_parts name (is_name name) (is_reserved_name name) (list_any (λ other. bytes_eq other name) names) new in
     no_fault (is_name name) (is_reserved_name name) (list_any (λ other. bytes_eq other name) names) (nat_le most (length names)) parts.0 parts.1 parts.2
     (lt-leb most (length names) room)
-
-left_false : (a b : Bool) → (a || b) ≡ false → a ≡ false
-left_false true b e = e
-left_false false b e = refl
 
 new_as : (word : List ℕ) (named reserved there : Bool) → named ≡ true → reserved ≡ false → there ≡ false →
     cond named (cond (reserved || there) (Err NameTaken) (Ok word)) (Err Shape) ≡ Ok word
@@ -61,7 +54,7 @@ new_view_name names others name new =
     let same : List ℕ → Bool = λ other. bytes_eq other name in
     let parts = new_parts name (is_name name) (is_reserved_name name) (list_any same (names ++ others)) new in
     new_as name (is_name name) (is_reserved_name name) (list_any same names) parts.0 parts.1
-    (left_false (list_any same names) (list_any same others) (sym (list_any-append same names others) ∙ parts.2))
+    (or_false_first (list_any same names) (list_any same others) (sym (list_any-append same names others) ∙ parts.2))
 
 -- ---- parents and depths
 
@@ -80,10 +73,6 @@ depth_said : (said : SoFar) (line : ViewLine) (here : Inside) (depth : ℕ) → 
     line.parent < length (view_names said (Some line.window)) → depth ≡ get_or here.depths.items line.parent depth →
     depth ≡ get_or (depths_of (views_in said line.window)) line.parent 0
 depth_said said line here depth is fits at = depth_is said line here depth is fits at ∙ ap (λ (ds : List ℕ). get_or ds line.parent 0) is.depths
-
-or_true : (b : Bool) → (b || true) ≡ true
-or_true true = refl
-or_true false = refl
 
 pub view-deep : (said : SoFar) (line : ViewLine) (here : Inside) (depth : ℕ) → IsInside said line.window here →
     line.parent < length (view_names said (Some line.window)) → depth ≡ get_or here.depths.items line.parent depth → 8 ≤ depth →

@@ -5,6 +5,8 @@ use Rattle.std.proofs.lemmas.List.FromFn.{map-range_with_len_more}
 use Rattle.std.proofs.lemmas.List.Sums.{fold-append}
 use Rattle.std.specs.List.{range_with_len, fold}
 use Rattle.std.specs.Prelude.{slice_get, slice_index_or}
+use Rattle.be_facts.proofs.Lists.{none_past}
+use Rattle.be_facts.proofs.Truths.{true_or_false}
 use Rattle.be_message.specs.declared.target.Target.{Target}
 use Rattle.be_command.specs.Names.{Known}
 use Rattle.be_handler.specs.Growth.{with_view, with_plain, with_filter}
@@ -19,7 +21,7 @@ use Rattle.be_said.specs.Inside.{AreInside, IsInside, is_drawn, with_begun}
 use Rattle.be_said.specs.Judging.{said_then, depths_of, with_depth}
 use Rattle.be_said.specs.SoFar.{SoFar, Begun, nothing, declared_in, known_in, plain_in, views_in}
 use Rattle.be_said.proofs.GrownInside.{inside_as, each_set, none_set}
-use Rattle.be_said.proofs.ListLemmas.{filter_same, filter_other, none_past, true_or_false}
+use Rattle.be_said.proofs.ListLemmas.{filter_same, filter_other}
 
 -- nothing is begun, so the chain is that of the lines
 free_chain : (said : SoFar) (w : ℕ) (c : Chain) → said.begun ≡ nothing → with_begun said.begun w c ≡ c

@@ -5,3 +5,4 @@ pub mod WorkChains
 pub mod WorkTable
 pub mod WorkInput
 pub mod RoutableLemmas
+pub mod FrameLemmas

@@ -1,12 +1,15 @@
 -- A script that keeps its limits can be routed.
-use Rattle.std.proofs.Common.{◌≡◌, ℕ, zero, suc, ◌+◌, ◌<◌, ◌≤◌, ◌==◌, Bool, true, false, cond, ◌&&◌, ◌||◌, not, List, [], ◌∷◌, ◌++◌, length, take, filter, map, Option, Some, None, refl, ap, sym, ◌∙◌, subst, arith, ltb-true, eq-eqb, length-append}
+use Rattle.std.proofs.Common.{◌≡◌, ℕ, zero, suc, ◌+◌, ◌<◌, ◌≤◌, ◌==◌, Bool, true, false, cond, ◌&&◌, ◌||◌, not, List, [], ◌∷◌, ◌++◌, length, take, filter, map, Option, Some, None, refl, ap, sym, ◌∙◌, subst, arith, ltb-true, length-append}
 use Rattle.std.specs.Prelude.{slice_get, nat_lt}
 use Rattle.std.specs.List.{list_all, list_any, range_with_len}
-use Rattle.std.proofs.lemmas.Bool.{lt-ltb, leb-true}
+use Rattle.std.proofs.lemmas.Bool.{lt-ltb, leb-true, not_from_false, and_from}
 use Rattle.std.proofs.lemmas.List.{length-map}
 use Rattle.std.proofs.lemmas.List.Elements.{filter-append}
 use Rattle.std.proofs.lemmas.List.FromFn.{get_or-range_with_len, length-range_with_len}
 use Rattle.std.proofs.lemmas.Option.{slice_get_within, slice_get-get_or}
+use Rattle.be_facts.proofs.Numbers.{eq_self}
+use Rattle.be_facts.proofs.Lists.{all_weaker, all_at}
+use Rattle.be_facts.proofs.Truths.{and_first, and_second}
 use Rattle.be_handler.specs.declared.Rule.{Rule}
 use Rattle.be_handler.specs.declared.Rule.TheVariants.{Skip, Pass, Redirect}
 use Rattle.be_handler.specs.Growth.{is_there, has_owner, has_end, is_place, listed}
@@ -26,25 +29,9 @@ use Rattle.be_script.specs.Names.{are_names}
 use Rattle.be_script.specs.Routable.{IsRoutable, views_before, handlers_before, filters_before, bodies_before, can_add_view, can_add_plain, can_add_filter, can_add_body}
 use Rattle.be_script.specs.Script.{Declared}
 use Rattle.be_script.specs.Windows.{chain_of, view_lines, body_lines, declared_filter, declared_body}
-use Rattle.be_script.proofs.WorkNumbers.{and-left, and-right, through_map}
+use Rattle.be_script.proofs.WorkNumbers.{through_map}
 
 -- ---- tests
-
-pub and-both : (a b : Bool) → a ≡ true → b ≡ true → (a && b) ≡ true
-and-both true b h k = k
-and-both false b h k = h
-
-pub all-at : {X : Type 0} (p : X → Bool) (xs : List X) (k : ℕ) (x : X) → list_all p xs ≡ true → slice_get xs k ≡ Some x → p x ≡ true
-all-at p [] k x h at = cc
-all-at p (y ∷ ys) zero x h at =
-    let same : y ≡ x = cc in
-    ap p (sym same) ∙ and-left (p y) (list_all p ys) h
-all-at p (y ∷ ys) (suc k) x h at = all-at p ys k x (and-right (p y) (list_all p ys) h) at
-
-all-weaker : {X : Type 0} (p q : X → Bool) → ((x : X) → p x ≡ true → q x ≡ true) → (xs : List X) → list_all p xs ≡ true → list_all q xs ≡ true
-all-weaker p q each [] h = refl
-all-weaker p q each (x ∷ xs) h =
-    and-both (q x) (list_all q xs) (each x (and-left (p x) (list_all p xs) h)) (all-weaker p q each xs (and-right (p x) (list_all p xs) h))
 
 -- a list round one of its items
 split : {X : Type 0} (xs : List X) (k : ℕ) (x : X) → slice_get xs k ≡ Some x → (rest : List X) × (xs ≡ take k xs ++ x ∷ rest)
@@ -74,13 +61,10 @@ room most xs front rest x h e =
     let parts : length xs ≡ length front + suc (length rest) = ap length e ∙ length-append front (x ∷ rest) in
     omega arith
 
-same_number : (n : ℕ) → (n == n) ≡ true
-same_number n = eq-eqb n n refl
-
 same_target-refl : (t : Target) → same_target t t ≡ true
 same_target-refl Window = refl
-same_target-refl (View v) = same_number v
-same_target-refl (Plain h) = same_number h
+same_target-refl (View v) = eq_self v
+same_target-refl (Plain h) = eq_self h
 
 same_list-refl : (o : Option Target) → same_list o o ≡ true
 same_list-refl None = refl
@@ -94,7 +78,7 @@ window-declared d w h there =
     let below : w < n = ltb-true w n there in
     let within : w < length (range_with_len 0 n) = subst (λ k. w < k) (sym (length-range_with_len 0 n)) below in
     let same : 0 + w ≡ w = omega arith in
-    all-at (is_window_declared d) (range_with_len 0 n) w w h
+    all_at (is_window_declared d) (range_with_len 0 n) w w h
     (slice_get-get_or (range_with_len 0 n) w 0 within ∙ ap (λ k. let o : Option ℕ = Some k in o) (get_or-range_with_len 0 n w 0 below ∙ same))
 
 -- ---- views
@@ -105,7 +89,7 @@ view_below depths parent rest (Some depth) at h = slice_get_within depths parent
 
 views_behind : (depths : List ℕ) (rest : List ℕ → Bool) (o : Option ℕ) → lies_below depths o rest ≡ true → (depth : ℕ) × (rest (depths ++ (depth + 1) ∷ []) ≡ true)
 views_behind depths rest None h = cc
-views_behind depths rest (Some depth) h = (depth, and-right (nat_lt depth 8) (rest (depths ++ (depth + 1) ∷ [])) h)
+views_behind depths rest (Some depth) h = (depth, and_second (nat_lt depth 8) (rest (depths ++ (depth + 1) ∷ [])) h)
 
 parent_there : (front : List ViewLine) (line : ViewLine) (rest : List ViewLine) (depths : List ℕ) → are_views_below (front ++ line ∷ rest) depths ≡ true →
     line.parent < length depths + length front
@@ -126,13 +110,13 @@ view-fits d k line at h =
     let w = line.window in
     let lines = view_lines d w in
     let front = filter (λ other. other.window == w) (take k d.views) in
-    let kept = kept_split (λ other. other.window == w) d.views k line at (same_number w) in
+    let kept = kept_split (λ other. other.window == w) d.views k line at (eq_self w) in
     let count : length (map (λ other. let o : Option ℕ = Some other.parent in o) front) ≡ length front = length-map front (λ other. let o : Option ℕ = Some other.parent in o) in
-    let some_room : length front < 31 = room 31 lines front kept.0 line (and-left (is_at_most 31 lines) (are_views_below lines (1 ∷ [])) h) kept.1 in
+    let some_room : length front < 31 = room 31 lines front kept.0 line (and_first (is_at_most 31 lines) (are_views_below lines (1 ∷ [])) h) kept.1 in
     let below : line.parent < 1 + length front =
-    parent_there front line kept.0 (1 ∷ []) (ap (λ ls. are_views_below ls (1 ∷ [])) (sym kept.1) ∙ and-right (is_at_most 31 lines) (are_views_below lines (1 ∷ [])) h) in
+    parent_there front line kept.0 (1 ∷ []) (ap (λ ls. are_views_below ls (1 ∷ [])) (sym kept.1) ∙ and_second (is_at_most 31 lines) (are_views_below lines (1 ∷ [])) h) in
     let parents = length (chain_of (views_before d k) w).parents in
-    and-both (nat_lt line.parent parents) (nat_lt parents 32) (lt-ltb line.parent parents (omega arith)) (lt-ltb parents 32 (omega arith))
+    and_from (nat_lt line.parent parents) (nat_lt parents 32) (lt-ltb line.parent parents (omega arith)) (lt-ltb parents 32 (omega arith))
 
 -- ---- plain handlers
 
@@ -140,11 +124,11 @@ plain_at : (d : Declared) (w j : ℕ) (front : List HandlerLine) (line : Handler
     is_next d w (j + length front) line.next ≡ true
 plain_at d w j [] line rest h =
     let same : j ≡ j + 0 = omega arith in
-    ap (λ n. is_next d w n line.next) (sym same) ∙ and-left (is_next d w j line.next) (are_plain_from d w (j + 1) rest) h
+    ap (λ n. is_next d w n line.next) (sym same) ∙ and_first (is_next d w j line.next) (are_plain_from d w (j + 1) rest) h
 plain_at d w j (x ∷ front) line rest h =
     let same : j + 1 + length front ≡ j + suc (length front) = omega arith in
     ap (λ n. is_next d w n line.next) (sym same)
-    ∙ plain_at d w (j + 1) front line rest (and-right (is_next d w j x.next) (are_plain_from d w (j + 1) (front ++ line ∷ rest)) h)
+    ∙ plain_at d w (j + 1) front line rest (and_second (is_next d w j x.next) (are_plain_from d w (j + 1) (front ++ line ∷ rest)) h)
 
 next_there : (d : Declared) (w n : ℕ) (c : Chain) (next : Target) → length c.parents ≡ view_count d w → length c.nexts ≡ n → is_next d w n next ≡ true → is_there c next ≡ true
 next_there d w n c Window p q h = refl
@@ -167,7 +151,7 @@ plain-fits : (d : Declared) (k : ℕ) (line : HandlerLine) → slice_get d.handl
 plain-fits d k line at most all =
     let w = line.window in
     let front = filter (λ other. other.window == w) (take k d.handlers) in
-    let kept = kept_split (λ other. other.window == w) d.handlers k line at (same_number w) in
+    let kept = kept_split (λ other. other.window == w) d.handlers k line at (eq_self w) in
     let some_room : length front < 16 = room 16 (plain_lines d w) front kept.0 line most kept.1 in
     let c = chain_of (handlers_before d k) w in
     let views : length c.parents ≡ view_count d w = parents-count (handlers_before d k) w in
@@ -175,7 +159,7 @@ plain-fits d k line at most all =
     let same : 0 + length front ≡ length front = omega arith in
     let next : is_next d w (length front) line.next ≡ true =
     ap (λ n. is_next d w n line.next) (sym same) ∙ plain_at d w 0 front line kept.0 (ap (are_plain_from d w 0) (sym kept.1) ∙ all) in
-    and-both (is_there c line.next) (nat_lt (length c.nexts) 16) (next_there d w (length front) c line.next views count next) (lt-ltb (length c.nexts) 16 (omega arith))
+    and_from (is_there c line.next) (nat_lt (length c.nexts) 16) (next_there d w (length front) c line.next views count next) (lt-ltb (length c.nexts) 16 (omega arith))
 
 -- ---- filters
 
@@ -232,11 +216,11 @@ filter-fits d k line at list rule most =
     let views : length c.parents ≡ view_count d w = parents-count (filters_before d k) w in
     let plains : length c.nexts ≡ plain_count d w = nexts-count (filters_before d k) w in
     let test : FilterLine → Bool = λ other. other.window == w && same_list other.list line.list in
-    let kept = kept_split test d.filters k line at (and-both (w == w) (same_list line.list line.list) (same_number w) (same_list-refl line.list)) in
+    let kept = kept_split test d.filters k line at (and_from (w == w) (same_list line.list line.list) (eq_self w) (same_list-refl line.list)) in
     let some_room : length (filter test (take k d.filters)) < 32 = room 32 (filter test d.filters) (filter test (take k d.filters)) kept.0 line most kept.1 in
     let count : length (listed c line.list) ≡ length (filter test (take k d.filters)) = listed-is d k w line.list in
-    and-both (is_place c line.list line.rule) (nat_lt (length (listed c line.list)) 32)
-    (and-both (has_owner c line.list) (has_end c line.rule) (owner_there d w c line.list views plains list) (end_there d w c line.rule views plains rule))
+    and_from (is_place c line.list line.rule) (nat_lt (length (listed c line.list)) 32)
+    (and_from (has_owner c line.list) (has_end c line.rule) (owner_there d w c line.list views plains list) (end_there d w c line.rule views plains rule))
     (lt-ltb (length (listed c line.list)) 32 (omega arith))
 
 -- ---- bodies
@@ -248,10 +232,6 @@ one_kept false x kept any rest h = rest h
 none_kept : {X : Type 0} (p : X → Bool) (xs : List X) → length (filter p xs) < 1 → list_any p xs ≡ false
 none_kept p [] h = refl
 none_kept p (x ∷ xs) h = one_kept (p x) x (filter p xs) (list_any p xs) (none_kept p xs) h
-
-pub not-false : (b : Bool) → b ≡ false → not b ≡ true
-not-false true h = sym h
-not-false false h = refl
 
 pub bodies-count : (d : Declared) (w : ℕ) → length (chain_of d w).bodies ≡ length (body_lines d w)
 unfolding chain_of
@@ -270,18 +250,18 @@ body-fits d k line at handler once most =
     let c = chain_of (bodies_before d k) w in
     let front = body_lines (bodies_before d k) w in
     let test : BodyLine → Bool = λ other. same_target other.target line.target && other.what == line.what in
-    let kept = kept_split (λ other. other.window == w) d.bodies k line at (same_number w) in
+    let kept = kept_split (λ other. other.window == w) d.bodies k line at (eq_self w) in
     let views : length c.parents ≡ view_count d w = parents-count (bodies_before d k) w in
     let plains : length c.nexts ≡ plain_count d w = nexts-count (bodies_before d k) w in
     let count : length c.bodies ≡ length front = bodies-count (bodies_before d k) w in
     let some_room : length front < 512 = room 512 (body_lines d w) front kept.0 line most kept.1 in
     let tests : filter test (body_lines d w) ≡ filter test front ++ line ∷ filter test kept.0 =
     ap (filter test) kept.1 ∙ kept_with test front line kept.0
-    (and-both (same_target line.target line.target) (line.what == line.what) (same_target-refl line.target) (same_number line.what)) in
+    (and_from (same_target line.target line.target) (line.what == line.what) (same_target-refl line.target) (eq_self line.what)) in
     let alone : length (filter test front) < 1 = room 1 (filter test (body_lines d w)) (filter test front) (filter test kept.0) line once tests in
     let apart : has_body c line.what line.target ≡ false = has_body-any (bodies_before d k) w line.target line.what ∙ none_kept test front alone in
-    and-both (is_there c line.target && not (has_body c line.what line.target)) (nat_lt (length c.bodies) 512)
-    (and-both (is_there c line.target) (not (has_body c line.what line.target)) (there d w c line.target views plains handler) (not-false (has_body c line.what line.target) apart))
+    and_from (is_there c line.target && not (has_body c line.what line.target)) (nat_lt (length c.bodies) 512)
+    (and_from (is_there c line.target) (not (has_body c line.what line.target)) (there d w c line.target views plains handler) (not_from_false (has_body c line.what line.target) apart))
     (lt-ltb (length c.bodies) 512 (omega arith))
 
 -- ---- what the tests of a line say
@@ -291,21 +271,21 @@ are_views-of d w h =
     let a = are_views (view_lines d w) in
     let b = is_at_most 16 (plain_lines d w) in
     let c = are_plain_from d w 0 (plain_lines d w) in
-    and-left a b (and-left (a && b) c (and-left ((a && b) && c) (are_names (map (λ line. line.name) (view_lines d w) ++ map (λ line. line.name) (plain_lines d w))) h))
+    and_first a b (and_first (a && b) c (and_first ((a && b) && c) (are_names (map (λ line. line.name) (view_lines d w) ++ map (λ line. line.name) (plain_lines d w))) h))
 
 plain_count-of : (d : Declared) (w : ℕ) → are_handlers d w ≡ true → is_at_most 16 (plain_lines d w) ≡ true
 plain_count-of d w h =
     let a = are_views (view_lines d w) in
     let b = is_at_most 16 (plain_lines d w) in
     let c = are_plain_from d w 0 (plain_lines d w) in
-    and-right a b (and-left (a && b) c (and-left ((a && b) && c) (are_names (map (λ line. line.name) (view_lines d w) ++ map (λ line. line.name) (plain_lines d w))) h))
+    and_second a b (and_first (a && b) c (and_first ((a && b) && c) (are_names (map (λ line. line.name) (view_lines d w) ++ map (λ line. line.name) (plain_lines d w))) h))
 
 are_plain-of : (d : Declared) (w : ℕ) → are_handlers d w ≡ true → are_plain_from d w 0 (plain_lines d w) ≡ true
 are_plain-of d w h =
     let a = are_views (view_lines d w) in
     let b = is_at_most 16 (plain_lines d w) in
     let c = are_plain_from d w 0 (plain_lines d w) in
-    and-right (a && b) c (and-left ((a && b) && c) (are_names (map (λ line. line.name) (view_lines d w) ++ map (λ line. line.name) (plain_lines d w))) h)
+    and_second (a && b) c (and_first ((a && b) && c) (are_names (map (λ line. line.name) (view_lines d w) ++ map (λ line. line.name) (plain_lines d w))) h)
 
 filter-parts : (d : Declared) (line : FilterLine) → is_filter_line d line ≡ true →
     (is_window d line.window ≡ true) × (is_list d line.window line.list ≡ true) × (is_rule d line.window line.rule ≡ true)
@@ -316,9 +296,9 @@ filter-parts d line h =
     let c = is_filter_word line.what in
     let e = is_rule d line.window line.rule in
     let f = is_at_most 32 (filter (λ other. other.window == line.window && same_list other.list line.list) d.filters) in
-    let rules = and-left (((a && b) && c) && e) f h in
-    let lists = and-left (a && b) c (and-left ((a && b) && c) e rules) in
-    (and-left a b lists, and-right a b lists, and-right ((a && b) && c) e rules, and-right (((a && b) && c) && e) f h)
+    let rules = and_first (((a && b) && c) && e) f h in
+    let lists = and_first (a && b) c (and_first ((a && b) && c) e rules) in
+    (and_first a b lists, and_second a b lists, and_second ((a && b) && c) e rules, and_second (((a && b) && c) && e) f h)
 
 body-parts : (d : Declared) (line : BodyLine) → is_body_line d line ≡ true →
     (is_window d line.window ≡ true) × (is_handler_of d line.window line.target ≡ true)
@@ -330,8 +310,8 @@ body-parts d line h =
     let e = not (is_reserved line.what) in
     let f = is_body_program d line.window line.program in
     let g = is_at_most 1 (filter (λ other. same_target other.target line.target && other.what == line.what) (body_lines d line.window)) in
-    let front = and-left (a && b) c (and-left ((a && b) && c) e (and-left (((a && b) && c) && e) f (and-left ((((a && b) && c) && e) && f) g h))) in
-    (and-left a b front, and-right a b front, and-right ((((a && b) && c) && e) && f) g h)
+    let front = and_first (a && b) c (and_first ((a && b) && c) e (and_first (((a && b) && c) && e) f (and_first ((((a && b) && c) && e) && f) g h))) in
+    (and_first a b front, and_second a b front, and_second ((((a && b) && c) && e) && f) g h)
 
 draw-window : (d : Declared) (line : DrawLine) → is_draw_line d line ≡ true → is_window d line.window ≡ true
 draw-window d line h =
@@ -339,7 +319,7 @@ draw-window d line h =
     let b = nat_lt line.view (view_count d line.window) in
     let c = is_draw_program d line.window line.program in
     let e = is_at_most 1 (filter (λ other. other.window == line.window && other.view == line.view) d.draws) in
-    and-left a b (and-left (a && b) c (and-left ((a && b) && c) e h))
+    and_first a b (and_first (a && b) c (and_first ((a && b) && c) e h))
 
 -- ---- all of a script
 
@@ -352,23 +332,23 @@ routable-from d count views handlers filters bodies draws declared = record {
   windows = omega arith;
   views = λ k line at.
       let w = line.window in
-      let here : is_window d w ≡ true = all-at (λ line. is_window d line.window) d.views k line views at in
-      let all = and-left (are_handlers d w) (is_at_most 512 (body_lines d w)) (window-declared d w declared here) in
-      and-both (is_window d w) (can_add_view (chain_of (views_before d k) w) line.parent) here (view-fits d k line at (are_views-of d w all));
+      let here : is_window d w ≡ true = all_at (λ line. is_window d line.window) d.views k line views at in
+      let all = and_first (are_handlers d w) (is_at_most 512 (body_lines d w)) (window-declared d w declared here) in
+      and_from (is_window d w) (can_add_view (chain_of (views_before d k) w) line.parent) here (view-fits d k line at (are_views-of d w all));
   handlers = λ k line at.
       let w = line.window in
-      let here : is_window d w ≡ true = all-at (λ line. is_window d line.window) d.handlers k line handlers at in
-      let all = and-left (are_handlers d w) (is_at_most 512 (body_lines d w)) (window-declared d w declared here) in
-      and-both (is_window d w) (can_add_plain (chain_of (handlers_before d k) w) line.next) here (plain-fits d k line at (plain_count-of d w all) (are_plain-of d w all));
+      let here : is_window d w ≡ true = all_at (λ line. is_window d line.window) d.handlers k line handlers at in
+      let all = and_first (are_handlers d w) (is_at_most 512 (body_lines d w)) (window-declared d w declared here) in
+      and_from (is_window d w) (can_add_plain (chain_of (handlers_before d k) w) line.next) here (plain-fits d k line at (plain_count-of d w all) (are_plain-of d w all));
   filters = λ k line at.
-      let f = filter-parts d line (all-at (is_filter_line d) d.filters k line filters at) in
-      and-both (is_window d line.window) (can_add_filter (chain_of (filters_before d k) line.window) (declared_filter line)) f.0 (filter-fits d k line at f.1 f.2 f.3);
+      let f = filter-parts d line (all_at (is_filter_line d) d.filters k line filters at) in
+      and_from (is_window d line.window) (can_add_filter (chain_of (filters_before d k) line.window) (declared_filter line)) f.0 (filter-fits d k line at f.1 f.2 f.3);
   bodies = λ k line at.
       let w = line.window in
-      let b = body-parts d line (all-at (is_body_line d) d.bodies k line bodies at) in
-      and-both (is_window d w) (can_add_body (chain_of (bodies_before d k) w) (declared_body line)) b.0
-      (body-fits d k line at b.1 b.2 (and-right (are_handlers d w) (is_at_most 512 (body_lines d w)) (window-declared d w declared b.0)));
-  draws = all-weaker (is_draw_line d) (λ line. is_window d line.window) (draw-window d) d.draws draws;
+      let b = body-parts d line (all_at (is_body_line d) d.bodies k line bodies at) in
+      and_from (is_window d w) (can_add_body (chain_of (bodies_before d k) w) (declared_body line)) b.0
+      (body-fits d k line at b.1 b.2 (and_second (are_handlers d w) (is_at_most 512 (body_lines d w)) (window-declared d w declared b.0)));
+  draws = all_weaker (is_draw_line d) (λ line. is_window d line.window) (draw-window d) d.draws draws;
 }
 
 pub routable : (d : Declared) → IsWithinLimits d → IsRoutable d

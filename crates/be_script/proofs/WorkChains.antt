@@ -1,11 +1,14 @@
 -- A window's chain grows with the lines of its window.
-use Rattle.std.proofs.Common.{◌≡◌, ℕ, ◌+◌, ◌<◌, ◌==◌, Bool, true, false, cond, ◌&&◌, List, [], ◌∷◌, ◌++◌, length, take, filter, map, Some, None, get_or, set, inl, inr, refl, ap, sym, ◌∙◌, subst, arith, ne_eqb, eq-eqb, get_or-set_same, get_or-set_other, length-set, ltb-true, not, replicate}
+use Rattle.std.proofs.Common.{◌≡◌, ℕ, ◌+◌, ◌<◌, ◌==◌, Bool, true, false, cond, ◌&&◌, List, [], ◌∷◌, ◌++◌, length, take, filter, map, Some, None, get_or, set, inl, inr, refl, ap, sym, ◌∙◌, subst, arith, ne_eqb, get_or-set_same, get_or-set_other, length-set, ltb-true, not, replicate}
 use Rattle.std.proofs.lemmas.Bool.{cases_eq}
 use Rattle.std.specs.List.{list_any}
 use Rattle.std.proofs.lemmas.List.{map-append, take_more, length-take-le, length-replicate, get_or-replicate}
 use Rattle.std.proofs.lemmas.List.Elements.{filter_more}
 use Rattle.std.proofs.lemmas.Option.{slice_get_read, get_or_from_slice_get, slice_get-get_or}
 use Rattle.std.specs.Prelude.{nat_lt, slice_get}
+use Rattle.be_facts.proofs.Truths.{not_true, and_first, and_second}
+use Rattle.be_facts.proofs.Numbers.{eq_self}
+use Rattle.be_facts.proofs.Lists.{append_none}
 use Rattle.be_handler.specs.Growth.{with_view, with_plain, with_filter, with_new_body}
 use Rattle.be_handler.specs.Routes.{Chain, has_body}
 use Rattle.be_handler.specs.Growth.{is_there}
@@ -21,7 +24,7 @@ use Rattle.be_script.specs.declared.costs.body_numbers.BodyNumbers.{BodyNumbers}
 use Rattle.be_script.specs.BodyNumbers.{HasNew}
 use Rattle.be_script.specs.Script.{Declared}
 use Rattle.be_script.specs.Windows.{chain_of, declared_filter, declared_body}
-use Rattle.be_script.proofs.WorkNumbers.{and-left, and-right, chain-bodies, numbers-more}
+use Rattle.be_script.proofs.WorkNumbers.{chain-bodies, numbers-more}
 
 -- ---- one more line, of this window or another one
 
@@ -37,10 +40,6 @@ kept_more p f xs i x h e =
     ∙ map-append f (filter p (take i xs)) (cond (p x) (x ∷ []) [])
     ∙ ap (λ ys. map f (filter p (take i xs)) ++ ys) (kept_one f (p x) x)
 
-append-none : {X : Type 0} (xs : List X) → xs ++ [] ≡ xs
-append-none [] = refl
-append-none (x ∷ xs) = ap (λ ys. x ∷ ys) (append-none xs)
-
 same_more : {X Y : Type 0} (p : X → Bool) (f : X → Y) (xs : List X) (i : ℕ) (x : X) → i < length xs → x ≡ get_or xs i x → p x ≡ true →
     map f (filter p (take (i + 1) xs)) ≡ map f (filter p (take i xs)) ++ f x ∷ []
 same_more p f xs i x h e hit = kept_more p f xs i x h e ∙ ap (λ b. map f (filter p (take i xs)) ++ cond b (f x ∷ []) []) hit
@@ -48,19 +47,16 @@ same_more p f xs i x h e hit = kept_more p f xs i x h e ∙ ap (λ b. map f (fil
 other_more : {X Y : Type 0} (p : X → Bool) (f : X → Y) (xs : List X) (i : ℕ) (x : X) → i < length xs → x ≡ get_or xs i x → p x ≡ false →
     map f (filter p (take (i + 1) xs)) ≡ map f (filter p (take i xs))
 other_more p f xs i x h e apart =
-    kept_more p f xs i x h e ∙ ap (λ b. map f (filter p (take i xs)) ++ cond b (f x ∷ []) []) apart ∙ append-none (map f (filter p (take i xs)))
+    kept_more p f xs i x h e ∙ ap (λ b. map f (filter p (take i xs)) ++ cond b (f x ∷ []) []) apart ∙ append_none (map f (filter p (take i xs)))
 
 -- ---- chains
-
-same_window : (n : ℕ) → (n == n) ≡ true
-same_window n = eq-eqb n n refl
 
 pub view-here : (d : Declared) (i : ℕ) (line : ViewLine) → i < length d.views → line ≡ get_or d.views i line →
     chain_of (views_before d (i + 1)) line.window ≡ with_view (chain_of (views_before d i) line.window) (Some line.parent)
 unfolding chain_of
 view-here d i line h e =
     ap (λ parents. let c : Chain = record { parents = None ∷ parents; nexts = []; filters = []; bodies = [] } in c)
-    (same_more (λ other. other.window == line.window) (λ view. Some view.parent) d.views i line h e (same_window line.window))
+    (same_more (λ other. other.window == line.window) (λ view. Some view.parent) d.views i line h e (eq_self line.window))
 
 pub view-other : (d : Declared) (i w : ℕ) (line : ViewLine) → i < length d.views → line ≡ get_or d.views i line → (line.window == w) ≡ false →
     chain_of (views_before d (i + 1)) w ≡ chain_of (views_before d i) w
@@ -74,7 +70,7 @@ pub plain-here : (d : Declared) (i : ℕ) (line : HandlerLine) → i < length d.
 unfolding chain_of
 plain-here d i line h e =
     ap (λ nexts. record (chain_of (handlers_before d i) line.window) { nexts = nexts })
-    (same_more (λ other. other.window == line.window) (λ plain. plain.next) d.handlers i line h e (same_window line.window))
+    (same_more (λ other. other.window == line.window) (λ plain. plain.next) d.handlers i line h e (eq_self line.window))
 
 pub plain-other : (d : Declared) (i w : ℕ) (line : HandlerLine) → i < length d.handlers → line ≡ get_or d.handlers i line → (line.window == w) ≡ false →
     chain_of (handlers_before d (i + 1)) w ≡ chain_of (handlers_before d i) w
@@ -88,7 +84,7 @@ pub filter-here : (d : Declared) (i : ℕ) (line : FilterLine) → i < length d.
 unfolding chain_of
 filter-here d i line h e =
     ap (λ filters. record (chain_of (filters_before d i) line.window) { filters = filters })
-    (same_more (λ other. other.window == line.window) declared_filter d.filters i line h e (same_window line.window))
+    (same_more (λ other. other.window == line.window) declared_filter d.filters i line h e (eq_self line.window))
 
 pub filter-other : (d : Declared) (i w : ℕ) (line : FilterLine) → i < length d.filters → line ≡ get_or d.filters i line → (line.window == w) ≡ false →
     chain_of (filters_before d (i + 1)) w ≡ chain_of (filters_before d i) w
@@ -102,7 +98,7 @@ pub body-here : (d : Declared) (i : ℕ) (line : BodyLine) → i < length d.bodi
 unfolding chain_of
 body-here d i line h e =
     ap (λ bodies. record (chain_of (bodies_before d i) line.window) { bodies = bodies })
-    (same_more (λ other. other.window == line.window) declared_body d.bodies i line h e (same_window line.window))
+    (same_more (λ other. other.window == line.window) declared_body d.bodies i line h e (eq_self line.window))
 
 pub body-other : (d : Declared) (i w : ℕ) (line : BodyLine) → i < length d.bodies → line ≡ get_or d.bodies i line → (line.window == w) ≡ false →
     chain_of (bodies_before d (i + 1)) w ≡ chain_of (bodies_before d i) w
@@ -141,7 +137,7 @@ item xs i x h = sym (get_or_from_slice_get xs i (get_or xs i x) (get_or xs i x) 
 
 window_within : (d : Declared) (windows : List Handlers) (w k : ℕ) (b : Bool) → length windows ≡ length d.windows → k ≡ w → (is_window d w && b) ≡ true → k < length windows
 window_within d windows w k b count at h =
-    let below : w < length d.windows = ltb-true w (length d.windows) (and-left (is_window d w) b h) in omega arith
+    let below : w < length d.windows = ltb-true w (length d.windows) (and_first (is_window d w) b h) in omega arith
 
 -- ---- views
 
@@ -159,7 +155,7 @@ pub view-fits : (d : Declared) (windows : List Handlers) (items : List ViewLine)
     items ≡ d.views → i < length items → line ≡ get_or items i line → k ≡ line.window → can_add_view (get_or windows k any).chain line.parent ≡ true
 view-fits d windows items i k line any routable has e h is at =
     ap (λ (x : Handlers). can_add_view x.chain line.parent) (view-at d windows items i k line any routable has e h is at)
-    ∙ and-right (is_window d line.window) (can_add_view (chain_of (views_before d i) line.window) line.parent) (routable.views i line (read items d.views i line e h is).2)
+    ∙ and_second (is_window d line.window) (can_add_view (chain_of (views_before d i) line.window) line.parent) (routable.views i line (read items d.views i line e h is).2)
 
 pub view-step : (d : Declared) (windows : List Handlers) (items : List ViewLine) (i k : ℕ) (line : ViewLine) (any new : Handlers) → IsRoutable d → HasChains (views_before d i) windows →
     items ≡ d.views → i < length items → line ≡ get_or items i line → k ≡ line.window →
@@ -187,7 +183,7 @@ pub plain-fits : (d : Declared) (windows : List Handlers) (items : List HandlerL
     items ≡ d.handlers → i < length items → line ≡ get_or items i line → k ≡ line.window → can_add_plain (get_or windows k any).chain line.next ≡ true
 plain-fits d windows items i k line any routable has e h is at =
     ap (λ (x : Handlers). can_add_plain x.chain line.next) (plain-at d windows items i k line any routable has e h is at)
-    ∙ and-right (is_window d line.window) (can_add_plain (chain_of (handlers_before d i) line.window) line.next) (routable.handlers i line (read items d.handlers i line e h is).2)
+    ∙ and_second (is_window d line.window) (can_add_plain (chain_of (handlers_before d i) line.window) line.next) (routable.handlers i line (read items d.handlers i line e h is).2)
 
 pub plain-step : (d : Declared) (windows : List Handlers) (items : List HandlerLine) (i k : ℕ) (line : HandlerLine) (any new : Handlers) → IsRoutable d → HasChains (handlers_before d i) windows →
     items ≡ d.handlers → i < length items → line ≡ get_or items i line → k ≡ line.window →
@@ -215,7 +211,7 @@ pub filter-fits : (d : Declared) (windows : List Handlers) (items : List FilterL
     items ≡ d.filters → i < length items → line ≡ get_or items i line → k ≡ line.window → can_add_filter (get_or windows k any).chain (declared_filter line) ≡ true
 filter-fits d windows items i k line any routable has e h is at =
     ap (λ (x : Handlers). can_add_filter x.chain (declared_filter line)) (filter-at d windows items i k line any routable has e h is at)
-    ∙ and-right (is_window d line.window) (can_add_filter (chain_of (filters_before d i) line.window) (declared_filter line)) (routable.filters i line (read items d.filters i line e h is).2)
+    ∙ and_second (is_window d line.window) (can_add_filter (chain_of (filters_before d i) line.window) (declared_filter line)) (routable.filters i line (read items d.filters i line e h is).2)
 
 pub filter-step : (d : Declared) (windows : List Handlers) (items : List FilterLine) (i k : ℕ) (line : FilterLine) (any new : Handlers) → IsRoutable d → HasChains (filters_before d i) windows →
     items ≡ d.filters → i < length items → line ≡ get_or items i line → k ≡ line.window →
@@ -243,7 +239,7 @@ pub body-fits : (d : Declared) (windows : List Handlers) (items : List BodyLine)
     items ≡ d.bodies → i < length items → line ≡ get_or items i line → k ≡ line.window → can_add_body (get_or windows k any).chain (declared_body line) ≡ true
 body-fits d windows items i k line any routable has e h is at =
     ap (λ (x : Handlers). can_add_body x.chain (declared_body line)) (body-at d windows items i k line any routable has e h is at)
-    ∙ and-right (is_window d line.window) (can_add_body (chain_of (bodies_before d i) line.window) (declared_body line)) (routable.bodies i line (read items d.bodies i line e h is).2)
+    ∙ and_second (is_window d line.window) (can_add_body (chain_of (bodies_before d i) line.window) (declared_body line)) (routable.bodies i line (read items d.bodies i line e h is).2)
 
 pub body-step : (d : Declared) (windows : List Handlers) (items : List BodyLine) (i k : ℕ) (line : BodyLine) (any new : Handlers) → IsRoutable d → HasChains (bodies_before d i) windows →
     items ≡ d.bodies → i < length items → line ≡ get_or items i line → k ≡ line.window →
@@ -257,19 +253,15 @@ body-step d windows items i k line any new routable has e h is at made =
 
 -- ---- the numbers of the bodies
 
-not-true : (b : Bool) → not b ≡ true → b ≡ false
-not-true true h = sym h
-not-true false h = refl
-
 -- no body before this one is for its handler and its word
 body-apart : (d : Declared) (i : ℕ) (line : BodyLine) → can_add_body (chain_of (bodies_before d i) line.window) (declared_body line) ≡ true →
     list_any (is_body_at line.window line.target line.what) (take i d.bodies) ≡ false
 unfolding chain_of
 body-apart d i line h =
     let c = chain_of (bodies_before d i) line.window in
-    let front = and-left (is_there c line.target && not (has_body c line.what line.target)) (nat_lt (length c.bodies) 512) h in
+    let front = and_first (is_there c line.target && not (has_body c line.what line.target)) (nat_lt (length c.bodies) 512) h in
     sym (chain-bodies line.window line.target line.what (take i d.bodies))
-    ∙ not-true (has_body c line.what line.target) (and-right (is_there c line.target) (not (has_body c line.what line.target)) front)
+    ∙ not_true (has_body c line.what line.target) (and_second (is_there c line.target) (not (has_body c line.what line.target)) front)
 
 pub numbers-step : (d : Declared) (items : List BodyLine) (i : ℕ) (line : BodyLine) (old new : BodyNumbers) → IsRoutable d → items ≡ d.bodies →
     i < length items → line ≡ get_or items i line → HasNumbers (take i d.bodies) old → HasNew old new line.window line.target line.what i →
@@ -278,7 +270,7 @@ numbers-step d items i line old new routable e h is has made =
     let r = read items d.bodies i line e h is in
     let all : take (i + 1) d.bodies ≡ take i d.bodies ++ line ∷ [] = take_more d.bodies i line r.0 ∙ ap (λ x. take i d.bodies ++ x ∷ []) (sym r.1) in
     let count : length (take i d.bodies) ≡ i = length-take-le i d.bodies (omega (arith, r.0)) in
-    let fits = and-right (is_window d line.window) (can_add_body (chain_of (bodies_before d i) line.window) (declared_body line)) (routable.bodies i line r.2) in
+    let fits = and_second (is_window d line.window) (can_add_body (chain_of (bodies_before d i) line.window) (declared_body line)) (routable.bodies i line r.2) in
     subst (λ (bodies : List BodyLine). HasNumbers bodies new) (sym all)
     (numbers-more (take i d.bodies) line old new has (subst (λ (n : ℕ). HasNew old new line.window line.target line.what n) (sym count) made) (body-apart d i line fits))
 

@@ -6,6 +6,7 @@ use Rattle.std.proofs.lemmas.Grind.{flat_map-append}
 use Rattle.std.proofs.lemmas.List.{length-map, map-append, append-nil}
 use Rattle.std.proofs.lemmas.List.Sums.{fold-append}
 use Rattle.std.proofs.lemmas.Option.{slice_get-get_or}
+use Rattle.be_facts.proofs.Lists.{range_more}
 use Rattle.be_message.specs.declared.target.Target.{Target}
 use Rattle.be_message.specs.declared.target.Target.TheVariants.{Window, View}
 use Rattle.be_message.specs.Words.{mouse_down, mouse_up, mouse_moved, key_down}
@@ -37,12 +38,6 @@ greatest-from a (x ∷ xs) =
 greatest-append : (xs ys : List ℕ) → greatest (xs ++ ys) ≡ max (greatest xs) (greatest ys)
 greatest-append xs ys = fold-append max 0 xs ys ∙ greatest-from (greatest xs) ys
 
-range-more : (a n : ℕ) → range_with_len a (suc n) ≡ range_with_len a n ++ (a + n) ∷ []
-range-more a zero = ap (λ k. k ∷ []) (omega arith)
-range-more a (suc n) =
-    let at : (a + 1) + n ≡ a + suc n = omega arith in
-    ap (λ xs. a ∷ xs) (range-more (a + 1) n ∙ ap (λ k. range_with_len (a + 1) n ++ k ∷ []) at)
-
 -- ---- a window and its views
 
 targets : ℕ → List Target
@@ -52,7 +47,7 @@ targets-more : (views : ℕ) → targets (suc views) ≡ targets views ++ View v
 unfolding targets
 targets-more views =
     let at : 0 + views ≡ views = omega arith in
-    ap (λ xs. Window ∷ xs) (ap (map View) (range-more 0 views ∙ ap (λ k. range_with_len 0 views ++ k ∷ []) at) ∙ map-append View (range_with_len 0 views) (views ∷ []))
+    ap (λ xs. Window ∷ xs) (ap (map View) (range_more 0 views ∙ ap (λ k. range_with_len 0 views ++ k ∷ []) at) ∙ map-append View (range_with_len 0 views) (views ∷ []))
 
 most-views : (number : ℕ → Target → ℕ → Option ℕ) (costs : List ℕ) (what w : ℕ) (message : ℕ → Target → ℕ → ℕ) →
     ((v : ℕ) (t : Target) (word : ℕ) → limited (table_cost costs (number v t word)) ≡ limited (message v t word)) →
@@ -98,7 +93,7 @@ most-windows d routes costs what message has same (suc n) h =
     (most-windows d routes costs what message has same n (omega arith))
     (most-views (routed_number routes) costs what n message same views
     ∙ ap (λ k. limited (greatest (map (λ t. message n t what) (targets k)))) (views-are d routes n has (omega arith)))
-    ∙ ap limited (sym (ap (λ ws. greatest (flat_map (at_window d message what) ws)) (range-more 0 n ∙ ap (λ k. range_with_len 0 n ++ k ∷ []) at)
+    ∙ ap limited (sym (ap (λ ws. greatest (flat_map (at_window d message what) ws)) (range_more 0 n ∙ ap (λ k. range_with_len 0 n ++ k ∷ []) at)
     ∙ ap greatest (flat_map-append (at_window d message what) (range_with_len 0 n) (n ∷ []))
     ∙ greatest-append (flat_map (at_window d message what) (range_with_len 0 n)) (here ++ [])
     ∙ ap (λ xs. max front (greatest xs)) (append-nil here)))

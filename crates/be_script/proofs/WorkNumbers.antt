@@ -1,11 +1,11 @@
 -- The number of a body is its place.
-use Rattle.std.proofs.Common.{◌≡◌, ℕ, suc, ◌+◌, ◌<◌, ◌==◌, Bool, true, false, cond, ◌&&◌, ◌||◌, List, [], ◌∷◌, ◌++◌, length, filter, map, Option, Some, None, refl, ap, sym, ◌∙◌, subst, arith, eqb-true, ne_eqb, ltb-true, add-zero}
-use Rattle.std.specs.Prelude.{slice_get, find, nat_lt}
+use Rattle.std.proofs.Common.{◌≡◌, ℕ, suc, ◌+◌, ◌==◌, Bool, true, false, cond, ◌&&◌, ◌||◌, List, [], ◌∷◌, ◌++◌, length, filter, map, Option, Some, None, refl, ap, sym, ◌∙◌, subst, arith, eqb-true, add-zero}
+use Rattle.std.specs.Prelude.{slice_get, find}
 use Rattle.std.specs.BTreeMap.{BTreeMap, get, Updates}
-use Rattle.std.specs.declared.cmp.Ordering.{Ordering}
-use Rattle.std.specs.declared.cmp.Ordering.TheVariants.{Less, Equal, Greater}
 use Rattle.std.specs.Ordering.{is_eq, nat_cmp, ordering_then}
 use Rattle.std.specs.List.{position_from, list_any}
+use Rattle.be_facts.proofs.Truths.{and_regroup, and_second, and_first}
+use Rattle.be_facts.proofs.Orderings.{is_eq_then, is_eq_nat_cmp}
 use Rattle.be_handler.specs.Routes.{same_target}
 use Rattle.be_message.specs.declared.target.Target.{Target}
 use Rattle.be_message.specs.declared.target.Target.TheVariants.{Window, View, Plain}
@@ -14,15 +14,6 @@ use Rattle.be_script.specs.declared.costs.body_numbers.BodyNumbers.{BodyNumbers}
 use Rattle.be_script.specs.BodyNumbers.{pair_cmp, triple_cmp, HasNew}
 use Rattle.be_script.specs.Routes.{is_body_at, HasNumbers}
 use Rattle.be_script.specs.Windows.{is_body_of, declared_body}
-
-pub and-left : (a b : Bool) → (a && b) ≡ true → a ≡ true
-and-left true b h = refl
-and-left false b h = h
-
-pub and-right : (a b : Bool) → (a && b) ≡ true → b ≡ true
-and-right true b h = h
-and-right false true h = refl
-and-right false false h = h
 
 pub same_target-true : (a b : Target) → same_target a b ≡ true → a ≡ b
 same_target-true Window Window h = refl
@@ -37,21 +28,8 @@ same_target-true (Plain v) (Plain u) h = ap Plain (eqb-true v u h)
 
 -- ---- keys
 
-same_place : (less same : Bool) → (less ≡ true → same ≡ false) → is_eq (cond less Less (cond same Equal Greater)) ≡ same
-same_place true same h = sym (h refl)
-same_place false true h = refl
-same_place false false h = refl
-
-is_eq-nat_cmp : (a b : ℕ) → is_eq (nat_cmp a b) ≡ (a == b)
-is_eq-nat_cmp a b = same_place (nat_lt a b) (a == b) (λ h. ne_eqb a b (λ e. let below : a < b = ltb-true a b h in absurd (omega arith)))
-
-is_eq-then : (a b : Ordering) → is_eq (ordering_then a b) ≡ (is_eq a && is_eq b)
-is_eq-then Less b = refl
-is_eq-then Equal b = refl
-is_eq-then Greater b = refl
-
 pair-test : (w a v b : ℕ) → is_eq (pair_cmp (w, a) (v, b)) ≡ ((w == v && true) && a == b)
-pair-test w a v b = is_eq-then (nat_cmp w v) (nat_cmp a b) ∙ rw (is_eq-nat_cmp w v, is_eq-nat_cmp a b) (plus_true (w == v) (a == b))
+pair-test w a v b = is_eq_then (nat_cmp w v) (nat_cmp a b) ∙ rw (is_eq_nat_cmp w v, is_eq_nat_cmp a b) (plus_true (w == v) (a == b))
   where
     plus_true : (x y : Bool) → (x && y) ≡ ((x && true) && y)
     plus_true true y = refl
@@ -59,8 +37,8 @@ pair-test w a v b = is_eq-then (nat_cmp w v) (nat_cmp a b) ∙ rw (is_eq-nat_cmp
 
 triple-test : (w k a v l b : ℕ) → is_eq (triple_cmp (w, k, a) (v, l, b)) ≡ ((w == v && k == l) && a == b)
 triple-test w k a v l b =
-    is_eq-then (ordering_then (nat_cmp w v) (nat_cmp k l)) (nat_cmp a b)
-    ∙ rw (is_eq-then (nat_cmp w v) (nat_cmp k l), is_eq-nat_cmp w v, is_eq-nat_cmp k l, is_eq-nat_cmp a b) refl
+    is_eq_then (ordering_then (nat_cmp w v) (nat_cmp k l)) (nat_cmp a b)
+    ∙ rw (is_eq_then (nat_cmp w v) (nat_cmp k l), is_eq_nat_cmp w v, is_eq_nat_cmp k l, is_eq_nat_cmp a b) refl
 
 not_there : (a b : Bool) (new old : Option ℕ) → old ≡ cond ((a && false) && b) new old
 not_there true b new old = refl
@@ -104,10 +82,6 @@ none : (b : Bool) (any : Bool) (here : Option ℕ) (rest : Option ℕ) → (b ||
 none true any here rest h k = cc
 none false any here rest h k = k h
 
-or-right : (a b : Bool) → (a || b) ≡ false → b ≡ false
-or-right true b h = cc
-or-right false b h = h
-
 position-none : {X : Type 0} (p : X → Bool) (a : ℕ) (xs : List X) → list_any p xs ≡ false → position_from p a xs ≡ None
 position-none p a [] h = refl
 position-none p a (x ∷ xs) h = none (p x) (list_any p xs) (Some a) (position_from p (a + 1) xs) h (position-none p (a + 1) xs)
@@ -123,10 +97,10 @@ last false false found k h e = e refl
 same_body : (w : ℕ) (t : Target) (what : ℕ) (line : BodyLine) (bodies : List BodyLine) → is_body_at w t what line ≡ true →
     list_any (is_body_at line.window line.target line.what) bodies ≡ false → list_any (is_body_at w t what) bodies ≡ false
 same_body w t what line bodies h e =
-    let front : (line.window == w && same_target line.target t) ≡ true = and-left (line.window == w && same_target line.target t) (line.what == what) h in
-    let a : line.window ≡ w = eqb-true line.window w (and-left (line.window == w) (same_target line.target t) front) in
-    let b : line.target ≡ t = same_target-true line.target t (and-right (line.window == w) (same_target line.target t) front) in
-    let c : line.what ≡ what = eqb-true line.what what (and-right (line.window == w && same_target line.target t) (line.what == what) h) in
+    let front : (line.window == w && same_target line.target t) ≡ true = and_first (line.window == w && same_target line.target t) (line.what == what) h in
+    let a : line.window ≡ w = eqb-true line.window w (and_first (line.window == w) (same_target line.target t) front) in
+    let b : line.target ≡ t = same_target-true line.target t (and_second (line.window == w) (same_target line.target t) front) in
+    let c : line.what ≡ what = eqb-true line.what what (and_second (line.window == w && same_target line.target t) (line.what == what) h) in
     sym (ap (λ n. list_any (is_body_at n line.target line.what) bodies) a
     ∙ ap (λ u. list_any (is_body_at w u line.what) bodies) b
     ∙ ap (λ n. list_any (is_body_at w t n) bodies) c) ∙ e
@@ -193,10 +167,6 @@ found_first : (p : BodyLine → Bool) (b : Bool) (x : BodyLine) (kept : List Bod
 found_first p true x kept = refl
 found_first p false x kept = refl
 
-and-regroup : (a b c : Bool) → (a && (b && c)) ≡ ((a && b) && c)
-and-regroup true b c = refl
-and-regroup false b c = refl
-
 pub place-found : (w : ℕ) (t : Target) (what a : ℕ) (bodies : List BodyLine) →
     IsPlace what a bodies (position_from (is_body_at w t what) a bodies) (find (is_body_of t what) (filter (λ line. line.window == w) bodies))
 place-found w t what a [] = tt
@@ -206,9 +176,9 @@ place-found w t what a (x ∷ xs) =
     let step : IsPlace what a (x ∷ xs) (cond (x.window == w && is_body_of t what x) (Some a) rest)
     (cond (x.window == w) (cond (is_body_of t what x) (Some x) (find (is_body_of t what) kept)) (find (is_body_of t what) kept)) =
     place_step (x.window == w) (is_body_of t what x) what a x xs rest (find (is_body_of t what) kept)
-    (λ h. eqb-true x.what what (and-right (same_target x.target t) (x.what == what) h)) (place-found w t what (a + 1) xs) in
+    (λ h. eqb-true x.what what (and_second (same_target x.target t) (x.what == what) h)) (place-found w t what (a + 1) xs) in
     subst (λ (o : Option BodyLine). IsPlace what a (x ∷ xs) (position_from (is_body_at w t what) a (x ∷ xs)) o)
     (found_first (is_body_of t what) (x.window == w) x kept)
     (subst (λ (b : Bool). IsPlace what a (x ∷ xs) (cond b (Some a) rest)
     (cond (x.window == w) (cond (is_body_of t what x) (Some x) (find (is_body_of t what) kept)) (find (is_body_of t what) kept)))
-    (and-regroup (x.window == w) (same_target x.target t) (x.what == what)) step)
+    (and_regroup (x.window == w) (same_target x.target t) (x.what == what)) step)

@@ -5,6 +5,7 @@ use Rattle.std.specs.List.{position_from}
 use Rattle.std.proofs.lemmas.Bool.{cases_lt}
 use Rattle.std.proofs.lemmas.List.{get_or-map, length-map}
 use Rattle.std.proofs.lemmas.Option.{slice_get-get_or, slice_get_past, slice_get_within, get_or_from_slice_get}
+use Rattle.be_facts.proofs.Truths.{and_first}
 use Rattle.be_actor.specs.declared.Instruction.{Instruction}
 use Rattle.be_handler.specs.declared.Route.{Route}
 use Rattle.be_handler.specs.declared.Route.TheVariants.{Skipped, Handler, Unknown}
@@ -21,7 +22,7 @@ use Rattle.be_script.specs.Routes.{handlers_with, is_body_at, HasRoutes, HasNumb
 use Rattle.be_script.specs.Script.{Declared}
 use Rattle.be_script.specs.Windows.{chain_of, body_lines, is_body_of, steps_of, declared_body, body_program}
 use Rattle.be_script.specs.Work.{step_cost, no_message, body_cost, post_cost, message_cost, program_cost}
-use Rattle.be_script.proofs.WorkNumbers.{and-left, IsPlace, place-found}
+use Rattle.be_script.proofs.WorkNumbers.{IsPlace, place-found}
 use Rattle.be_script.proofs.WorkSums.{limited-add, limited-twice, sum_by-limited, step-limited, body-limited, length-sum}
 
 -- ---- the body with a routed number
@@ -66,7 +67,7 @@ no_program d w what Unknown h = refl
 body_below : (d : Declared) → IsRoutable d → (k : ℕ) (line : BodyLine) → slice_get d.bodies k ≡ Some line → line.window < length d.windows
 body_below d routable k line at =
     ltb-true line.window (length d.windows)
-    (and-left (is_window d line.window) (can_add_body (chain_of (bodies_before d k) line.window) (declared_body line)) (routable.bodies k line at))
+    (and_first (is_window d line.window) (can_add_body (chain_of (bodies_before d k) line.window) (declared_body line)) (routable.bodies k line at))
 
 runs_from : (d : Declared) (routes : Routes) (w what : ℕ) (target : Target) (o : Option Handlers) (h : Handlers) → o ≡ Some h → h ≡ handlers_with (chain_of d w) →
     HasNumbers d.bodies routes.bodies →

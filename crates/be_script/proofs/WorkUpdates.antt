@@ -1,9 +1,10 @@
 -- The Draw bodies of all windows are those of each window in turn.
-use Rattle.std.proofs.Common.{◌≡◌, ◌≢◌, ℕ, zero, suc, ◌+◌, ◌*◌, ◌<◌, ◌≤◌, ◌==◌, inl, inr, Bool, true, false, cond, ◌&&◌, List, [], ◌∷◌, length, filter, refl, ap, sym, ◌∙◌, arith, eq-eqb, ne_eqb, ltb-true}
+use Rattle.std.proofs.Common.{◌≡◌, ◌≢◌, ℕ, zero, suc, ◌+◌, ◌*◌, ◌<◌, ◌≤◌, ◌==◌, inl, inr, Bool, true, false, cond, List, [], ◌∷◌, length, filter, refl, ap, sym, ◌∙◌, arith, eq-eqb, ne_eqb, ltb-true}
 use Rattle.std.specs.Prelude.{sum_by, flat_map, nat_lt}
 use Rattle.std.specs.List.{range_with_len, list_all}
 use Rattle.std.proofs.lemmas.Bool.{cases_eq}
 use Rattle.std.proofs.lemmas.List.Sums.{sum_by-cons, sum_by-append}
+use Rattle.be_facts.proofs.Truths.{and_second, and_first}
 use Rattle.be_script.specs.declared.DrawLine.{DrawLine}
 use Rattle.be_script.specs.Costs.{own_cost, all_updates}
 use Rattle.be_script.specs.Limits.{is_window}
@@ -62,23 +63,14 @@ drawn-cons : (line : DrawLine) (lines : List DrawLine) (w : ℕ) → drawn (line
 unfolding share
 drawn-cons line lines w = one_line (line.window == w) line (filter (λ line. line.window == w) lines)
 
-and-left : (a b : Bool) → (a && b) ≡ true → a ≡ true
-and-left true b h = refl
-and-left false b h = h
-
-and-right : (a b : Bool) → (a && b) ≡ true → b ≡ true
-and-right true b h = h
-and-right false true h = refl
-and-right false false h = h
-
 drawn-all : (n : ℕ) (lines : List DrawLine) → list_all (λ line. nat_lt line.window n) lines ≡ true →
     sum_by (drawn lines) (range_with_len 0 n) ≡ sum_by line_cost lines
 drawn-all n [] h = zeros (range_with_len 0 n)
 drawn-all n (line ∷ lines) h =
-    let first : nat_lt line.window n ≡ true = and-left (nat_lt line.window n) (list_all (λ line. nat_lt line.window n) lines) h in
+    let first : nat_lt line.window n ≡ true = and_first (nat_lt line.window n) (list_all (λ line. nat_lt line.window n) lines) h in
     let below : line.window < n = ltb-true line.window n first in
     let rest : sum_by (drawn lines) (range_with_len 0 n) ≡ sum_by line_cost lines =
-    drawn-all n lines (and-right (nat_lt line.window n) (list_all (λ line. nat_lt line.window n) lines) h) in
+    drawn-all n lines (and_second (nat_lt line.window n) (list_all (λ line. nat_lt line.window n) lines) h) in
     let one : sum_by (share line.window (line_cost line)) (range_with_len 0 n) ≡ line_cost line =
     one_share line.window (line_cost line) 0 n (omega arith) (omega arith) in
     sums_apart (drawn (line ∷ lines)) (share line.window (line_cost line)) (drawn lines) (drawn-cons line lines) (range_with_len 0 n)

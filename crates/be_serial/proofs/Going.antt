@@ -1,5 +1,5 @@
 -- A run on one thread goes on.
-use Rattle.std.proofs.Common.{◌≡◌, ℕ, zero, suc, ◌+◌, ◌<◌, ◌≤◌, inl, inr, Bool, true, false, List, [], ◌∷◌, ◌++◌, length, set, length-set, map, take, drop, append-nil, take_all, drop_of_length-le, All, Option, Some, None, if◌then◌else◌, ◌==◌, refl, sym, ap, ◌∙◌, subst, arith}
+use Rattle.std.proofs.Common.{◌≡◌, ℕ, zero, suc, ◌+◌, ◌<◌, ◌≤◌, inl, inr, Bool, true, false, List, [], ◌∷◌, ◌++◌, length, set, length-set, map, All, Option, Some, None, if◌then◌else◌, ◌==◌, refl, sym, ap, ◌∙◌, subst, arith}
 use Rattle.std.proofs.lemmas.List.Elements.{All-nil, All-head, All-tail, All-weaker, All-push}
 use mathlib.Core.Logic.{dite}
 use mathlib.Core.Option.{some, some-injective}
@@ -255,14 +255,6 @@ same_firsts {T} f xs ys e = sym (firsts xs) ∙ (ap (map (λ z. z.0)) e ∙ firs
   firsts [] = refl
   firsts (z ∷ zs) = ap (λ l. z.0 ∷ l) (firsts zs)
 
-pub long_map : {A B : Type 0} (f : A → B) (xs : List A) → length (map f xs) ≡ length xs
-long_map f [] = refl
-long_map f (x ∷ xs) = let r = long_map f xs in omega arith
-
-pub map_map : {A B C : Type 0} (f : B → C) (k : A → B) (xs : List A) → map f (map k xs) ≡ map (λ a. f (k a)) xs
-map_map f k [] = refl
-map_map f k (x ∷ xs) = ap (λ l. f (k x) ∷ l) (map_map f k xs)
-
 pub no_items : {A : Type 0} (xs : List A) → length xs ≡ 0 → xs ≡ []
 no_items [] h = refl
 no_items (x ∷ xs) h = absurd (omega arith)
@@ -303,10 +295,3 @@ module _ {M E : Type 0} (x : Machine M E) (legal : List M → ℕ → Option E) 
     marked = long ∙ k.marked;
     fresh = λ a l f. let s = stirs a l f in k.fresh a l s.0 ∙ sym (s.1 now sound permits);
   }
-
--- what a list is after all of it was lent and given back
-pub mended : {A : Type 0} (n : ℕ) (new old : List A) → length new ≡ length old → n ≡ length old
-    → take n (new ++ drop (length new) old) ≡ new
-mended n new old long many =
-    ap (λ l. take n (new ++ l)) (drop_of_length-le old (omega arith))
-    ∙ (ap (take n) (append-nil new) ∙ take_all n new (omega arith))

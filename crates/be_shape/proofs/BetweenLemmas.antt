@@ -1,23 +1,14 @@
 -- What the test `between` tells, one fact at a time.
-use Rattle.std.proofs.Common.{◌≡◌, ℤ, true, false, ◌≤ℤ◌, ◌<ℤ◌, ◌-ℤ◌, ◌∙◌, sym, refl, arith}
+use Rattle.std.proofs.Common.{◌≡◌, ℤ, true, ◌≤ℤ◌, ◌-ℤ◌, ◌∙◌, sym, refl, arith}
 use Rattle.std.proofs.lemmas.Int.{ints, by_lt_z}
 use Rattle.be_geom.specs.Points.{between}
-use Rattle.be_geom.proofs.Between.{between_tells}
-
-pub is_between : (low z high : ℤ) → low ≤ℤ z → z ≤ℤ high → between low z high ≡ true
-is_between low z high a b = grind (arith, ints, between_tells)
+use Rattle.be_geom.proofs.Between.{between_tells, is_above, is_below, is_between}
 
 pub not_below : (low z high : ℤ) → between low z high ≡ true → low ≤ℤ z
 not_below low z high h = grind (arith, ints, between_tells)
 
 pub not_above : (low z high : ℤ) → between low z high ≡ true → z ≤ℤ high
 not_above low z high h = grind (arith, ints, between_tells)
-
-pub is_below : (low z high : ℤ) → z <ℤ low → between low z high ≡ false
-is_below low z high h = grind (arith, ints, between_tells)
-
-pub is_above : (low z high : ℤ) → high <ℤ z → between low z high ≡ false
-is_above low z high h = grind (arith, ints, between_tells)
 
 -- two tests with the same distances from a number to the ends, the other way round
 pub same_between : (low z high low' z' high' : ℤ) → z -ℤ low ≡ high' -ℤ z' → high -ℤ z ≡ z' -ℤ low' → between low z high ≡ between low' z' high'

@@ -3,41 +3,44 @@ use Rattle.std.proofs.Common.{◌≡◌, ℕ, ℤ, pos, Bool, true, false, ◌&&
 use lib.Signed.{lt_z, le_z}
 use Rattle.std.specs.Int.{int_min, int_max}
 use Rattle.std.proofs.lemmas.Int.{ints, clamps, by_lt_z}
+use Rattle.std.proofs.lemmas.Bool.{or_right, or_left, and_from}
+use Rattle.be_facts.proofs.Truths.{same_truth, and_first, and_second}
 use Rattle.be_geom.specs.declared.point.Point.{Point}
 use Rattle.be_geom.specs.declared.rect.Rect.{Rect}
 use Rattle.be_geom.specs.Places.{at_pixel}
+use Rattle.be_geom.proofs.Between.{is_between}
 use Rattle.be_shape.specs.Rasters.{steps_of, line_has, frame_has, is_not_empty}
 use Rattle.be_shape.specs.declared.row.Span.{Span}
 use Rattle.be_shape.specs.Rows.{IsSpan, swept_has}
-use Rattle.be_shape.proofs.BetweenLemmas.{is_between, not_below, not_above}
-use Rattle.be_shape.proofs.LineLemmas.{same_test, both, first_of_both, second_of_both, covered_of_line, line_of_covered, near_across, near_down, covers_swept, swept_covers, covers_still}
+use Rattle.be_shape.proofs.BetweenLemmas.{not_below, not_above}
+use Rattle.be_shape.proofs.LineLemmas.{covered_of_line, line_of_covered, near_across, near_down, covers_swept, swept_covers, covers_still}
 
 -- ---- sides
 
 in_box : (from to : Point) (size : ℕ) (x y : ℤ) → line_has from to size x y ≡ true → (swept_has size from.x to.x x && swept_has size from.y to.y y) ≡ true
 in_box from to size x y h =
     let point = covered_of_line from to size x y h in
-    both (swept_has size from.x to.x x) (swept_has size from.y to.y y) (covers_swept size point.0 (steps_of from to) from.x to.x x (near_across from to) point.1 point.2) (covers_swept size point.0 (steps_of from to) from.y to.y y (near_down from to) point.1 point.3)
+    and_from (swept_has size from.x to.x x) (swept_has size from.y to.y y) (covers_swept size point.0 (steps_of from to) from.x to.x x (near_across from to) point.1 point.2) (covers_swept size point.0 (steps_of from to) from.y to.y y (near_down from to) point.1 point.3)
 
 pub across_has : (l r t : ℤ) (size : ℕ) (x y : ℤ) → line_has (at_pixel l t) (at_pixel r t) size x y ≡ (swept_has size l r x && swept_has size t t y)
 across_has l r t size x y =
     let from : Point = at_pixel l t in
     let to : Point = at_pixel r t in
-    same_test (line_has from to size x y) (swept_has size l r x && swept_has size t t y)
+    same_truth (line_has from to size x y) (swept_has size l r x && swept_has size t t y)
     (λ has. in_box from to size x y has)
     (λ h.
-    let point = swept_covers size (steps_of from to) l r x (near_across from to) (first_of_both (swept_has size l r x) (swept_has size t t y) h) in
-    line_of_covered from to size x y (point.0, point.1, point.2, covers_still size point.0 (steps_of from to) t y point.1 (second_of_both (swept_has size l r x) (swept_has size t t y) h)))
+    let point = swept_covers size (steps_of from to) l r x (near_across from to) (and_first (swept_has size l r x) (swept_has size t t y) h) in
+    line_of_covered from to size x y (point.0, point.1, point.2, covers_still size point.0 (steps_of from to) t y point.1 (and_second (swept_has size l r x) (swept_has size t t y) h)))
 
 pub down_has : (l t b : ℤ) (size : ℕ) (x y : ℤ) → line_has (at_pixel l t) (at_pixel l b) size x y ≡ (swept_has size l l x && swept_has size t b y)
 down_has l t b size x y =
     let from : Point = at_pixel l t in
     let to : Point = at_pixel l b in
-    same_test (line_has from to size x y) (swept_has size l l x && swept_has size t b y)
+    same_truth (line_has from to size x y) (swept_has size l l x && swept_has size t b y)
     (λ has. in_box from to size x y has)
     (λ h.
-    let point = swept_covers size (steps_of from to) t b y (near_down from to) (second_of_both (swept_has size l l x) (swept_has size t b y) h) in
-    line_of_covered from to size x y (point.0, point.1, covers_still size point.0 (steps_of from to) l x point.1 (first_of_both (swept_has size l l x) (swept_has size t b y) h), point.2))
+    let point = swept_covers size (steps_of from to) t b y (near_down from to) (and_second (swept_has size l l x) (swept_has size t b y) h) in
+    line_of_covered from to size x y (point.0, point.1, covers_still size point.0 (steps_of from to) l x point.1 (and_first (swept_has size l l x) (swept_has size t b y) h), point.2))
 
 not_empty : (r : Rect) → r.left ≤ℤ r.right → r.top ≤ℤ r.bottom → is_not_empty r ≡ true
 not_empty r across down = grind (arith, ints)
@@ -95,13 +98,6 @@ pub frame_two : (rect : Rect) (size : ℕ) (y : ℤ) → rect.left ≤ℤ rect.r
 frame_two rect size y across down in_rows top bottom x =
     two_runs (swept_has size rect.left rect.right x) _ _ _ _ _ in_rows top bottom ∙ sym (frame_is rect size x y across down)
 
-pub first_of_two : (p q : Bool) → p ≡ true → (p || q) ≡ true
-first_of_two p q h = rw h refl
-
-pub second_of_two : (p q : Bool) → q ≡ true → (p || q) ≡ true
-second_of_two true q h = refl
-second_of_two false q h = h
-
 one_or_other : (p q : Bool) {r : Bool} → (p || q) ≡ true → (p ≡ true → r ≡ true) → (q ≡ true → r ≡ true) → r ≡ true
 one_or_other true q h f g = f refl
 one_or_other false q h f g = g h
@@ -109,21 +105,18 @@ one_or_other false q h f g = g h
 -- two sides without a gap between them cover what is between
 joined : (size : ℕ) (a b z : ℤ) → a ≤ℤ b → (b -ℤ pos ((size - 1) / 2)) ≤ℤ (a +ℤ pos (size - 1 - (size - 1) / 2) +ℤ pos 1) → swept_has size a b z ≡ (swept_has size a a z || swept_has size b b z)
 joined size a b z order near =
-    same_test (swept_has size a b z) (swept_has size a a z || swept_has size b b z)
+    same_truth (swept_has size a b z) (swept_has size a a z || swept_has size b b z)
     (λ h.
     let low = not_below (int_min a b -ℤ pos ((size - 1) / 2)) z (int_max a b +ℤ pos (size - 1 - (size - 1) / 2)) h in
     let high = not_above (int_min a b -ℤ pos ((size - 1) / 2)) z (int_max a b +ℤ pos (size - 1 - (size - 1) / 2)) h in
     by_lt_z (a +ℤ pos (size - 1 - (size - 1) / 2)) z
-    (λ behind. second_of_two (swept_has size a a z) (swept_has size b b z) (is_between _ z _ (omega (arith, ints, clamps)) (omega (arith, ints, clamps))))
-    (λ within. first_of_two (swept_has size a a z) (swept_has size b b z) (is_between _ z _ (omega (arith, ints, clamps)) (omega (arith, ints, clamps)))))
+    (λ behind. or_right (swept_has size a a z) (swept_has size b b z) (is_between _ z _ (omega (arith, ints, clamps)) (omega (arith, ints, clamps))))
+    (λ within. or_left (swept_has size a a z) (swept_has size b b z) (is_between _ z _ (omega (arith, ints, clamps)) (omega (arith, ints, clamps)))))
     (λ h. one_or_other (swept_has size a a z) (swept_has size b b z) h (end_within size a b z order) (other_within size a b z order))
 
 pub frame_joined : (rect : Rect) (size : ℕ) (y : ℤ) → rect.left ≤ℤ rect.right → rect.top ≤ℤ rect.bottom → swept_has size rect.top rect.bottom y ≡ true → swept_has size rect.top rect.top y ≡ false → swept_has size rect.bottom rect.bottom y ≡ false → (rect.right -ℤ pos ((size - 1) / 2)) ≤ℤ (rect.left +ℤ pos (size - 1 - (size - 1) / 2) +ℤ pos 1) → (x : ℤ) → swept_has size rect.left rect.right x ≡ frame_has rect size x y
 frame_joined rect size y across down in_rows top bottom near x =
     joined size rect.left rect.right x across near ∙ frame_two rect size y across down in_rows top bottom x
-
-pub or_same : (p q p' q' : Bool) → p ≡ p' → q ≡ q' → (p || q) ≡ (p' || q')
-or_same p q p' q' e f = rw (e, f) refl
 
 -- two ends of spans that aren't apart
 pub ends_near : (size : ℕ) (a b first last : ℤ) → last ≡ int_max a a +ℤ pos (size - 1 - (size - 1) / 2) → first ≡ int_min b b -ℤ pos ((size - 1) / 2) → first ≤ℤ (last +ℤ pos 1) → (b -ℤ pos ((size - 1) / 2)) ≤ℤ (a +ℤ pos (size - 1 - (size - 1) / 2) +ℤ pos 1)
@@ -169,7 +162,3 @@ same_sides w l r v t b v' t' b' e f g = rw (e, f, g) refl
 pub frame_alike : (rect : Rect) (size : ℕ) (y z : ℤ) → rect.left ≤ℤ rect.right → rect.top ≤ℤ rect.bottom → swept_has size rect.top rect.bottom z ≡ swept_has size rect.top rect.bottom y → swept_has size rect.top rect.top z ≡ swept_has size rect.top rect.top y → swept_has size rect.bottom rect.bottom z ≡ swept_has size rect.bottom rect.bottom y → (x : ℤ) → frame_has rect size x z ≡ frame_has rect size x y
 frame_alike rect size y z across down rows top bottom x =
     frame_is rect size x z across down ∙ same_sides _ _ _ _ _ _ _ _ _ rows top bottom ∙ sym (frame_is rect size x y across down)
-
--- an empty rectangle has no sides
-pub frame_empty : (rect : Rect) (size : ℕ) (x y : ℤ) → is_not_empty rect ≡ false → frame_has rect size x y ≡ false
-frame_empty rect size x y e = rw e refl

@@ -1,48 +1,29 @@
 -- A line has one run in each row that it has: what the pen covers from the first to the last of its points there.
-use Rattle.std.proofs.Common.{◌≡◌, ℕ, ℤ, pos, zero, suc, Bool, true, false, ◌&&◌, ◌||◌, ◌⊎◌, inl, inr, ◌+◌, ◌-◌, ◌/◌, ◌≤◌, ◌<◌, ◌+ℤ◌, ◌-ℤ◌, ◌*ℤ◌, unsigned_abs, sym, ◌∙◌, ap, refl, get_or, arith}
+use Rattle.std.proofs.Common.{◌≡◌, ℕ, ℤ, pos, zero, suc, Bool, true, false, inl, inr, ◌+◌, ◌-◌, ◌/◌, ◌≤◌, ◌<◌, ◌+ℤ◌, ◌-ℤ◌, ◌*ℤ◌, unsigned_abs, sym, ◌∙◌, ap, refl, get_or, arith}
 use Rattle.std.specs.List.{list_any, range_with_len}
 use Rattle.std.specs.Int.{int_signum, int_min, int_max}
 use Rattle.std.proofs.lemmas.Int.{ints, clamps, by_lt_z}
 use Rattle.std.proofs.lemmas.List.Folds.{list_any_at}
 use Rattle.std.proofs.lemmas.List.FromFn.{length-range_with_len, get_or-range_with_len}
+use Rattle.std.proofs.lemmas.Bool.{and_from}
+use Rattle.be_facts.proofs.Truths.{or_either, and_second, and_first, same_truth}
 use Rattle.be_geom.specs.declared.point.Point.{Point}
 use Rattle.be_geom.specs.Points.{between}
+use Rattle.be_geom.proofs.Between.{is_between}
 use Rattle.be_shape.specs.Rasters.{share, steps_of, line_at, pen_covers, point_covers, line_has}
 use Rattle.be_shape.specs.Rows.{swept_has}
 use Rattle.be_shape.specs.Lines.{ArePointsWithin, HasNoPointWithin}
 use Rattle.be_shape.proofs.ShareLemmas.{share_within, share_start, share_whole}
-use Rattle.be_shape.proofs.BetweenLemmas.{is_between, not_below, not_above}
+use Rattle.be_shape.proofs.BetweenLemmas.{not_below, not_above}
 use Rattle.be_shape.proofs.WayLemmas.{at_up, at_down, whole_up, whole_down}
 use Rattle.be_shape.proofs.SweepLemmas.{swept_from, found_between, swept_same, covers_same}
-
--- ---- tests
-
-pub same_test : (p q : Bool) → (p ≡ true → q ≡ true) → (q ≡ true → p ≡ true) → p ≡ q
-same_test true q f g = sym (f refl)
-same_test false true f g = g refl
-same_test false false f g = refl
-
-pub both : (p q : Bool) → p ≡ true → q ≡ true → (p && q) ≡ true
-both p q e f = rw (e, f) refl
-
-pub first_of_both : (p q : Bool) → (p && q) ≡ true → p ≡ true
-first_of_both true q h = refl
-first_of_both false q h = h
-
-pub second_of_both : (p q : Bool) → (p && q) ≡ true → q ≡ true
-second_of_both true q h = h
-second_of_both false q h = cc
-
-one_of_two : (p q : Bool) → (p || q) ≡ true → (p ≡ true) ⊎ (q ≡ true)
-one_of_two true q h = inl refl
-one_of_two false q h = inr h
 
 -- ---- a test of some number of a range
 
 some_of_range : (p : ℕ → Bool) (k a : ℕ) → list_any p (range_with_len a k) ≡ true → (j : ℕ) × (j < a + k) × (p j ≡ true)
 some_of_range p zero a h = cc
 some_of_range p (suc k) a h =
-    elim (one_of_two (p a) (list_any p (range_with_len (a + 1) k)) h) [
+    elim (or_either (p a) (list_any p (range_with_len (a + 1) k)) h) [
       | inl here ↦ (a, omega arith, here)
       | inr further ↦ let next = some_of_range p k (a + 1) further in (next.0, omega arith, next.2)
     ]
@@ -63,12 +44,12 @@ pub covered_of_line : (from to : Point) (size : ℕ) (x y : ℤ) → line_has fr
 unfolding line_has
 covered_of_line from to size x y h =
     let point = some_of_range (point_covers from to size x y) (steps_of from to + 1) 0 h in
-    (point.0, omega arith, first_of_both (pen_covers size (line_at point.0 (steps_of from to) from.x to.x) x) (pen_covers size (line_at point.0 (steps_of from to) from.y to.y) y) point.2, second_of_both (pen_covers size (line_at point.0 (steps_of from to) from.x to.x) x) (pen_covers size (line_at point.0 (steps_of from to) from.y to.y) y) point.2)
+    (point.0, omega arith, and_first (pen_covers size (line_at point.0 (steps_of from to) from.x to.x) x) (pen_covers size (line_at point.0 (steps_of from to) from.y to.y) y) point.2, and_second (pen_covers size (line_at point.0 (steps_of from to) from.x to.x) x) (pen_covers size (line_at point.0 (steps_of from to) from.y to.y) y) point.2)
 
 pub line_of_covered : (from to : Point) (size : ℕ) (x y : ℤ) → IsCovered from to size x y → line_has from to size x y ≡ true
 unfolding line_has
 line_of_covered from to size x y point =
-    in_range_at (point_covers from to size x y) (steps_of from to + 1) point.0 (omega arith) (both (pen_covers size (line_at point.0 (steps_of from to) from.x to.x) x) (pen_covers size (line_at point.0 (steps_of from to) from.y to.y) y) point.2 point.3)
+    in_range_at (point_covers from to size x y) (steps_of from to + 1) point.0 (omega arith) (and_from (pen_covers size (line_at point.0 (steps_of from to) from.x to.x) x) (pen_covers size (line_at point.0 (steps_of from to) from.y to.y) y) point.2 point.3)
 
 pub near_across : (from to : Point) → unsigned_abs (to.x -ℤ from.x) ≤ steps_of from to
 near_across from to = omega arith
@@ -85,7 +66,7 @@ CoversBetween from to size y nearest farthest =
 pub run_of_line : (from to : Point) (size : ℕ) (y nearest farthest : ℤ) (first last : ℕ) → CoversBetween from to size y nearest farthest → ArePointsWithin (steps_of from to) (unsigned_abs (to.y -ℤ from.y)) nearest farthest first last → (x : ℤ) → swept_has size (line_at first (steps_of from to) from.x to.x) (line_at last (steps_of from to) from.x to.x) x ≡ line_has from to size x y
 run_of_line from to size y nearest farthest first last covers points x =
     let n = steps_of from to in
-    same_test (swept_has size (line_at first n from.x to.x) (line_at last n from.x to.x) x) (line_has from to size x y)
+    same_truth (swept_has size (line_at first n from.x to.x) (line_at last n from.x to.x) x) (line_has from to size x y)
     (λ swept.
     let point = found_between size first last n from.x to.x x (near_across from to) points.ordered points.of_steps swept in
     let within : point.0 ≤ n = (let r = points.of_steps in omega arith) in
@@ -98,7 +79,7 @@ run_of_line from to size y nearest farthest first last covers points x =
 pub no_run_of_line : (from to : Point) (size : ℕ) (y nearest farthest : ℤ) → CoversBetween from to size y nearest farthest → HasNoPointWithin (steps_of from to) (unsigned_abs (to.y -ℤ from.y)) nearest farthest → (x : ℤ) → false ≡ line_has from to size x y
 no_run_of_line from to size y nearest farthest covers none x =
     let n = steps_of from to in
-    same_test false (line_has from to size x y)
+    same_truth false (line_has from to size x y)
     (λ h. cc)
     (λ has.
     let point = covered_of_line from to size x y has in

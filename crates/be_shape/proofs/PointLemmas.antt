@@ -1,10 +1,11 @@
 -- The points that are so far along a distance are those from the first to the last that are.
 use Rattle.std.proofs.Common.{ℕ, ℤ, pos, zero, suc, ◌≤◌, ◌≤ℤ◌, ◌<ℤ◌, ◌↔◌, arith}
 use Rattle.std.proofs.lemmas.Int.{ints, by_lt_z}
+use Rattle.be_geom.proofs.Between.{is_between, is_below, is_above}
 use Rattle.be_shape.specs.Rasters.{share}
 use Rattle.be_shape.specs.Lines.{ArePointsWithin, HasNoPointWithin}
 use Rattle.be_shape.proofs.ShareLemmas.{share_within, share_next}
-use Rattle.be_shape.proofs.BetweenLemmas.{is_between, not_below, not_above, is_below, is_above}
+use Rattle.be_shape.proofs.BetweenLemmas.{not_below, not_above}
 
 abbrev pub IsFirstFrom : ℕ → ℕ → ℤ → ℕ → Type 0
 IsFirstFrom n d nearest first = (i : ℕ) → i ≤ n → (nearest ≤ℤ pos (share i n d)) ↔ (first ≤ i)

@@ -1,19 +1,22 @@
 -- From the rows and runs of a fill, a frame and a line to those of a shape.
 use Rattle.std.proofs.Common.{◌≡◌, ℕ, ℤ, pos, Bool, false, ◌+ℤ◌, Option, Some, None, IfSome, IfNone, sym, ◌∙◌, refl, arith}
 use Rattle.std.proofs.lemmas.Int.{ints}
+use Rattle.std.proofs.lemmas.Bool.{and_from}
+use Rattle.be_facts.proofs.Truths.{and_second}
 use Rattle.be_geom.specs.declared.point.Point.{Point}
 use Rattle.be_geom.specs.declared.rect.Rect.{Rect}
 use Rattle.be_geom.specs.Points.{between}
 use Rattle.be_geom.specs.Rects.{rect_has}
+use Rattle.be_geom.proofs.Between.{is_between}
 use Rattle.be_shape.specs.declared.Raster.{Raster}
 use Rattle.be_shape.specs.declared.Raster.TheVariants.{Fill, Frame, Line}
 use Rattle.be_shape.specs.declared.row.Span.{Span}
 use Rattle.be_shape.specs.Rasters.{line_has, frame_has, is_not_empty, raster_has}
 use Rattle.be_shape.specs.Runs.{HasNoPixel, AreRows, IsNextRun}
 use Rattle.be_shape.specs.Rows.{IsSpan, AreEdges, ArePenRows, IsNextSpan, AreSpanRows, span_has, swept_has}
-use Rattle.be_shape.proofs.BetweenLemmas.{is_between, not_below, not_above}
+use Rattle.be_shape.proofs.BetweenLemmas.{not_below, not_above}
 use Rattle.be_shape.proofs.RowLemmas.{no_rows_no_pixel}
-use Rattle.be_shape.proofs.LineLemmas.{both, second_of_both, line_in_rows, pixel_of_row}
+use Rattle.be_shape.proofs.LineLemmas.{line_in_rows, pixel_of_row}
 use Rattle.be_shape.proofs.FrameLemmas.{in_frame_rows, pixel_of_frame_row}
 
 -- ---- a fill
@@ -28,10 +31,10 @@ fill_rows r rows edges =
     record {
       forward = omega (arith, ints);
       each =
-          λ y h k. (r.left, both (between r.left r.left r.right) (between r.top y r.bottom) (is_between r.left r.left r.right (omega (arith, ints)) across) (is_between r.top y r.bottom (omega (arith, ints)) (omega (arith, ints))));
+          λ y h k. (r.left, and_from (between r.left r.left r.right) (between r.top y r.bottom) (is_between r.left r.left r.right (omega (arith, ints)) across) (is_between r.top y r.bottom (omega (arith, ints)) (omega (arith, ints))));
       within =
           λ x y h.
-          let inside = second_of_both (between r.left x r.right) (between r.top y r.bottom) h in
+          let inside = and_second (between r.left x r.right) (between r.top y r.bottom) h in
           let low = not_below r.top y r.bottom inside in
           let high = not_above r.top y r.bottom inside in
           (omega (arith, ints), omega (arith, ints));

@@ -1,19 +1,16 @@
 -- Rows of a rectangle, and the next run of a row.
-use Rattle.std.proofs.Common.{◌≡◌, ℤ, pos, Bool, true, false, ◌||◌, ◌+ℤ◌, ◌≤ℤ◌, ◌<ℤ◌, Option, Some, None, IfSome, IfNone, ◌∙◌, inl, inr, refl, arith}
+use Rattle.std.proofs.Common.{◌≡◌, ℤ, pos, false, ◌+ℤ◌, ◌≤ℤ◌, ◌<ℤ◌, Option, Some, None, IfSome, IfNone, ◌∙◌, inl, inr, refl, arith}
 use Rattle.std.proofs.lemmas.Int.{ints, clamps, by_lt_z}
+use Rattle.be_facts.proofs.Truths.{or_false}
 use Rattle.be_geom.specs.declared.rect.Rect.{Rect}
 use Rattle.be_geom.specs.Rects.{HasNoPixel}
 use Rattle.be_geom.proofs.RectLemmas.{corner_inside, reversed_edges}
+use Rattle.be_geom.proofs.Between.{is_between, is_below, is_above}
 use Rattle.be_shape.specs.declared.row.Row.{Row}
 use Rattle.be_shape.specs.declared.row.Row.TheVariants.{One, Two}
 use Rattle.be_shape.specs.declared.row.Span.{Span}
 use Rattle.be_shape.specs.Rasters.{is_not_empty}
 use Rattle.be_shape.specs.Rows.{IsSpan, IsPair, IsRow, span_has, row_has, IsCut, IsNextSpan, NoneFrom}
-use Rattle.be_shape.proofs.BetweenLemmas.{is_between, is_below, is_above}
-
-or_false : (p : Bool) → (p || false) ≡ p
-or_false true = refl
-or_false false = refl
 
 -- ---- the rows of a rectangle
 

@@ -3,11 +3,12 @@ use Rattle.std.proofs.Common.{◌≡◌, ℕ, ℤ, pos, false, ◌≤◌, ◌-�
 use Rattle.std.proofs.lemmas.Int.{ints, clamps}
 use Rattle.be_geom.specs.declared.point.Point.{Point}
 use Rattle.be_geom.specs.Points.{between}
+use Rattle.be_geom.proofs.Between.{is_between}
 use Rattle.be_shape.specs.Rasters.{share, steps_of, line_at, line_has, IsSteep}
 use Rattle.be_shape.specs.Rows.{swept_has}
 use Rattle.be_shape.specs.Lines.{ArePointsWithin}
 use Rattle.be_shape.proofs.ShareLemmas.{share_along}
-use Rattle.be_shape.proofs.BetweenLemmas.{is_between, not_below, not_above, same_ends}
+use Rattle.be_shape.proofs.BetweenLemmas.{not_below, not_above, same_ends}
 use Rattle.be_shape.proofs.WayLemmas.{covers_up, covers_down}
 use Rattle.be_shape.proofs.PointLemmas.{none_before, none_behind}
 use Rattle.be_shape.proofs.LineLemmas.{CoversBetween, span_of_line, none_of_line}

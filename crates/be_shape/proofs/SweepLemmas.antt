@@ -2,10 +2,11 @@
 use Rattle.std.proofs.Common.{◌≡◌, ℕ, ℤ, pos, zero, suc, Bool, true, ◌+◌, ◌-◌, ◌/◌, ◌≤◌, ◌+ℤ◌, ◌-ℤ◌, ◌≤ℤ◌, unsigned_abs, sym, arith}
 use Rattle.std.specs.Int.{int_min, int_max}
 use Rattle.std.proofs.lemmas.Int.{ints, clamps, by_lt_z}
+use Rattle.be_geom.proofs.Between.{is_between}
 use Rattle.be_shape.specs.Rasters.{share, line_at, pen_covers}
 use Rattle.be_shape.specs.Rows.{swept_has}
 use Rattle.be_shape.proofs.ShareLemmas.{share_mono, share_next}
-use Rattle.be_shape.proofs.BetweenLemmas.{is_between, not_below, not_above}
+use Rattle.be_shape.proofs.BetweenLemmas.{not_below, not_above}
 use Rattle.be_shape.proofs.WayLemmas.{at_up, at_down, same_order}
 
 pub covers_same : (size : ℕ) (a b z : ℤ) → a ≡ b → pen_covers size a z ≡ true → pen_covers size b z ≡ true

@@ -3,6 +3,7 @@ use Rattle.std.proofs.Common.{◌≡◌, ℕ, ℤ, pos, negsuc, zero, suc, ◌-�
 use lib.IntN.{neg_ℤ}
 use Rattle.std.specs.Int.{int_signum}
 use Rattle.std.proofs.lemmas.Int.{ints}
+use Rattle.be_facts.proofs.Numbers.{unsigned_abs_is}
 use Rattle.be_geom.specs.Points.{between}
 use Rattle.be_shape.specs.Rasters.{share, line_at, pen_covers}
 use Rattle.be_shape.proofs.ShareLemmas.{share_within}
@@ -39,16 +40,12 @@ covers_down size from to z t h = rw (along_down from to t h) (moved_between _ _ 
 
 -- ---- between the ends
 
-abs_up : (d : ℤ) → pos 0 ≤ℤ d → pos (unsigned_abs d) ≡ d
-abs_up (pos n) h = refl
-abs_up (negsuc n) h = absurd (omega (arith, ints))
-
 abs_down : (d : ℤ) → d <ℤ pos 0 → pos (unsigned_abs d) ≡ neg_ℤ d
 abs_down (pos n) h = absurd (omega (arith, ints))
 abs_down (negsuc n) h = refl
 
 pub whole_up : (from to : ℤ) → from ≤ℤ to → from +ℤ pos (unsigned_abs (to -ℤ from)) ≡ to
-whole_up from to h = let e = abs_up (to -ℤ from) (omega (arith, ints)) in rw e (omega (arith, ints))
+whole_up from to h = let e = unsigned_abs_is (to -ℤ from) (omega (arith, ints)) in rw e (omega (arith, ints))
 
 pub whole_down : (from to : ℤ) → to <ℤ from → from -ℤ pos (unsigned_abs (to -ℤ from)) ≡ to
 whole_down from to h = let e = abs_down (to -ℤ from) (omega (arith, ints)) in rw e (omega (arith, ints))

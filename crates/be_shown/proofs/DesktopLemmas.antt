@@ -1,9 +1,11 @@
 -- Which pixels no window owns, by what the parts have of them, and how many of them a run has.
-use Rattle.std.proofs.Common.{◌≡◌, ℕ, zero, suc, ◌+◌, ◌*◌, ◌<◌, ◌≤◌, Bool, true, false, cond, List, ◌∷◌, ◌++◌, length, Option, Some, None, refl, sym, ap, ◌∙◌, subst, arith, pos}
+use Rattle.std.proofs.Common.{◌≡◌, ℕ, zero, suc, ◌+◌, ◌*◌, ◌<◌, ◌≤◌, Bool, true, false, cond, List, length, Option, Some, None, refl, sym, ap, ◌∙◌, subst, arith, pos}
 use Rattle.std.specs.Prelude.{ℤ, ◌/◌, count_by, is_none, slice_get, if◌then◌else◌}
 use Rattle.std.specs.List.{range_with_len}
 use Rattle.std.proofs.Math.Arith.{digits_mod, digits_div}
 use Rattle.std.proofs.lemmas.List.Sums.{sum_by-append, sum_by-cons}
+use Rattle.be_facts.proofs.Lists.{range_append, element}
+use Rattle.be_facts.proofs.Numbers.{index_below}
 use Rattle.be_geom.specs.Numbers.{is_number}
 use Rattle.be_machine.specs.declared.Entry.{Entry}
 use Rattle.be_machine.specs.History.{IsLegalHistory, state_after}
@@ -23,26 +25,14 @@ use Rattle.be_span.specs.declared.Cell.{Cell}
 use Rattle.be_shown.specs.Desktop.{desktop_count, is_desktop}
 use Rattle.be_shown.specs.Pixels.{HasCells, HasNone, pixel_in}
 use Rattle.be_shown.proofs.Owners.{from_map, owner_shows, owner_stands}
-use Rattle.be_shown.proofs.Rows.{cell_inside, element, product_below}
+use Rattle.be_shown.proofs.Rows.{cell_inside}
 
 -- ---- numbers that pass a test
-
-ranged : (a n m : ℕ) → range_with_len a (n + m) ≡ range_with_len a n ++ range_with_len (a + n) m
-ranged a zero m =
-    let none : 0 + m ≡ m = omega arith in
-    let here : a ≡ a + 0 = omega arith in
-    ap (range_with_len a) none ∙ ap (λ (k : ℕ). range_with_len k m) here
-ranged a (suc n) m =
-    let one : suc n + m ≡ suc (n + m) = omega arith in
-    let on : a + 1 + n ≡ a + suc n = omega arith in
-    ap (range_with_len a) one
-    ∙ ap (λ (l : List ℕ). a ∷ l) (ranged (a + 1) n m)
-    ∙ ap (λ (k : ℕ). a ∷ (range_with_len (a + 1) n ++ range_with_len k m)) on
 
 module _ (p : ℕ → Bool) where
   -- those up to a place, and those of a run behind it
   pub counted_on : (a n m : ℕ) → count_by p (range_with_len a (n + m)) ≡ count_by p (range_with_len a n) + count_by p (range_with_len (a + n) m)
-  counted_on a n m = ap (count_by p) (ranged a n m) ∙ sum_by-append (λ x. cond (p x) 1 0) (range_with_len a n) (range_with_len (a + n) m)
+  counted_on a n m = ap (count_by p) (range_append a n m) ∙ sum_by-append (λ x. cond (p x) 1 0) (range_with_len a n) (range_with_len (a + n) m)
 
   pub counted_same : (b : Bool) (a n : ℕ) → ((k : ℕ) → k < n → p (a + k) ≡ b) → count_by p (range_with_len a n) ≡ n * cond b 1 0
   counted_same b a zero same = omega arith
@@ -99,7 +89,7 @@ module _ (d : Declared) (all : List Slice) (sound : IsSound d all) where
   -- where no slice has a pixel of the screen there is none
   pub free_there : (x y : ℕ) → x < d.width → y < d.height → ((k : ℕ) (slice : Slice) → slice_get all k ≡ Some slice → pixel_in slice (pos x) (pos y) ≡ None) → is_none (owner_in (state d all sound) (pos x) (pos y)) ≡ true
   free_there x y inside below none =
-      let on : y * d.width + x < length s.screen = subst (λ n. y * d.width + x < n) (sym (whole d all sound).parts.screen) (product_below x y d.width d.height inside below) in
+      let on : y * d.width + x < length s.screen = subst (λ n. y * d.width + x < n) (sym (whole d all sound).parts.screen) (index_below x y d.width d.height inside below) in
       let c = element s.screen (y * d.width + x) on in
       let narrow : x < width_of s = subst (λ n. x < n) (sym wide) inside in
       let pixel : pixel_at s (pos x) (pos y) ≡ Some c.0 = cell_inside (width_of s) s.screen x y narrow ∙ ap (λ n. slice_get s.screen (y * n + x)) wide ∙ c.1 in

@@ -3,6 +3,7 @@ use Rattle.std.proofs.Common.{◌≡◌, ℕ, zero, suc, ◌+◌, ◌<◌, Bool,
 use Rattle.std.specs.Prelude.{ℤ, slice_get, option_map, if◌then◌else◌}
 use Rattle.std.specs.List.{range_with_len}
 use Rattle.std.proofs.lemmas.Option.{same_Some}
+use Rattle.be_facts.proofs.Lists.{get_map, get_range}
 use Rattle.be_script.specs.Script.{Declared}
 use Rattle.be_span.specs.Cells.{desktop_cell}
 use Rattle.be_span.specs.declared.Cell.{Cell}
@@ -16,7 +17,6 @@ use Rattle.be_rules.specs.Rules.{IsSound}
 use Rattle.be_rules.specs.Slices.{Slice, all_parts, slice_of}
 use Rattle.be_rules.proofs.Cut.{owner_there}
 use Rattle.be_rules.proofs.Lawfully.{state, whole}
-use Rattle.be_rules.proofs.ListLemmas.{get_map, get_range}
 use Rattle.be_rules.proofs.Looks.{look_own}
 use Rattle.be_shown.specs.Pixels.{pixel_in}
 

@@ -1,7 +1,9 @@
 -- Cells side by side in a row of the screen.
-use Rattle.std.proofs.Common.{◌≡◌, ℕ, zero, suc, ◌+◌, ◌*◌, ◌<◌, ◌≤◌, Bool, true, false, List, [], ◌∷◌, length, Option, Some, None, refl, sym, ap, ◌∙◌, subst, arith, pos}
+use Rattle.std.proofs.Common.{◌≡◌, ℕ, zero, suc, ◌+◌, ◌*◌, ◌<◌, ◌≤◌, Bool, true, false, List, [], length, Option, Some, None, refl, sym, ap, ◌∙◌, subst, arith, pos}
 use Rattle.std.specs.Prelude.{nat_lt, slice_get, if◌then◌else◌}
 use Rattle.std.proofs.lemmas.Bool.Decides.{nat_tests}
+use Rattle.be_facts.proofs.Numbers.{index_below, nat_lt_from}
+use Rattle.be_facts.proofs.Lists.{element}
 use Rattle.be_script.specs.Script.{Declared}
 use Rattle.be_span.specs.Cells.{desktop_cell}
 use Rattle.be_span.specs.Screen.{cell_at}
@@ -16,11 +18,6 @@ use Rattle.be_shown.specs.Pixels.{HasCells, pixel_in}
 use Rattle.be_shown.proofs.Owners.{on_screen, desktop_there}
 use Rattle.be_written.specs.Screens.{AreCellsOf}
 
-pub element : {X : Type 0} (xs : List X) (k : ℕ) → k < length xs → (x : X) × (slice_get xs k ≡ Some x)
-element [] k lt = absurd (omega arith)
-element (x ∷ xs) zero lt = (x, refl)
-element (x ∷ xs) (suc k) lt = element xs k (omega arith)
-
 below_by : (b : Bool) (x width : ℕ) (o : Option Cell) (c : Cell) → nat_lt x width ≡ b → (if b then o else None) ≡ Some c → (x < width) × (o ≡ Some c)
 below_by true x width o c test e = (grind (arith, nat_tests), e)
 below_by false x width o c test e = absurd (cc)
@@ -30,15 +27,9 @@ cell_below : (width : ℕ) (cells : List Cell) (x y : ℕ) (c : Cell) → cell_a
 unfolding cell_at
 cell_below width cells x y c e = below_by (nat_lt x width) x width (slice_get cells (y * width + x)) c refl e
 
-is_below : (x width : ℕ) → x < width → nat_lt x width ≡ true
-is_below x width lt = grind (arith, nat_tests)
-
 pub cell_inside : (width : ℕ) (cells : List Cell) (x y : ℕ) → x < width → cell_at width cells (pos x) (pos y) ≡ slice_get cells (y * width + x)
 unfolding cell_at
-cell_inside width cells x y lt = rw (is_below x width lt) refl
-
-pub product_below : (x y width height : ℕ) → x < width → y < height → y * width + x < width * height
-product_below x y width height a b = grind (arith)
+cell_inside width cells x y lt = rw (nat_lt_from x width lt) refl
 
 pub further : (a b c : ℕ) → a + b + c ≡ a + (b + c)
 further a b c = omega arith
@@ -85,7 +76,7 @@ module _ (d : Declared) (all : List Slice) (sound : IsSound d all) where
   -- where no slice has a pixel the screen's cell is the desktop's
   pub desktop_is : (x y : ℕ) → x < d.width → y < d.height → ((k : ℕ) (slice : Slice) → slice_get all k ≡ Some slice → pixel_in slice (pos x) (pos y) ≡ None) → slice_get (state_of d all).screen (y * d.width + x) ≡ Some desktop_cell
   desktop_is x y inside below none =
-      let on : y * d.width + x < length s.screen = subst (λ n. y * d.width + x < n) (sym (whole d all sound).parts.screen) (product_below x y d.width d.height inside below) in
+      let on : y * d.width + x < length s.screen = subst (λ n. y * d.width + x < n) (sym (whole d all sound).parts.screen) (index_below x y d.width d.height inside below) in
       let c = element s.screen (y * d.width + x) on in
       let narrow : x < width_of s = subst (λ n. x < n) (sym wide) inside in
       let pixel : pixel_at s (pos x) (pos y) ≡ Some c.0 = cell_inside (width_of s) s.screen x y narrow ∙ ap (λ n. slice_get s.screen (y * n + x)) wide ∙ c.1 in

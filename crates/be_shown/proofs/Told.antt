@@ -4,9 +4,10 @@ use Rattle.std.specs.Prelude.{nat_lt, slice_get, pos}
 use Rattle.std.proofs.lemmas.Bool.Decides.{nat_tests}
 use Rattle.std.proofs.lemmas.List.{length-replicate, take-replicate, get_or-replicate}
 use Rattle.std.proofs.lemmas.Option.{same_Some, slice_get-get_or}
+use Rattle.be_facts.proofs.Lists.{get_map}
 use Rattle.be_parts.specs.declared.part.Part.{Part}
 use Rattle.be_parts.specs.Parts.{meaning_of}
-use Rattle.be_rules.proofs.ListLemmas.{get_map, there_below}
+use Rattle.be_rules.proofs.ListLemmas.{there_below}
 use Rattle.be_script.specs.Script.{Declared}
 use Rattle.be_span.specs.Cells.{desktop_cell}
 use Rattle.be_span.specs.declared.Cell.{Cell}

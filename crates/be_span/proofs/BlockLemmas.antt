@@ -4,13 +4,15 @@ use Rattle.std.specs.Prelude.{◌&&◌, unsigned_abs}
 use Rattle.std.specs.Option.{option_map}
 use Rattle.std.proofs.lemmas.Int.{ints, by_lt_z}
 use Rattle.std.proofs.lemmas.Bool.{true≢false}
+use Rattle.be_facts.proofs.Truths.{true_or_false}
+use Rattle.be_facts.proofs.Numbers.{unsigned_abs_is}
 use Rattle.be_geom.specs.declared.rect.Rect.{Rect}
 use Rattle.be_geom.specs.Rects.{rect_has}
 use Rattle.be_span.specs.declared.Cell.{Cell}
 use Rattle.be_span.specs.Runs.{IsBeside}
 use Rattle.be_span.specs.Painting.{Rule, changed, IsPainted}
 use Rattle.be_span.specs.Spans.{Spans, cell_in, place_in, width_of}
-use Rattle.be_span.proofs.GridLemmas.{IsIn, either, in_from, has_from, pos_abs}
+use Rattle.be_span.proofs.GridLemmas.{IsIn, in_from, has_from}
 
 -- ---- rows
 
@@ -44,7 +46,7 @@ row_changed f old mid new r count left y next from wide top bottom step so_far c
         let low = inside.left in
         let high = inside.right in
         let k = unsigned_abs (x -ℤ left) in
-        let is : pos k ≡ x -ℤ left = pos_abs (x -ℤ left) (omega (arith, ints)) in
+        let is : pos k ≡ x -ℤ left = unsigned_abs_is (x -ℤ left) (omega (arith, ints)) in
         let at : left +ℤ pos k ≡ x = omega (arith, ints) in
         let P : ℤ → Type 0 = λ z. cell_in new z y ≡ option_map (f z y) (cell_in mid z y) in
         subst P at (changed k (omega (arith, ints))) ∙ ap (option_map (f x y)) (so_far.below x y (omega (arith, ints)))
@@ -79,7 +81,7 @@ chosen rule at x y (Some c) = picked (at x y) (rule x y c) c
 pub block_painted : (rule : Rule) (at : ℤ → ℤ → Bool) (old new : Spans) (r : Rect) (end : ℤ) → new.rects ≡ old.rects → ((x y : ℤ) → rect_has r x y ≡ true → y <ℤ end) → AreChangedTo (changed rule at) old new r end → IsPainted rule (λ x y. rect_has r x y && at x y) old new
 block_painted rule at old new r end same within is = record {
   region = same;
-  cells = λ x y. elim (either (rect_has r x y)) [
+  cells = λ x y. elim (true_or_false (rect_has r x y)) [
     | inl h ↦ is.inside x y h (within x y h) ∙ chosen rule at x y (cell_in old x y) ∙ sym (ap (λ b. cond (b && at x y) (option_map (rule x y) (cell_in old x y)) (cell_in old x y)) h)
     | inr h ↦ is.beside x y h ∙ sym (ap (λ b. cond (b && at x y) (option_map (rule x y) (cell_in old x y)) (cell_in old x y)) h)
   ];
@@ -89,8 +91,8 @@ block_painted rule at old new r end same within is = record {
 pub place_down : (r : Rect) (x y : ℤ) → r.top ≤ℤ y → place_in r x (y +ℤ pos 1) ≡ place_in r x y + width_of r
 unfolding place_in
 place_down r x y below =
-    let here = pos_abs (y -ℤ r.top) (omega (arith, ints)) in
-    let next = pos_abs (y +ℤ pos 1 -ℤ r.top) (omega (arith, ints)) in
+    let here = unsigned_abs_is (y -ℤ r.top) (omega (arith, ints)) in
+    let next = unsigned_abs_is (y +ℤ pos 1 -ℤ r.top) (omega (arith, ints)) in
     further (unsigned_abs (y -ℤ r.top)) (unsigned_abs (y +ℤ pos 1 -ℤ r.top)) (width_of r) (unsigned_abs (x -ℤ r.left)) (one_more _ _ here next)
   where
     one_more : (a b : ℕ) → pos a ≡ y -ℤ r.top → pos b ≡ y +ℤ pos 1 -ℤ r.top → b ≡ a + 1

@@ -9,6 +9,8 @@ use Rattle.std.proofs.lemmas.List.Sums.{sum_by-cons, sum_by-append, sum_by-take-
 use Rattle.std.proofs.lemmas.List.Elements.{All-head, All-tail}
 use Rattle.std.proofs.lemmas.Option.{slice_get-get_or}
 use borrow.Rule.Slice.PartMut.{put_mid}
+use Rattle.be_facts.proofs.Numbers.{plus_zero}
+use Rattle.be_facts.proofs.Truths.{true_or_false}
 use Rattle.be_geom.specs.declared.rect.Rect.{Rect}
 use Rattle.be_color.specs.declared.colors.Rgb.{Rgb}
 use Rattle.be_region.specs.Regions.{region_has}
@@ -16,7 +18,6 @@ use Rattle.be_span.specs.declared.Cell.{Cell}
 use Rattle.be_span.specs.Cells.{colored_as}
 use Rattle.be_span.specs.Spans.{Spans, pixels_of, place_of, cell_in, black_cell, clean_cell}
 use Rattle.be_span.specs.Runs.{IsRunFrom, HasRun, IsBeside}
-use Rattle.be_span.proofs.GridLemmas.{either}
 use Rattle.be_span.proofs.PlaceLemmas.{place_none, place_found, place_has, place_below, place_same}
 
 -- ---- parts of lists
@@ -114,16 +115,13 @@ changed_cell_in rs old new f start n x y k places e less =
     let at = places k less in
     ap (option_and_then (slice_get new)) at ∙ e ∙ ap (option_map f) (sym (ap (option_and_then (slice_get old)) at))
 
-pub at_zero : (x : ℤ) → x +ℤ pos 0 ≡ x
-at_zero x = omega (arith, ints)
-
 pub run_long : (rs : List Rect) (start len n : ℕ) (x y : ℤ) → IsRunFrom rs start len x y → HasRun rs x y n → n ≤ len
 run_long rs start len n x y run has =
     elim (cases_lt len n) [ inl h ↦ absurd (true≢false (sym (has len h) ∙ run.ends)) | inr h ↦ h ]
 
 -- a run that isn't empty has its first pixel
 pub no_run : (rs : List Rect) (x y : ℤ) (n k : ℕ) → region_has rs x y ≡ false → HasRun rs x y n → k < n → ⊥
-no_run rs x y n k out has less = true≢false (sym (has 0 (omega arith)) ∙ ap (λ z. region_has rs z y) (at_zero x) ∙ out)
+no_run rs x y n k out has less = true≢false (sym (has 0 (omega arith)) ∙ ap (λ z. region_has rs z y) (plus_zero x) ∙ out)
 
 not_beside : (x y : ℤ) (n : ℕ) (z w : ℤ) (k : ℕ) → k < n → x +ℤ pos k ≡ z → w ≡ y → IsBeside x y n z w → ⊥
 not_beside x y n z w k less across down (inl h) = h down
@@ -168,7 +166,7 @@ row_ends rs cells part start len x y run e whole =
 
 pub run_has : (rs : List Rect) (start len : ℕ) (x y : ℤ) → IsRunFrom rs start len x y → region_has rs x y ≡ true
 run_has rs start len x y run =
-    place_has rs x y start (ap (λ z. place_of rs z y) (sym (at_zero x)) ∙ run.places 0 run.some ∙ ap Some (omega arith))
+    place_has rs x y start (ap (λ z. place_of rs z y) (sym (plus_zero x)) ∙ run.places 0 run.some ∙ ap Some (omega arith))
 
 pub row_inside : (rs : List Rect) (cells part : List Cell) (start len : ℕ) (x y : ℤ) → IsRunFrom rs start len x y → part ≡ take (start + len - start) (drop start cells) → length cells ≡ pixels_of rs → (0 < length part) ↔ (region_has rs x y ≡ true)
 row_inside rs cells part start len x y run e whole =
@@ -184,7 +182,7 @@ row_run rs cells part start len x y run e whole k less =
     place_has rs (x +ℤ pos k) y (start + k) (run.places k (omega arith))
 
 pub no_row_ends : (s : Spans) (x y : ℤ) → region_has s.rects x y ≡ false → cell_in s (x +ℤ pos 0) y ≡ None
-no_row_ends s x y e = ap (λ z. cell_in s z y) (at_zero x) ∙ cell_none s x y e
+no_row_ends s x y e = ap (λ z. cell_in s z y) (plus_zero x) ∙ cell_none s x y e
 
 -- a row written over others
 pub put_cells : (rs : List Rect) (new : List Cell) (row : List Cell) (start len : ℕ) (x y : ℤ) (k : ℕ) → IsRunFrom rs start len x y → HasRun rs x y (length row) → slice_get new (start + k) ≡ slice_get row k → k < length row → cell_in (spans rs new) (x +ℤ pos k) y ≡ slice_get row k
@@ -210,7 +208,7 @@ copied_cells_in rs old new start len from from_len n x y from_x from_y k run sou
 pub cell_all : (rs : List Rect) (cells : List Cell) (c : Cell) (x y : ℤ) → length cells ≡ pixels_of rs → All (λ d. d ≡ c) cells → cell_in (spans rs cells) x y ≡ cond (region_has rs x y) (Some c) None
 unfolding cell_in
 cell_all rs cells c x y whole same =
-    elim (either (region_has rs x y)) [
+    elim (true_or_false (region_has rs x y)) [
       | inl h ↦ there h (place_found rs x y h)
       | inr h ↦ ap (option_and_then (slice_get cells)) (place_none rs x y h) ∙ sym (cond-false (region_has rs x y) (Some c) None h)
     ]
@@ -244,3 +242,11 @@ cell_some s x y whole h =
     let below = place_below s.rects x y found.0 found.1 in
     let inside : found.0 < length s.cells = omega arith in
     (get_or s.cells found.0 black_cell, ap (option_and_then (slice_get s.cells)) found.1 ∙ slice_get-get_or s.cells found.0 black_cell inside)
+
+pub same_map : (f g : Cell → Cell) → ((c : Cell) → f c ≡ g c) → (o : Option Cell) → option_map f o ≡ option_map g o
+same_map f g h None = refl
+same_map f g h (Some c) = ap Some (h c)
+
+pub kept_map : (f : Cell → Cell) → ((c : Cell) → f c ≡ c) → (o : Option Cell) → o ≡ option_map f o
+kept_map f h None = refl
+kept_map f h (Some c) = ap Some (sym (h c))

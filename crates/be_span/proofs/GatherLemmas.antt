@@ -5,6 +5,7 @@ use Rattle.std.proofs.lemmas.Int.{ints, by_lt_z}
 use Rattle.std.proofs.lemmas.Bool.{cases_lt, cond-true, cond-false}
 use Rattle.std.proofs.lemmas.List.{take_all}
 use Rattle.std.proofs.lemmas.Option.{slice_get-get_or, slice_get_within, get_or_from_slice_get}
+use Rattle.be_facts.proofs.Truths.{true_or_false}
 use Rattle.be_geom.specs.declared.rect.Rect.{Rect}
 use Rattle.be_geom.specs.Rects.{rect_has}
 use Rattle.be_region.specs.Bands.{AreBands}
@@ -12,7 +13,7 @@ use Rattle.be_region.specs.Regions.{region_has, IsNotEmpty}
 use Rattle.be_span.specs.declared.Cell.{Cell}
 use Rattle.be_span.specs.Gathered.{upper, upper_in, IsLonger, HasRows}
 use Rattle.be_span.specs.Spans.{Spans, cell_in, is_dirty, black_cell, width_of, height_of, area_of, pixels_of, place_in, place_of}
-use Rattle.be_span.proofs.GridLemmas.{either, IsIn, in_from, has_from, high_is, place_above, place_in_row}
+use Rattle.be_span.proofs.GridLemmas.{IsIn, in_from, has_from, high_is, place_above, place_in_row}
 use Rattle.be_span.proofs.PlaceLemmas.{place_found, place_below, pixel_of, place_of_rect, pixels_more}
 use Rattle.be_span.proofs.CellLemmas.{append_left, append_right, slice_get-take, spans, cell_none, cell_some}
 use Rattle.be_span.proofs.LaidLemmas.{column_at}
@@ -160,7 +161,7 @@ gathered_all f rs cells m x y n all h at =
 pub all_gathered : (f : ℤ → ℤ → Option Cell) (rs : List Rect) (cells : List Cell) (x y : ℤ) → ((x y : ℤ) (n : ℕ) → place_of rs x y ≡ Some n → slice_get cells n ≡ f x y) → cell_in (spans rs cells) x y ≡ cond (region_has rs x y) (f x y) None
 unfolding cell_in
 all_gathered f rs cells x y h =
-    elim (either (region_has rs x y)) [
+    elim (true_or_false (region_has rs x y)) [
       | inl e ↦ there e (place_found rs x y e)
       | inr e ↦ cell_none (spans rs cells) x y e ∙ sym (cond-false (region_has rs x y) (f x y) None e)
     ]
@@ -218,7 +219,7 @@ upper_clean : (a d : Option Cell) → is_dirty a ≡ false → is_dirty d ≡ fa
 upper_clean (Some c) d e f = e
 upper_clean None d e f = f
 
--- where no cell of either buffer is dirty, none of theirs is
+-- where no cell of true_or_false buffer is dirty, none of theirs is
 pub gathered_clean : (under over : Spans) (rs : List Rect) (cells : List Cell) → AreBands rs → length cells ≡ pixels_of rs → ((x y : ℤ) (n : ℕ) → place_of rs x y ≡ Some n → slice_get cells n ≡ upper_in under over x y) → count_by (λ c. c.dirty) under.cells ≡ 0 → count_by (λ c. c.dirty) over.cells ≡ 0 → count_by (λ c. c.dirty) cells ≡ 0
 gathered_clean under over rs cells bands long h e f =
     all_clean cells (λ k less. at_pixel k (pixel_of rs k bands.none_empty bands.in_order (omega arith)))

@@ -1,27 +1,20 @@
 -- Where the pixels of one rectangle stand.
-use Rattle.std.proofs.Common.{◌≡◌, ℕ, ◌+◌, ◌*◌, ◌/◌, ◌%◌, ◌<◌, ℤ, pos, negsuc, ◌+ℤ◌, ◌-ℤ◌, ◌≤ℤ◌, ◌<ℤ◌, Bool, true, false, ◌⊎◌, inl, inr, refl, ap, ◌∙◌, arith}
+use Rattle.std.proofs.Common.{◌≡◌, ℕ, ◌+◌, ◌*◌, ◌/◌, ◌%◌, ◌<◌, ℤ, pos, ◌+ℤ◌, ◌-ℤ◌, ◌≤ℤ◌, ◌<ℤ◌, true, refl, ap, ◌∙◌, arith}
 use Rattle.std.specs.Prelude.{unsigned_abs}
 use Rattle.std.proofs.lemmas.Int.{ints}
 use Rattle.std.proofs.lemmas.Nat.{mul-add-lt, same_from_place, div_below, div-add-mod'}
 use Rattle.std.proofs.lemmas.Bool.{and_parts}
+use Rattle.be_facts.proofs.Numbers.{unsigned_abs_is}
 use Rattle.be_geom.specs.declared.rect.Rect.{Rect}
 use Rattle.be_geom.specs.Points.{between}
 use Rattle.be_geom.specs.Rects.{rect_has}
+use Rattle.be_geom.proofs.Between.{is_between}
 use Rattle.be_region.specs.Regions.{IsNotEmpty}
 use Rattle.be_span.specs.Spans.{width_of, height_of, area_of, place_in}
-
--- a test says yes or no
-pub either : (b : Bool) → (b ≡ true) ⊎ (b ≡ false)
-either true = inl refl
-either false = inr refl
 
 between_parts : (low z high : ℤ) → between low z high ≡ true → (low ≤ℤ z) × (z ≤ℤ high)
 unfolding between
 between_parts low z high e = (grind (arith, ints), grind (arith, ints))
-
-is_between : (low z high : ℤ) → low ≤ℤ z → z ≤ℤ high → between low z high ≡ true
-unfolding between
-is_between low z high h k = grind (arith, ints)
 
 -- the rectangle has the pixel
 pub record IsIn (r : Rect) (x y : ℤ) : Type 0 where
@@ -40,15 +33,11 @@ in_from r x y e =
 pub has_from : (r : Rect) (x y : ℤ) → IsIn r x y → rect_has r x y ≡ true
 has_from r x y h = rw (is_between r.left x r.right h.left h.right, is_between r.top y r.bottom h.top h.bottom) refl
 
-pub pos_abs : (z : ℤ) → pos 0 ≤ℤ z → pos (unsigned_abs z) ≡ z
-pos_abs (pos n) h = refl
-pos_abs (negsuc n) h = absurd (omega (arith, ints))
-
 pub wide_is : (r : Rect) → r.left ≤ℤ r.right → pos (width_of r) ≡ r.right -ℤ r.left +ℤ pos 1
-wide_is r h = pos_abs (r.right -ℤ r.left +ℤ pos 1) (omega (arith, ints))
+wide_is r h = unsigned_abs_is (r.right -ℤ r.left +ℤ pos 1) (omega (arith, ints))
 
 pub high_is : (r : Rect) → r.top ≤ℤ r.bottom → pos (height_of r) ≡ r.bottom -ℤ r.top +ℤ pos 1
-high_is r h = pos_abs (r.bottom -ℤ r.top +ℤ pos 1) (omega (arith, ints))
+high_is r h = unsigned_abs_is (r.bottom -ℤ r.top +ℤ pos 1) (omega (arith, ints))
 
 -- the row and the column of a pixel, counted from the rectangle's left top
 pub record IsCellOf (r : Rect) (x y : ℤ) (row column width height : ℕ) : Type 0 where
@@ -67,10 +56,10 @@ pub cell_of : (r : Rect) (x y : ℤ) → IsIn r x y → IsCellOf r x y (row_in r
 cell_of r x y h =
     let left = h.left in let right = h.right in let top = h.top in let bottom = h.bottom in
     record {
-      row_is = pos_abs (y -ℤ r.top) (omega (arith, ints));
-      column_is = pos_abs (x -ℤ r.left) (omega (arith, ints));
-      width_is = pos_abs (r.right -ℤ r.left +ℤ pos 1) (omega (arith, ints));
-      height_is = pos_abs (r.bottom -ℤ r.top +ℤ pos 1) (omega (arith, ints));
+      row_is = unsigned_abs_is (y -ℤ r.top) (omega (arith, ints));
+      column_is = unsigned_abs_is (x -ℤ r.left) (omega (arith, ints));
+      width_is = unsigned_abs_is (r.right -ℤ r.left +ℤ pos 1) (omega (arith, ints));
+      height_is = unsigned_abs_is (r.bottom -ℤ r.top +ℤ pos 1) (omega (arith, ints));
     }
 
 column_below : (r : Rect) (x y : ℤ) (row column width height : ℕ) → IsIn r x y → IsCellOf r x y row column width height → (row < height) × (column < width)

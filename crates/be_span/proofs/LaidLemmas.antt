@@ -2,18 +2,21 @@
 use Rattle.std.proofs.Common.{◌≡◌, ℕ, zero, suc, ◌+◌, ◌-◌, ◌<◌, ◌≤◌, ℤ, pos, ◌+ℤ◌, ◌-ℤ◌, ◌≤ℤ◌, ◌<ℤ◌, Bool, true, false, ◌||◌, ◌⊎◌, inl, inr, List, [], ◌∷◌, length, get_or, take, min, Option, Some, None, slice_get, cond, refl, sym, ap, ◌∙◌, subst, arith, add-one}
 use Rattle.std.specs.Prelude.{unsigned_abs}
 use Rattle.std.proofs.lemmas.Int.{ints, by_lt_z}
-use Rattle.std.proofs.lemmas.Bool.{cases_lt, cond-true, cond-false, or_left, or_right, true≢false}
+use Rattle.std.proofs.lemmas.Bool.{cases_lt, cond-true, cond-false, or_left, or_right}
 use Rattle.std.proofs.lemmas.List.{take_all}
 use Rattle.std.proofs.lemmas.Option.{none-some, same_Some, slice_get-get_or}
+use Rattle.be_facts.proofs.Numbers.{int_le_self, unsigned_abs_is}
+use Rattle.be_facts.proofs.Truths.{true_or_false}
 use Rattle.be_geom.specs.declared.rect.Rect.{Rect}
 use Rattle.be_geom.specs.Rects.{rect_has}
+use Rattle.be_geom.proofs.RectLemmas.{out_of}
 use Rattle.be_region.specs.Regions.{region_has}
 use Rattle.be_region.specs.Runs.{IsRun}
 use Rattle.be_span.specs.declared.Cell.{Cell}
 use Rattle.be_span.specs.Laid.{IsLaidRun, IsLaidAbove}
 use Rattle.be_span.specs.Runs.{IsBeside}
 use Rattle.be_span.specs.Spans.{Spans, cell_in, laid, black_cell, pixels_of}
-use Rattle.be_span.proofs.GridLemmas.{either, pos_abs, IsIn, in_from, has_from}
+use Rattle.be_span.proofs.GridLemmas.{IsIn, in_from, has_from}
 use Rattle.be_span.proofs.CellLemmas.{cell_none, cell_some}
 
 pub laid_nothing : (s d : Option Cell) → s ≡ None → laid s d ≡ d
@@ -47,8 +50,8 @@ gap_none s x y last len rest n k run out long e less =
 -- where no pixel that is laid has a place, all stay
 pub far_stays : (from to : Spans) (x y z w : ℤ) → (region_has from.rects z w ≡ true → region_has to.rects x y ≡ true → ⊥) → cell_in to x y ≡ laid (cell_in from z w) (cell_in to x y)
 far_stays from to x y z w far =
-    elim (either (region_has from.rects z w)) [
-      | inl e ↦ elim (either (region_has to.rects x y)) [
+    elim (true_or_false (region_has from.rects z w)) [
+      | inl e ↦ elim (true_or_false (region_has to.rects x y)) [
         | inl f ↦ absurd (far e f)
         | inr f ↦ cell_none to x y f ∙ sym (laid_outside (cell_in from z w)) ∙ ap (laid (cell_in from z w)) (sym (cell_none to x y f))
       ]
@@ -119,7 +122,7 @@ run_at from fx fy gx gy now new x y z w n a b c d h =
 
 -- the number of a column that isn't before the first
 pub column_at : (x z : ℤ) → x ≤ℤ z → (k : ℕ) × (x +ℤ pos k ≡ z)
-column_at x z h = (unsigned_abs (z -ℤ x), sum_is (unsigned_abs (z -ℤ x)) (pos_abs (z -ℤ x) (omega (arith, ints))))
+column_at x z h = (unsigned_abs (z -ℤ x), sum_is (unsigned_abs (z -ℤ x)) (unsigned_abs_is (z -ℤ x) (omega (arith, ints))))
   where
     sum_is : (k : ℕ) → pos k ≡ z -ℤ x → x +ℤ pos k ≡ z
     sum_is k e = omega (arith, ints)
@@ -131,9 +134,6 @@ above_none cells old r end e = record {
   inside = λ x y left right from to. absurd (omega (arith, ints));
   beside = λ x y h. refl;
 }
-
-≤_same : (z : ℤ) → z ≤ℤ z
-≤_same z = omega (arith, ints)
 
 -- one row more
 pub above_more : (from : Spans) (dx dy fx fy : ℤ) (old now new : Spans) (r : Rect) (y : ℤ) (n : ℕ) → r.top ≤ℤ y → fx ≡ r.left -ℤ dx → fy ≡ y -ℤ dy → pos n ≡ r.right -ℤ r.left +ℤ pos 1 → IsLaidAbove (λ x z. cell_in from (x -ℤ dx) (z -ℤ dy)) old now r y → IsLaidRun (λ k. cell_in from (fx +ℤ pos k) fy) now new r.left y n → IsLaidAbove (λ x z. cell_in from (x -ℤ dx) (z -ℤ dy)) old new r (y +ℤ pos 1)
@@ -165,7 +165,7 @@ above_more from dx dy fx fy old now new r y n low across down long so_far row = 
     in_row x w left right e found =
         ap (cell_in new x) (sym e)
         ∙ at_column x found.0 found.1 right
-        ∙ ap (laid (cell_in from (x -ℤ dx) (y -ℤ dy))) (so_far.beside x y (inr (inr (inr (≤_same y)))))
+        ∙ ap (laid (cell_in from (x -ℤ dx) (y -ℤ dy))) (so_far.beside x y (inr (inr (inr (int_le_self y)))))
         ∙ ap (λ v. laid (cell_in from (x -ℤ dx) (v -ℤ dy)) (cell_in old x v)) e
 
     row_side : (x w : ℤ) → (x <ℤ r.left) ⊎ (r.right <ℤ x) ⊎ (w <ℤ r.top) ⊎ ((y +ℤ pos 1) ≤ℤ w) → IsBeside r.left y n x w
@@ -179,11 +179,6 @@ above_more from dx dy fx fy old now new r y n low across down long so_far row = 
     above_side x w (inr (inl h)) = inr (inl h)
     above_side x w (inr (inr (inl h))) = inr (inr (inl h))
     above_side x w (inr (inr (inr h))) = inr (inr (inr (omega (arith, ints))))
-
--- a pixel outside a rectangle lies on one of its sides
-out_of : (r : Rect) (x y : ℤ) → rect_has r x y ≡ false → (x <ℤ r.left) ⊎ (r.right <ℤ x) ⊎ (y <ℤ r.top) ⊎ ((r.bottom +ℤ pos 1) ≤ℤ y)
-out_of r x y e =
-    by_lt_z x r.left inl (λ left. by_lt_z r.right x (λ h. inr (inl h)) (λ right. by_lt_z y r.top (λ h. inr (inr (inl h))) (λ top. by_lt_z r.bottom y (λ h. inr (inr (inr (omega (arith, ints))))) (λ bottom. absurd (true≢false (sym (has_from r x y record { left = left; right = right; top = top; bottom = bottom }) ∙ e))))))
 
 pub above_next : (cells : ℤ → ℤ → Option Cell) (old new : Spans) (r : Rect) (m : ℕ) → IsLaidAbove cells old new r (r.top +ℤ pos m +ℤ pos 1) → IsLaidAbove cells old new r (r.top +ℤ pos (m + 1))
 above_next cells old new r m h = subst (IsLaidAbove cells old new r) (sum_is r.top) h
@@ -204,7 +199,7 @@ row_has rs r x y row width height k inside across down less high wide few =
 
 pub above_all : (cells : ℤ → ℤ → Option Cell) (old new : Spans) (r : Rect) (x y : ℤ) → IsLaidAbove cells old new r (r.bottom +ℤ pos 1) → cell_in new x y ≡ cond (rect_has r x y) (laid (cells x y) (cell_in old x y)) (cell_in old x y)
 above_all cells old new r x y h =
-    elim (either (rect_has r x y)) [
+    elim (true_or_false (rect_has r x y)) [
       | inl e ↦ inside (in_from r x y e) ∙ sym (cond-true (rect_has r x y) (laid (cells x y) (cell_in old x y)) (cell_in old x y) e)
       | inr e ↦ h.beside x y (out_of r x y e) ∙ sym (cond-false (rect_has r x y) (laid (cells x y) (cell_in old x y)) (cell_in old x y) e)
     ]
@@ -214,7 +209,7 @@ above_all cells old new r x y h =
 
 -- ---- all rectangles
 
-has_more : (rs : List Rect) (m : ℕ) (r : Rect) (x y : ℤ) → slice_get rs m ≡ Some r → region_has (take (suc m) rs) x y ≡ (region_has (take m rs) x y || rect_has r x y)
+pub has_more : (rs : List Rect) (m : ℕ) (r : Rect) (x y : ℤ) → slice_get rs m ≡ Some r → region_has (take (suc m) rs) x y ≡ (region_has (take m rs) x y || rect_has r x y)
 has_more [] m r x y e = absurd (none-some r e)
 has_more (q ∷ rs) zero r x y e = or_false (rect_has q x y) ∙ ap (λ s. rect_has s x y) (same_Some q r e)
   where
@@ -243,7 +238,7 @@ pub all_laid : (cells : ℤ → ℤ → Option Cell) (old new : Spans) (m : ℕ)
 all_laid cells old new m all h x y =
     h x y
     ∙ ap (λ l. cond (region_has l x y) (laid (cells x y) (cell_in old x y)) (cell_in old x y)) (take_all m old.rects all)
-    ∙ elim (either (region_has old.rects x y)) [
+    ∙ elim (true_or_false (region_has old.rects x y)) [
       | inl e ↦ cond-true (region_has old.rects x y) (laid (cells x y) (cell_in old x y)) (cell_in old x y) e
       | inr e ↦ cond-false (region_has old.rects x y) (laid (cells x y) (cell_in old x y)) (cell_in old x y) e ∙ cell_none old x y e ∙ sym (laid_outside (cells x y)) ∙ ap (laid (cells x y)) (sym (cell_none old x y e))
     ]

@@ -10,3 +10,4 @@ pub mod ExposeLemmas
 pub mod CopyLemmas
 pub mod MaskLemmas
 pub mod BlockLemmas
+pub mod EachLemmas

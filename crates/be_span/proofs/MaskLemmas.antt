@@ -1,5 +1,5 @@
 -- The bits of a mask, from the last set bit to the first.
-use Rattle.std.proofs.Common.{◌≡◌, ℕ, zero, suc, ◌+◌, ◌-◌, ◌/◌, ◌%◌, ◌^◌, ◌<◌, ◌≤◌, min, true, false, eqb, cond, inl, inr, List, Option, Some, None, length, get_or, set, slice_get, refl, sym, ap, ◌∙◌, arith, w64, bit_and}
+use Rattle.std.proofs.Common.{◌≡◌, ℕ, zero, suc, ◌+◌, ◌-◌, ◌/◌, ◌%◌, ◌^◌, ◌<◌, ◌≤◌, min, true, false, eqb, cond, inl, inr, List, Option, Some, None, length, get_or, set, slice_get, refl, sym, ap, ◌∙◌, arith, w64, bit_and, ◌==◌}
 use Rattle.std.specs.Prelude.{◌&&◌, not, nat_lt}
 use Rattle.std.specs.Option.{option_map}
 use Rattle.std.specs.Int.{bit_at, trailing_zeros}
@@ -16,10 +16,10 @@ use Rattle.be_span.proofs.SliceLemmas.{slice_get-set_same, slice_get-set_other, 
 mask_at : (bits k : ℕ) → k < 64 → mask_bit bits k ≡ eqb (bit_at bits (63 - k)) 1
 mask_at bits k less = ap (λ b. b && eqb (bit_at bits (63 - k)) 1) (lt-ltb k 64 less)
 
-mask_past : (bits k : ℕ) → 64 ≤ k → mask_bit bits k ≡ false
+pub mask_past : (bits k : ℕ) → 64 ≤ k → mask_bit bits k ≡ false
 mask_past bits k past = ap (λ b. b && eqb (bit_at bits (63 - k)) 1) (le-ltb k 64 past)
 
-mask_unset : (bits k : ℕ) → bit_at bits (63 - k) ≡ 0 → mask_bit bits k ≡ false
+pub mask_unset : (bits k : ℕ) → bit_at bits (63 - k) ≡ 0 → mask_bit bits k ≡ false
 mask_unset bits k e =
     elim (cases_lt k 64) [ inl h ↦ mask_at bits k h ∙ ap (λ b. eqb b 1) e | inr h ↦ mask_past bits k h ]
 
@@ -158,3 +158,6 @@ bit_from from bits k j e =
     let not_before : nat_lt k from ≡ false = le-ltb k from (omega arith) in
     let far : k - from ≡ j = omega arith in
     ap (λ b. not b && mask_bit bits (k - from)) not_before ∙ ap (mask_bit bits) far
+
+pub mask_within : (m k : ℕ) → k < 64 → mask_bit m k ≡ (bit_at m (63 - k) == 1)
+mask_within m k h = ap (λ b. b && (bit_at m (63 - k) == 1)) (lt-ltb k 64 h)

@@ -8,6 +8,7 @@ use Rattle.std.proofs.lemmas.Option.{same_Some, none-some, slice_get_within, get
 use Rattle.std.proofs.lemmas.List.{get_or_at}
 use Rattle.std.proofs.lemmas.List.Elements.{All-head, All-tail}
 use Rattle.std.proofs.Math.ListN.{get_or-append}
+use Rattle.be_facts.proofs.Truths.{true_or_false}
 use Rattle.be_geom.specs.declared.rect.Rect.{Rect}
 use Rattle.be_geom.specs.Rects.{rect_has}
 use Rattle.be_region.specs.Bands.{IsBefore}
@@ -15,7 +16,7 @@ use Rattle.be_region.specs.Regions.{region_has, IsNotEmpty}
 use Rattle.be_region.specs.Places.{IsSpanAt}
 use Rattle.be_span.specs.Spans.{area_of, pixels_of, place_in, place_of}
 use Rattle.be_span.specs.Runs.{IsRunFrom}
-use Rattle.be_span.proofs.GridLemmas.{either, IsIn, pixel_in_rect, in_from, has_from, place_in_below, place_in_same, place_in_next}
+use Rattle.be_span.proofs.GridLemmas.{IsIn, pixel_in_rect, in_from, has_from, place_in_below, place_in_same, place_in_next}
 
 -- ---- one rectangle more
 
@@ -31,7 +32,7 @@ place_later r rs x y e = ap (λ b. cond b (Some (place_in r x y)) (later r (plac
 -- a place is of the first rectangle, or of those behind
 pub place_parts : (r : Rect) (rs : List Rect) (x y : ℤ) (n : ℕ) → place_of (r ∷ rs) x y ≡ Some n → ((rect_has r x y ≡ true) × (n ≡ place_in r x y)) ⊎ ((rect_has r x y ≡ false) × ((m : ℕ) × ((place_of rs x y ≡ Some m) × (n ≡ area_of r + m))))
 place_parts r rs x y n e =
-    elim (either (rect_has r x y)) [
+    elim (true_or_false (rect_has r x y)) [
       | inl h ↦ inl (h, same_Some n (place_in r x y) (sym e ∙ place_first r rs x y h))
       | inr h ↦ inr (h, from_later (place_of rs x y) (sym (place_later r rs x y h) ∙ e))
     ]
@@ -59,7 +60,7 @@ place_has (r ∷ rs) x y n e =
 pub place_found : (rs : List Rect) (x y : ℤ) → region_has rs x y ≡ true → (n : ℕ) × (place_of rs x y ≡ Some n)
 place_found [] x y e = absurd (true≢false (sym e))
 place_found (r ∷ rs) x y e =
-    elim (either (rect_has r x y)) [
+    elim (true_or_false (rect_has r x y)) [
       | inl h ↦ (place_in r x y, place_first r rs x y h)
       | inr h ↦ let rest = place_found rs x y (sym (ap (λ b. b || region_has rs x y) h) ∙ e) in (area_of r + rest.0, place_later r rs x y h ∙ ap (later r) rest.1)
     ]
@@ -100,7 +101,7 @@ place_at (q ∷ rs) (suc m) r x y less e none h =
 
 pub apart : (r s : Rect) (x y : ℤ) → IsBefore r s → rect_has s x y ≡ true → rect_has r x y ≡ false
 apart r s x y before has =
-    elim (either (rect_has r x y)) [ inl h ↦ absurd (both (in_from r x y h) (in_from s x y has) before) | inr h ↦ h ]
+    elim (true_or_false (rect_has r x y)) [ inl h ↦ absurd (both (in_from r x y h) (in_from s x y has) before) | inr h ↦ h ]
   where
     both : IsIn r x y → IsIn s x y → IsBefore r s → ⊥
     both a b (inl h) = let right = a.right in let left = b.left in let gap = h.2 in omega (arith, ints)
@@ -110,7 +111,7 @@ apart r s x y before has =
 before_all : (r : Rect) (rs : List Rect) (x y : ℤ) → ((k : ℕ) (d : Rect) → k < length rs → IsBefore r (get_or rs k d)) → region_has rs x y ≡ true → rect_has r x y ≡ false
 before_all r [] x y before has = absurd (true≢false (sym has))
 before_all r (q ∷ rs) x y before has =
-    elim (either (rect_has q x y)) [
+    elim (true_or_false (rect_has q x y)) [
       | inl h ↦ apart r q x y (before 0 q (omega arith)) h
       | inr h ↦ before_all r rs x y (λ k d less. before (suc k) d (omega arith)) (sym (ap (λ b. b || region_has rs x y) h) ∙ has)
     ]

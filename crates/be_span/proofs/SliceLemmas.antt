@@ -10,6 +10,7 @@ use Rattle.std.proofs.lemmas.List.{get_or_default, length-set}
 use Rattle.std.proofs.lemmas.List.Edits.{map_over_more}
 use Rattle.std.proofs.lemmas.Option.{get_or_from_slice_get, none-some, same_Some, slice_get-get_or, slice_get_past}
 use Rattle.std.proofs.lemmas.List.Sums.{sum_by-cons}
+use Rattle.be_facts.proofs.Numbers.{unsigned_abs_is}
 use Rattle.be_color.specs.declared.colors.Color.{Color}
 use Rattle.be_color.specs.declared.colors.Color.TheVariants.{Clear, Solid}
 use Rattle.be_color.specs.declared.colors.Rgb.{Rgb}
@@ -21,7 +22,6 @@ use Rattle.be_span.specs.declared.Cell.{Cell}
 use Rattle.be_span.specs.declared.brush.Brush.{Brush}
 use Rattle.be_span.specs.Slices.{color_from, color_or_clear, painted, recolored, replaces, row_bit, turned_bit}
 use Rattle.be_span.specs.Spans.{clean_cell}
-use Rattle.be_span.proofs.GridLemmas.{pos_abs}
 use Rattle.be_span.proofs.MarkLemmas.{recolored_clean}
 
 module _ {X : Type 0} where
@@ -101,7 +101,7 @@ place_is z m e = ap unsigned_abs (int_rem_euclid_is z (pos 8) 8 268435456 m (ome
 pub place_next : (column : ℤ) (k : ℕ) → negsuc 2147483647 ≤ℤ column → (place_in_pattern column + k) % 8 ≡ place_in_pattern (column +ℤ pos k)
 place_next column k low =
     let m = unsigned_abs (column +ℤ pos 2147483648) in
-    let is : pos m ≡ column +ℤ pos 2147483648 = pos_abs (column +ℤ pos 2147483648) (omega (arith, ints)) in
+    let is : pos m ≡ column +ℤ pos 2147483648 = unsigned_abs_is (column +ℤ pos 2147483648) (omega (arith, ints)) in
     rw (place_is column m (omega (arith, ints)), place_is (column +ℤ pos k) (m + k) (omega (arith, ints))) (omega arith)
 
 -- ---- colours from a cell on

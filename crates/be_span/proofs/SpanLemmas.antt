@@ -3,17 +3,15 @@ use Rattle.std.proofs.Common.{◌≡◌, ℕ, ◌+◌, ◌-◌, ◌*◌, ◌<◌
 use Rattle.std.proofs.lemmas.Int.{ints}
 use Rattle.std.proofs.lemmas.Nat.{mul-add-lt}
 use Rattle.std.proofs.lemmas.Option.{slice_get_within, get_or_from_slice_get}
+use Rattle.be_facts.proofs.Numbers.{unsigned_abs_is}
 use Rattle.be_geom.specs.declared.rect.Rect.{Rect}
 use Rattle.be_region.specs.Bands.{AreBands, IsBefore}
 use Rattle.be_region.specs.Regions.{IsNotEmpty}
 use Rattle.be_span.specs.Spans.{SpanAt, area_of, pixels_of, place_in}
 use Rattle.be_span.specs.Runs.{IsSpanOf}
 use Rattle.be_span.proofs.CellLemmas.{StandAt}
-use Rattle.be_span.proofs.GridLemmas.{IsIn, has_from, place_in_next, wide_is, high_is, pos_abs}
+use Rattle.be_span.proofs.GridLemmas.{IsIn, has_from, place_in_next, wide_is, high_is}
 use Rattle.be_span.proofs.PlaceLemmas.{apart, place_at, pixels_all}
-
-abbrev pub spanned : Rect → ℕ → SpanAt
-spanned rect start = record { rect = rect; start = start }
 
 -- the n pixels from (x, y) on to the right are in the rectangle
 pub record IsRowIn (r : Rect) (x y : ℤ) (n : ℕ) : Type 0 where
@@ -80,7 +78,7 @@ row_within r x y n some row =
     let top = row.top in
     let wide = wide_is r some.across in
     let across = some.across in
-    row_below r x y n _ _ _ _ row (pos_abs (y -ℤ r.top) (omega (arith, ints))) (pos_abs (x -ℤ r.left) (omega (arith, ints))) wide (high_is r some.down) (omega (arith, ints))
+    row_below r x y n _ _ _ _ row (unsigned_abs_is (y -ℤ r.top) (omega (arith, ints))) (unsigned_abs_is (x -ℤ r.left) (omega (arith, ints))) wide (high_is r some.down) (omega (arith, ints))
 
 -- the cells of the row are among all
 pub row_fits : (rs : List Rect) (span : SpanAt) (x y : ℤ) (n : ℕ) → AreBands rs → IsSpanOf rs span → IsRowIn span.rect x y n → span.start + place_in span.rect x y + n ≤ pixels_of rs

@@ -4,6 +4,7 @@ use Rattle.std.specs.List.{list_any, position_or_len}
 use Rattle.std.proofs.Common.{◌≡◌, ℕ, ℤ, pos, zero, suc, ◌+◌, ◌<◌, Bool, true, false, cond, not, ◌&&◌, ◌||◌, List, [], ◌∷◌, length, get_or, take, Option, Some, None, refl, sym, ap, ◌∙◌, arith}
 use Rattle.std.proofs.lemmas.Bool.{eqb-true}
 use Rattle.std.proofs.lemmas.List.Quantifiers.{position-Some}
+use Rattle.be_facts.proofs.Truths.{four_tests}
 use Rattle.be_geom.specs.declared.rect.Rect.{Rect}
 use Rattle.be_geom.specs.Numbers.{is_number}
 use Rattle.be_geom.specs.Points.{between}
@@ -16,21 +17,15 @@ use Rattle.be_stack.proofs.OrderLemmas.{searched}
 
 -- ---- the part of a frame that is on the screen
 
-swapped : (a b c d : Bool) → ((a && b) && (c && d)) ≡ ((a && c) && (b && d))
-swapped true b true d = refl
-swapped true true false d = refl
-swapped true false false d = refl
-swapped false b c d = refl
-
 -- along one direction
 cut_across : (low z high first last : ℤ) (size : ℕ) → int_le low z ≡ (int_le (pos 0) z && int_le first z) → int_le z high ≡ (int_lt z (pos size) && int_le z last) → between low z high ≡ (is_on_screen size z && between first z last)
 unfolding between
 cut_across low z high first last size e f =
-    rw (e, f) (swapped (int_le (pos 0) z) (int_le first z) (int_lt z (pos size)) (int_le z last))
+    rw (e, f) (four_tests (int_le (pos 0) z) (int_le first z) (int_lt z (pos size)) (int_le z last))
 
 pub cut : (frame part : Rect) (width height : ℕ) → ((z : ℤ) → int_le part.left z ≡ (int_le (pos 0) z && int_le frame.left z)) → ((z : ℤ) → int_le part.top z ≡ (int_le (pos 0) z && int_le frame.top z)) → ((z : ℤ) → int_le z part.right ≡ (int_lt z (pos width) && int_le z frame.right)) → ((z : ℤ) → int_le z part.bottom ≡ (int_lt z (pos height) && int_le z frame.bottom)) → (x y : ℤ) → rect_has part x y ≡ (is_on_screen width x && is_on_screen height y && rect_has frame x y)
 cut frame part width height l t r b x y =
-    rw (cut_across part.left x part.right frame.left frame.right width (l x) (r x), cut_across part.top y part.bottom frame.top frame.bottom height (t y) (b y)) (swapped (is_on_screen width x) (between frame.left x frame.right) (is_on_screen height y) (between frame.top y frame.bottom))
+    rw (cut_across part.left x part.right frame.left frame.right width (l x) (r x), cut_across part.top y part.bottom frame.top frame.bottom height (t y) (b y)) (four_tests (is_on_screen width x) (between frame.left x frame.right) (is_on_screen height y) (between frame.top y frame.bottom))
 
 -- ---- the windows in front
 

@@ -1,6 +1,7 @@
 -- A region where it lies in the view.
 use Rattle.std.proofs.Common.{◌≡◌, ℤ, pos, ◌+ℤ◌, ◌-ℤ◌, ◌≤ℤ◌, ◌<ℤ◌, Bool, true, false, ◌⊎◌, inl, inr, List, map, Option, Some, None, FitsSigned, to_z, of_z, w32, refl, sym, subst, ap, ◌∙◌, arith}
 use Rattle.std.proofs.lemmas.Int.{ints}
+use Rattle.be_facts.proofs.Truths.{false_unless_so}
 use Rattle.be_geom.specs.declared.rect.Rect.{Rect}
 use Rattle.be_geom.specs.Rects.{rect_has, moved_rect}
 use Rattle.be_geom.proofs.Between.{between_tells}
@@ -40,14 +41,10 @@ IsOutside f dx dy x y =
 frame_misses : (f : Rect) (dx dy x y : ℤ) → IsOutside f dx dy x y → rect_has f (x -ℤ dx) (y -ℤ dy) ≡ false
 frame_misses f dx dy x y h = grind (arith, ints, between_tells)
 
-follows : (b c : Bool) → (b ≡ true → c ≡ true) → c ≡ false → b ≡ false
-follows true c h e = sym (h refl) ∙ e
-follows false c h e = refl
-
 -- outside its frame a region holds nothing
 pub outside_none : (rs shown : List Rect) (f : Rect) (dx dy x y : ℤ) → map (λ r. moved_rect r dx dy) rs ≡ shown → IsFrame f rs → IsOutside f dx dy x y → region_has shown x y ≡ false
 outside_none rs shown f dx dy x y e frame h =
-    shown_has rs shown dx dy x y e ∙ follows (region_has rs (x -ℤ dx) (y -ℤ dy)) (rect_has f (x -ℤ dx) (y -ℤ dy)) (frame.holds (x -ℤ dx) (y -ℤ dy)) (frame_misses f dx dy x y h)
+    shown_has rs shown dx dy x y e ∙ false_unless_so (region_has rs (x -ℤ dx) (y -ℤ dy)) (rect_has f (x -ℤ dx) (y -ℤ dy)) (frame.holds (x -ℤ dx) (y -ℤ dy)) (frame_misses f dx dy x y h)
 
 -- a part outside
 pub outside_part : (rs shown : List Rect) (f : Rect) (dx dy x y last : ℤ) → map (λ r. moved_rect r dx dy) rs ≡ shown → IsFrame f rs → x ≤ℤ last → ((z : ℤ) → x ≤ℤ z → z ≤ℤ last → IsOutside f dx dy z y) → IsPart (λ z. region_has shown z y) x last

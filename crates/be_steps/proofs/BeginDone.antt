@@ -9,10 +9,10 @@ use Rattle.be_asking.specs.declared.activity.Runner.TheVariants as by
 use Rattle.be_asking.specs.declared.want.Want.{Want}
 use Rattle.be_asking.specs.declared.want.Want.TheVariants as want
 use Rattle.be_geom.specs.declared.rect.Rect.{Rect}
+use Rattle.be_geom.proofs.Numbered.{number_is}
 use Rattle.be_hall.specs.Hands.{Hand, part_at, with_part}
 use Rattle.be_looper.specs.Duties as duties
 use Rattle.be_machine.proofs.PixelExposed.{owned_cell_after}
-use Rattle.be_machine.proofs.ReadsDirt.{number_is}
 use Rattle.be_machine.specs.KeptLimits.{NoSessionAtBegin}
 use Rattle.be_machine.specs.Pixels.{owner_in}
 use Rattle.be_machine.specs.State.{State, beginning, ending, handling, in_update}
@@ -35,7 +35,7 @@ use Rattle.be_parts.specs.declared.part.Part.TheVariants as kinds
 use Rattle.be_rules.specs.Places.{place_of}
 use Rattle.be_rules.specs.Slices.{Slice, pane, shown_of, slice_of}
 use Rattle.be_script.specs.Script.{Declared}
-use Rattle.be_steps.proofs.BeginStates.{begins_there, begun_is, begun_pane, has_begun, link_kept, looper_open, looper_passed}
+use Rattle.be_steps.proofs.BeginStates.{begun_is, begun_pane, has_begun, link_kept, looper_open, looper_passed}
 use Rattle.be_steps.proofs.FewViews.{few_listed}
 use Rattle.be_steps.proofs.Leaving.{left_is}
 use Rattle.be_steps.proofs.Making.{done, now, read, so, then_is, there, wanted_now}
@@ -48,6 +48,7 @@ use Rattle.be_update.specs.Laws.{BegunAsTheMachine, FoundAsTheMachine, ListedAsD
 use Rattle.be_update.specs.Sessions.{is_any}
 use Rattle.be_update.specs.Surveys.{Surveyed}
 use Rattle.be_views.specs.Whole.{IsTree}
+use Rattle.be_machine.proofs.KeptSessions.{begins_there}
 
 not_clean : (b : Bool) (P : Type 0) → (P → ⊥) → (P ↔ (b ≡ false)) → b ≡ true
 not_clean true P waits both = refl

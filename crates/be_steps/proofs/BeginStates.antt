@@ -2,18 +2,17 @@
 use Rattle.std.proofs.Common.{◌≡◌, ℕ, Bool, true, false, List, map, Option, Some, None, refl, ap, ◌∙◌}
 use Rattle.std.specs.Prelude.{ℤ, ◌==◌, option_map, option_and_then, slice_get, if◌then◌else◌}
 use Rattle.std.specs.Option.{option_map_or}
-use Rattle.std.proofs.lemmas.Option.{same_Some, slice_get-map}
+use Rattle.std.proofs.lemmas.Option.{slice_get-map}
 use Rattle.be_actor.specs.Wishes.{first_place, has_no_room}
-use Rattle.be_actor.specs.declared.Wish.{Wish}
 use Rattle.be_geom.specs.declared.point.Point.{Point}
 use Rattle.be_looper.specs.Duties.{Hand}
-use Rattle.be_machine.specs.Activities.{Runner, looper, runner}
+use Rattle.be_machine.specs.Activities.{looper}
 use Rattle.be_machine.specs.Program.{body_wish, buffered, letter_program, update_program}
 use Rattle.be_machine.specs.State.{Looper, State, beginning, ending, free, handling, in_body, in_update, locked}
 use Rattle.be_machine.specs.Step.{met}
 use Rattle.be_machine.specs.Touched as part
 use Rattle.be_machine.specs.Update.{at_stage, begun, listing_of, opened, passed_by}
-use Rattle.be_machine.specs.Wants.{Want, asks_or, begins, draws_end, ends, flushes, looper_want, want_of}
+use Rattle.be_machine.specs.Wants.{begins, draws_end, ends, flushes, looper_want}
 use Rattle.be_machine.specs.Windows.{corner_at, dirty_of}
 use Rattle.be_message.specs.Messages.{Message}
 use Rattle.be_pane.specs.declared.pane.Pane.{Pane}
@@ -27,13 +26,9 @@ use Rattle.be_span.specs.declared.Cell.{Cell}
 use Rattle.be_steps.proofs.Moved.{at_map}
 use Rattle.be_update.specs.Sessions.{is_any}
 use Rattle.be_update.specs.Surveys.{HasBegun, Surveyed}
+use Rattle.be_machine.proofs.KeptSessions.{not_begins}
 
 -- ---- who begins
-
-not_begins : (who : Runner) (w : ℕ) (o : Option Wish) (b : Bool) (x y : Want) → (x ≡ begins w → ⊥) → (y ≡ begins w → ⊥) → asks_or who o (if b then x else y) ≡ begins w → ⊥
-not_begins who w (Some wish) b x y f g e = cc
-not_begins who w None true x y f g e = f e
-not_begins who w None false x y f g e = g e
 
 begins_by : (d : Declared) (s : State) (w : ℕ) (l : Looper) → looper_want d s w l ≡ begins w → (hand : Hand Message) × (l ≡ handling hand beginning)
 begins_by d s w (handling hand (in_body place)) e = absurd (not_begins (looper w) w (body_wish s w hand (letter_program d w hand) place) (buffered s (looper w) == 0) (ends w) (flushes w) (λ never. cc) (λ never. cc) e)
@@ -42,15 +37,6 @@ begins_by d s w (handling hand (in_update views place)) e = absurd (not_begins (
 begins_by d s w (handling hand ending) e = absurd (not_begins (looper w) w None (buffered s (looper w) == 0) (ends w) (flushes w) (λ never. cc) (λ never. cc) e)
 begins_by d s w (locked m) e = absurd (cc)
 begins_by d s w free e = absurd (cc)
-
-begins_read : (d : Declared) (s : State) (w : ℕ) (o : Option Looper) → slice_get s.loopers w ≡ o → option_map (looper_want d s w) o ≡ Some (begins w) → (hand : Hand Message) × (slice_get s.loopers w ≡ Some (handling hand beginning))
-begins_read d s w (Some l) read e = let is : (hand : Hand Message) × (l ≡ handling hand beginning) = begins_by d s w l (same_Some (looper_want d s w l) (begins w) e) in (is.0, read ∙ ap (λ (x : Looper). Some x) is.1)
-begins_read d s w None read e = absurd (cc)
-
--- a looper that wants to begin has a notice in its hand
-pub begins_there : (d : Declared) (s : State) (w : ℕ) → want_of d s (runner (looper w)) ≡ Some (begins w) → (hand : Hand Message) × (slice_get s.loopers w ≡ Some (handling hand beginning))
-unfolding want_of
-begins_there d s w e = begins_read d s w (slice_get s.loopers w) refl e
 
 -- ---- a pane in which the update has begun
 

@@ -1,8 +1,10 @@
 -- A command that is no change, executed as a step.
-use Rattle.std.proofs.Common.{◌≡◌, ℕ, Bool, true, false, List, [], ◌∷◌, Option, Some, None, ◌⊎◌, inl, inr, refl, sym, ap, ◌∙◌, subst, ⊎_elim}
-use Rattle.std.specs.Prelude.{◌&&◌, is_some, option_map, option_and_then, slice_get, unwrap_or}
+use Rattle.std.proofs.Common.{◌≡◌, ℕ, true, List, [], ◌∷◌, Option, Some, None, ◌⊎◌, inl, inr, refl, sym, ap, ◌∙◌, subst, ⊎_elim}
+use Rattle.std.specs.Prelude.{is_some, option_map, option_and_then, slice_get}
 use Rattle.std.specs.Option.{option_map_or}
 use Rattle.std.proofs.lemmas.Option.{same_Some}
+use Rattle.be_facts.proofs.Truths.{and_first}
+use Rattle.be_geom.proofs.Numbered.{number_is}
 use Rattle.be_asking.specs.declared.activity.Activity.TheVariants as who
 use Rattle.be_asking.specs.declared.want.Want.TheVariants as want
 use Rattle.be_bitmap.specs.Pictures.{Picture}
@@ -12,7 +14,6 @@ use Rattle.be_command.specs.declared.Command.TheVariants.{EndUpdate}
 use Rattle.be_hall.specs.Hands.{Hand, part_at, with_part}
 use Rattle.be_link.specs.Queues.{Numbered, numbered, shortened}
 use Rattle.be_machine.proofs.PixelExposed.{owned_cell_after}
-use Rattle.be_machine.proofs.ReadsDirt.{number_is}
 use Rattle.be_machine.specs.Commands.{executed, with_effect, without_front}
 use Rattle.be_machine.specs.KeptLimits.{LinkedAreWithinLimits}
 use Rattle.be_machine.specs.Pixels.{owner_in}
@@ -42,20 +43,13 @@ use Rattle.be_steps.specs.Steps.{IsAllowed, IsDone, LeavesAt}
 use Rattle.be_steps.specs.There.{IsThere}
 use Rattle.be_twin.proofs.PenLemmas.{command_has_pen}
 use Rattle.be_twin.specs.Judged.{HasPen, IsNoChange}
+use Rattle.be_asking.proofs.ExecutesAnswered.{a_pane, linked_by}
 
 -- ---- commands
 
-linked_by : (o : Option (List Numbered)) (c : Numbered) → slice_get (unwrap_or o []) 0 ≡ Some c → (l : List Numbered) × (o ≡ Some l) × (slice_get l 0 ≡ Some c)
-linked_by (Some l) c is = (l, refl, is)
-linked_by None c is = absurd (cc)
-
-first_of_both : (b c : Bool) → (b && c) ≡ true → b ≡ true
-first_of_both true c is = refl
-first_of_both false c is = is
-
 -- a command on its way sets no other pen
 has_pen : (d : Declared) (w : ℕ) (c : Command) → (is_command_for d w c ≡ true) ⊎ (c ≡ EndUpdate) → HasPen (effect_of c)
-has_pen d w c (inl is) = command_has_pen c (first_of_both _ _ is)
+has_pen d w c (inl is) = command_has_pen c (and_first _ _ is)
 has_pen d w c (inr ends) = subst (λ (x : Command). HasPen (effect_of x)) (sym ends) tt
 
 -- what comes out of the link is its oldest
@@ -81,11 +75,6 @@ touches_pane : (s r : State) (w : ℕ) (effect : Effect) (x : part.Part) → IsN
 touches_pane s r w (at_view v deed) x plain touched = touched
 touches_pane s r w (changes change) x plain touched = absurd plain
 touches_pane s r w ends_update x plain touched = touched
-
-pane_parts : (w : ℕ) (effect : Effect) → IsNoChange effect → effect_parts w (Some effect) ≡ part.pane w ∷ []
-pane_parts w (at_view v deed) plain = refl
-pane_parts w (changes change) plain = absurd plain
-pane_parts w ends_update plain = refl
 
 module _ (d : Declared) (old : Hand Part) (w : ℕ) (allowed : IsAllowed d old.parts (who.Twin w) (want.Executes w)) (front : HasPlainFront d old.parts w) where
   abbrev s : State
@@ -115,7 +104,7 @@ module _ (d : Declared) (old : Hand Part) (w : ℕ) (allowed : IsAllowed d old.p
   pub pane_there : IsThere d old.parts (part.pane w)
   pane_there =
       there d old.parts (who.Twin w) (want.Executes w) allowed (part.pane w)
-      (inr (subst (IsAmong (part.pane w)) (sym (ap (effect_parts w) seen ∙ pane_parts w (effect_of front.command) front.plain)) (inl refl)))
+      (inr (subst (IsAmong (part.pane w)) (sym (ap (effect_parts w) seen ∙ a_pane w (effect_of front.command) front.plain)) (inl refl)))
 
   full : IsFull s w
   full x y mine = let sound = so d old.parts (who.Twin w) (want.Executes w) allowed in owned_cell_after d sound.history w x y sound.legal (number_is w (owner_in s x y) mine)

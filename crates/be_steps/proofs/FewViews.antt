@@ -4,10 +4,11 @@ use Rattle.std.specs.List.{cons_option}
 use Rattle.std.specs.Prelude.{◌==◌, filter_map, option_map, option_and_then, slice_get, unwrap_or, if◌then◌else◌}
 use Rattle.std.proofs.lemmas.List.{length-map}
 use Rattle.std.proofs.lemmas.List.Sums.{sum_by-cons}
+use Rattle.std.proofs.lemmas.Option.{slice_get_past}
+use Rattle.be_facts.proofs.Numbers.{eq_self, eq_false_tells, eq_tells}
 use Rattle.be_geom.specs.Places.{less}
 use Rattle.be_geom.specs.declared.point.Point.{Point}
 use Rattle.be_geom.specs.declared.rect.Rect.{Rect}
-use Rattle.be_machine.proofs.Lists.{is_same_number, other_number, same_number}
 use Rattle.be_machine.proofs.NumbersGrow.{IsRooted}
 use Rattle.be_machine.proofs.WorkListing.{preorder_once, times}
 use Rattle.be_machine.specs.Lists.{with_both}
@@ -15,7 +16,6 @@ use Rattle.be_machine.specs.Orderly.{one_if}
 use Rattle.be_machine.specs.State.{State}
 use Rattle.be_machine.specs.Update.{listing_of}
 use Rattle.be_machine.specs.Windows.{corner_at, dirty_of, tree_at}
-use Rattle.be_rules.proofs.ListLemmas.{past_none}
 use Rattle.be_update.specs.Listing.{listed_views, pixels_of, rect_in, rect_round, stopped_rect}
 use Rattle.be_update.specs.Sessions.{session_of}
 use Rattle.be_views.specs.Trees.{Tree, View, corner_in, parent_of, place_from, place_of, preorder}
@@ -60,9 +60,9 @@ gone n [] = refl
 gone n (x ∷ xs) = gone_by n x (without n xs) (n == x) refl (gone n xs)
 
 past_by : (u n : ℕ) (xs : List ℕ) (b : Bool) → (u == n) ≡ b → n ≤ u → (suc n ≤ u → times u xs ≡ 0) → times u (without n xs) ≡ 0
-past_by u n xs true e le none = subst (λ k. times k (without n xs) ≡ 0) (sym (same_number u n e)) (gone n xs)
+past_by u n xs true e le none = subst (λ k. times k (without n xs) ≡ 0) (sym (eq_tells u n e)) (gone n xs)
 past_by u n xs false e le none =
-    let other : u ≡ n → ⊥ = other_number u n e in
+    let other : u ≡ n → ⊥ = eq_false_tells u n e in
     let zero_is : times u xs ≡ 0 = none (omega (arith, other, le)) in
     omega (arith, fewer u n xs, zero_is)
 
@@ -70,7 +70,7 @@ different : (n : ℕ) (xs : List ℕ) → ((u : ℕ) → times u xs ≤ 1) → (
 different zero [] once none = omega arith
 different zero (x ∷ xs) once none =
     let never : times x (x ∷ xs) ≡ 0 = none x (omega arith) in
-    let here : times x (x ∷ xs) ≡ 1 + times x xs = times_more x x xs ∙ ap (λ b. one_if b + times x xs) (is_same_number x) in
+    let here : times x (x ∷ xs) ≡ 1 + times x xs = times_more x x xs ∙ ap (λ b. one_if b + times x xs) (eq_self x) in
     absurd (omega (arith, never, here))
 different (suc n) xs once none =
     let rest : length (without n xs) ≤ n = different n (without n xs) (λ u. omega (arith, fewer u n xs, once u)) (λ u le. past_by u n xs (u == n) refl le (λ more. none u more)) in
@@ -91,7 +91,7 @@ module _ (u : ℕ) (g : ℕ → Option Rect) where
   listed_some (v ∷ vs) = omega (arith, listed_or v (g v) (filter_map (λ v. option_map (λ r. (v, r)) (g v)) vs), listed_some vs, times_more u v vs)
 
   test_by : (v : ℕ) (r : Rect) (b : Bool) → (u == v) ≡ b → g u ≡ None → g v ≡ Some r → one_if b ≡ 0
-  test_by v r true e none some = let never : None ≡ Some r = sym none ∙ ap g (same_number u v e) ∙ some in absurd (cc)
+  test_by v r true e none some = let never : None ≡ Some r = sym none ∙ ap g (eq_tells u v e) ∙ some in absurd (cc)
   test_by v r false e none some = refl
 
   none_or : (v : ℕ) (o : Option Rect) (rest : List (ℕ × Rect)) → g u ≡ None → g v ≡ o → times u (map (λ (p : ℕ × Rect). p.0) rest) ≡ 0 → times u (map (λ (p : ℕ × Rect). p.0) (cons_option (option_map (λ r. (v, r)) o) rest)) ≡ 0
@@ -109,7 +109,7 @@ no_place_from (suc steps) tree v none = ap (option_and_then (λ (view : View). c
 no_rect : (tree : Tree) (session : List Point) (v : ℕ) → length tree ≤ v → rect_in tree session v ≡ None
 unfolding place_of
 no_rect tree session v past =
-    ap (option_and_then (λ place. option_map stopped_rect (rect_round (map (λ p. less p place) (pixels_of tree v session))))) (no_place_from (length tree) tree v (past_none tree v past))
+    ap (option_and_then (λ place. option_map stopped_rect (rect_round (map (λ p. less p place) (pixels_of tree v session))))) (no_place_from (length tree) tree v (slice_get_past tree v past))
 
 root_by : (o : Option ℕ) → ((parent : ℕ) → o ≡ Some parent → parent < 0) → o ≡ None
 root_by (Some parent) low = absurd (omega (arith, low parent refl))

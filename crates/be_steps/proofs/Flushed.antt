@@ -1,8 +1,8 @@
 -- A buffer that goes over to the link, as a step.
-use Rattle.std.proofs.Common.{◌≡◌, ◌≢◌, ℕ, ◌+◌, ◌≤◌, Bool, true, false, List, [], ◌∷◌, ◌++◌, length, Option, Some, None, inl, inr, ⊎_elim, refl, sym, ap, ◌∙◌, subst, arith}
-use Rattle.std.specs.Prelude.{nat_le, option_and_then, slice_get, unwrap_or, if◌then◌else◌}
+use Rattle.std.proofs.Common.{◌≡◌, ◌≢◌, ℕ, ◌+◌, ◌≤◌, Bool, true, false, List, [], ◌∷◌, ◌++◌, length, Option, Some, None, inl, inr, ⊎_elim, refl, sym, ap, ◌∙◌, subst}
+use Rattle.std.specs.Prelude.{option_and_then, slice_get, unwrap_or, if◌then◌else◌}
 use Rattle.std.specs.Option.{option_map_or}
-use Rattle.std.proofs.lemmas.Bool.Decides.{nat_tests}
+use Rattle.be_facts.proofs.Numbers.{nat_le_tells}
 use Rattle.be_actor.specs.declared.Place.{Place}
 use Rattle.be_actor.specs.declared.Wish.{Wish}
 use Rattle.be_asking.specs.Acts.{OwnsWindow}
@@ -60,9 +60,6 @@ record Fitting (o : Option Buffer) (l : Option (List Numbered)) : Type 0 where
   pub has_link : l ≡ Some link
   pub room : length buffer.commands + length link ≤ 256
 
-le_true : (a b : ℕ) → nat_le a b ≡ true → a ≤ b
-le_true a b e = grind (arith, nat_tests)
-
 chosen : (b : Bool) (made given : Act) → (if b then Some made else None) ≡ Some given → b ≡ true
 chosen true made given e = refl
 chosen false made given e = absurd (cc)
@@ -73,7 +70,7 @@ fitting w (Some b) (Some link) given e = record {
   link = link;
   has_buffer = refl;
   has_link = refl;
-  room = le_true (length b.commands + length link) 256 (chosen (fits b link) (act.Flush w (length b.commands)) given e);
+  room = nat_le_tells (length b.commands + length link) 256 (chosen (fits b link) (act.Flush w (length b.commands)) given e);
 }
 fitting w (Some b) None given e = absurd (cc)
 fitting w None l given e = absurd (cc)

@@ -63,7 +63,7 @@ stopped_input d s = refl
 
 -- ---- an event
 
-few_by : (slice : Slice) (s : State) → slice ≡ slice_of s part.input → SliceFits 4611686018427387904 slice → IfSome (input_in slice) (λ known. known.0 < 18446744073709551615)
+pub few_by : (slice : Slice) (s : State) → slice ≡ slice_of s part.input → SliceFits 4611686018427387904 slice → IfSome (input_in slice) (λ known. known.0 < 18446744073709551615)
 few_by slice s is fits =
     let few : s.events ≤ 4611686018427387904 = subst (SliceFits 4611686018427387904) is fits in
     subst (λ (x : Slice). IfSome (input_in x) (λ known. known.0 < 18446744073709551615)) (sym is) (omega (arith, few))

@@ -8,13 +8,13 @@ use mathlib.Core.Logic.{dite}
 use mathlib.Core.Option.{some}
 use native.Mathlib.Decide.{ℕ_discrete}
 use lib.ListN.{get_elem?}
+use Rattle.be_facts.proofs.Numbers.{eq_false_tells, eq_tells}
 use Rattle.be_asking.proofs.Asked.{fits, reach, s, settled, sound, wanted, wish}
 use Rattle.be_asking.proofs.InHand.{slice_read}
 use Rattle.be_asking.proofs.Spotted.{spot}
 use Rattle.be_asking.specs.Wants.{activity_in}
 use Rattle.be_asking.specs.declared.activity.Activity.{Activity}
 use Rattle.be_asking.specs.declared.want.Want.{Want}
-use Rattle.be_machine.proofs.Lists.{other_number, same_number}
 use Rattle.be_hall.proofs.Holding.{fits_at, meant_with, same_places, with_here, with_other}
 use Rattle.be_hall.specs.Hands.{Hand, meant, part_at, places_of, rises_from, with_part}
 use Rattle.be_hall.specs.Machine.{Fits, IsHeld}
@@ -55,8 +55,8 @@ pub by_place_test : (Q : Bool → Type 0) (a b : ℕ) → (a ≡ b → Q true) �
 by_place_test Q a b same other = by (a == b) refl
   where
     by : (c : Bool) → (a == b) ≡ c → Q c
-    by true e = same (same_number a b e)
-    by false e = other (other_number a b e)
+    by true e = same (eq_tells a b e)
+    by false e = other (eq_false_tells a b e)
 
 -- the place is that of one of them
 abbrev IsKey : Declared → List (part.Part × Part) → ℕ → Type 0

@@ -19,7 +19,6 @@ use Rattle.be_looper.specs.Duties.{Hand}
 use Rattle.be_machine.specs.Looper.{with_duty_by}
 use Rattle.be_port.specs.declared.Duty.{Duty}
 use Rattle.be_reply.specs.Cells as reply
-use Rattle.be_machine.proofs.Lists.{at_here, at_past}
 use Rattle.be_machine.specs.Lists.{at}
 use Rattle.be_machine.specs.Program.{app_gone_on, app_program, gone_on, looper_gone_on, moved_on, stage_gone_on}
 use Rattle.be_machine.specs.State.{State, free, locked, handling, Stage, beginning}
@@ -35,19 +34,16 @@ use Rattle.be_rules.specs.Slices as sl
 use Rattle.be_script.specs.Script.{Declared}
 use Rattle.be_steps.proofs.Making.{now, then_is}
 use Rattle.be_looper.specs.Duties.{duty_after_forward}
+use Rattle.be_machine.proofs.ReadsParts.{at_is}
 use Rattle.be_asking.specs.declared.want.Request.TheVariants as request
 use Rattle.be_steps.specs.Going.{IsPast, gone_past, gone_to, settled_in}
 use Rattle.be_steps.specs.Steps.{IsAllowed}
 
 -- ---- lists
 
-at_by : {X : Type 0} (xs : List X) (i : ℕ) (f : X → X) (o : Option X) → slice_get xs i ≡ o → slice_get (at xs i f) i ≡ option_map f o
-at_by xs i f (Some x) e = at_here xs i f x e
-at_by xs i f None e = ap (λ l. slice_get l i) (at_past xs i f e) ∙ e
-
 -- the element that is changed
 pub at_map : {X : Type 0} (xs : List X) (i : ℕ) (f : X → X) → slice_get (at xs i f) i ≡ option_map f (slice_get xs i)
-at_map xs i f = at_by xs i f (slice_get xs i) refl
+at_map xs i f = at_is xs i f (slice_get xs i) refl
 
 -- ---- places
 

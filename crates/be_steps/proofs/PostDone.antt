@@ -5,7 +5,7 @@ use Rattle.std.specs.Option.{option_map_or}
 use Rattle.std.proofs.lemmas.Option.{same_Some}
 use Rattle.be_actor.specs.declared.Place.{Place}
 use Rattle.be_actor.specs.declared.Wish.{Wish}
-use Rattle.be_asking.proofs.PostsAnswered.{posts_parts}
+use Rattle.be_asking.proofs.PostsAnswered.{posts_parts, same_answer}
 use Rattle.be_asking.specs.Acts.{post_window}
 use Rattle.be_asking.specs.Wants.{activity_in, message_of, runner_in, wish_in}
 use Rattle.be_asking.specs.declared.activity.Activity.TheVariants as who
@@ -44,7 +44,7 @@ use Rattle.be_steps.proofs.Gone.{own_is, own_made, own_means, own_there}
 use Rattle.be_steps.proofs.Leaving.{left_is}
 use Rattle.be_steps.proofs.Making.{all, done, fits_now, now, read, settled_now, so, then_is, there}
 use Rattle.be_steps.proofs.Moved.{asks, own_right, settled_past}
-use Rattle.be_steps.proofs.Posted.{accepts, granted_own, granted_port, same_judged, same_posted, wished_is}
+use Rattle.be_steps.proofs.Posted.{accepts, granted_own, granted_port, same_posted, wished_is}
 use Rattle.be_asking.proofs.Small.{small}
 use Rattle.be_rules.specs.Rules.{SliceFits}
 use Rattle.be_steps.specs.Going.{HasGoneFrom, HasOwn, IsPast, own_kind, settled_in}
@@ -165,7 +165,7 @@ module _ (d : Declared) (old : Hand Part) (runner : Runner) (request : Request) 
     pub accepted_is : (k : Slice) (answer : Result ℕ PostFault) → part_at old.parts (place_of d (part.port w)) ≡ Some (kinds.Port k) → IsAnswered letter.hop k answer → is_ok answer ≡ accepted
     accepted_is k answer at answered =
         is_answered answer
-        ∙ ap is_accepted (answered w got.element (before k at) ∙ same_judged got.element letter.hop m.hop letter_is.2.hop ∙ ap (judged got.element) (wished_is s (runner_in runner) message w request m window letter_is.1).1)
+        ∙ ap is_accepted (answered w got.element (before k at) ∙ same_answer got.element letter.hop m.hop letter_is.2.hop ∙ ap (judged got.element) (wished_is s (runner_in runner) message w request m window letter_is.1).1)
         ∙ ap (λ o. option_map_or (λ (p : Port Message). is_accepted (judged p (hop_of s (runner_in runner)))) o false) (sym got.read)
         ∙ sym (accepts s (runner_in runner) message w request window)
 

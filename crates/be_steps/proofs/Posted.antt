@@ -1,8 +1,7 @@
 -- A letter that a runner posts.
-use Rattle.std.proofs.Common.{◌≡◌, ℕ, ◌≤◌, Bool, true, false, List, Option, Some, None, inl, inr, refl, sym, ap, ◌∙◌, arith}
-use Rattle.std.specs.Prelude.{nat_le, option_map, slice_get, if◌then◌else◌}
+use Rattle.std.proofs.Common.{◌≡◌, ℕ, ◌≤◌, Bool, true, false, List, Option, Some, None, inl, inr, refl, sym, ap, ◌∙◌}
+use Rattle.std.specs.Prelude.{option_map, slice_get, if◌then◌else◌}
 use Rattle.std.specs.Option.{option_map_or}
-use Rattle.std.proofs.lemmas.Bool.Decides.{nat_tests}
 use Rattle.std.proofs.lemmas.Option.{same_Some}
 use Rattle.be_asking.specs.Acts.{IsSameHop, post_window}
 use Rattle.be_asking.specs.Wants.{runner_in, wish_in}
@@ -35,17 +34,9 @@ use Rattle.be_machine.specs.Looper.{with_duty_by}
 use Rattle.be_machine.specs.Touched.{own_part}
 use Rattle.be_reply.specs.Cells as reply
 use Rattle.be_rules.specs.Slices.{Slice, cell, looper, slice_of}
+use Rattle.be_asking.proofs.PostsAnswered.{deep}
 
 -- ---- hops
-
-deep : (n : ℕ) → 8 ≤ n → nat_le 8 n ≡ true
-deep n le = grind (arith, nat_tests)
-
--- letters that are both too deep are refused alike
-pub same_judged : (p : Port Message) (h k : ℕ) → IsSameHop h k → judged p h ≡ judged p k
-unfolding judged
-same_judged p h k (inl is) = ap (judged p) is
-same_judged p h k (inr both) = rw (deep h both.0, deep k both.1) refl
 
 refused_by : (closed : Bool) → is_accepted (if closed then posts.BadPort else posts.TooDeep) ≡ false
 refused_by true = refl

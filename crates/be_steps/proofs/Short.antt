@@ -4,10 +4,12 @@ use Rattle.std.specs.Borrow.{Bor}
 use Rattle.std.specs.Prelude.{◌==◌, ◌&&◌, IfSome, find, flat_map, option_map, slice_get}
 use Rattle.std.proofs.lemmas.Bool.Decides.{nat_tests}
 use Rattle.std.proofs.lemmas.List.{length-append}
+use Rattle.be_facts.proofs.Lists.{all_at}
+use Rattle.be_facts.proofs.Truths.{and_first, and_second}
 use Rattle.be_actor.specs.declared.Instruction.{Instruction}
 use Rattle.be_handler.specs.declared.Route.{Route}
 use Rattle.be_handler.specs.declared.Route.TheVariants.{Skipped, Handler, Unknown}
-use Rattle.be_machine.proofs.Lists.{all_filter, all_find, all_get, both_first, both_second}
+use Rattle.be_machine.proofs.Lists.{all_filter, all_find}
 use Rattle.be_machine.specs.Program.{app_program, app_steps, update_program}
 use Rattle.be_rules.proofs.ListLemmas.{there_below}
 use Rattle.be_script.specs.declared.AppLine.{AppLine}
@@ -25,21 +27,21 @@ short steps h = grind (arith, nat_tests)
 
 app_short_by : (d : Declared) (o : Option AppLine) → ((line : AppLine) → o ≡ Some line → is_app_program d line.program ≡ true) → length (app_steps o) ≤ 1024
 unfolding is_app_program
-app_short_by d (Some line) h = short line.program (both_first (is_short line.program) _ (h line refl))
+app_short_by d (Some line) h = short line.program (and_first (is_short line.program) _ (h line refl))
 app_short_by d None h = omega arith
 
 app_short : (d : Declared) (m : ℕ) → IsWithinLimits d → length (app_program d m) ≤ 1024
-app_short d m limits = app_short_by d (slice_get d.apps m) (λ line e. all_get (λ (x : AppLine). is_app_program d x.program) d.apps m line limits.apps e)
+app_short d m limits = app_short_by d (slice_get d.apps m) (λ line e. all_at (λ (x : AppLine). is_app_program d x.program) d.apps m line limits.apps e)
 
 -- ---- bodies
 
 body_program_short : (d : Declared) (w : ℕ) (steps : List Instruction) → is_body_program d w steps ≡ true → length steps ≤ 1024
 unfolding is_body_program
-body_program_short d w steps h = short steps (both_first (is_short steps) _ h)
+body_program_short d w steps h = short steps (and_first (is_short steps) _ h)
 
 body_line_short : (d : Declared) (line : BodyLine) → is_body_line d line ≡ true → length line.program ≤ 1024
 body_line_short d line h =
-    let its : is_body_program d line.window line.program ≡ true = search (both_first, both_second) in
+    let its : is_body_program d line.window line.program ≡ true = search (and_first, and_second) in
     body_program_short d line.window line.program its
 
 found_body : (o : Option BodyLine) → ((line : BodyLine) → o ≡ Some line → length line.program ≤ 1024) → length (steps_of o) ≤ 1024
@@ -57,11 +59,11 @@ body_short d w what Unknown limits = omega arith
 
 draw_program_short : (d : Declared) (w : ℕ) (steps : List Instruction) → is_draw_program d w steps ≡ true → length steps ≤ 1024
 unfolding is_draw_program
-draw_program_short d w steps h = short steps (both_first (is_short steps) _ h)
+draw_program_short d w steps h = short steps (and_first (is_short steps) _ h)
 
 draw_line_short : (d : Declared) (line : DrawLine) → is_draw_line d line ≡ true → length line.program ≤ 1024
 draw_line_short d line h =
-    let its : is_draw_program d line.window line.program ≡ true = search (both_first, both_second) in
+    let its : is_draw_program d line.window line.program ≡ true = search (and_first, and_second) in
     draw_program_short d line.window line.program its
 
 found_draw : (o : Option DrawLine) → ((line : DrawLine) → o ≡ Some line → length line.program ≤ 1024) → length (draw_steps o) ≤ 1024

@@ -1,12 +1,14 @@
 -- How many colours there are where there is one more cell.
-use Rattle.std.proofs.Common.{◌≡◌, ℕ, ◌+◌, ◌==◌, Bool, true, false, ◌&&◌, ◌||◌, List, [], ◌∷◌, ◌++◌}
-use Rattle.std.proofs.Common.{refl, sym, ap, ◌∙◌, eqb-true, eq-eqb}
+use Rattle.std.proofs.Common.{◌≡◌, ℕ, ◌+◌, Bool, true, false, ◌&&◌, ◌||◌, List, [], ◌∷◌, ◌++◌}
+use Rattle.std.proofs.Common.{refl, sym, ap, ◌∙◌}
 use Rattle.std.specs.Prelude.{if◌then◌else◌}
 use Rattle.std.specs.List.{list_any}
 use Rattle.std.proofs.lemmas.List.Folds.{list_any-append}
+use Rattle.be_facts.proofs.Truths.{same_truth}
 use Rattle.be_color.specs.declared.colors.Rgb.{Rgb}
 use Rattle.be_span.specs.declared.Cell.{Cell}
 use Rattle.be_written.specs.ScreenText.{same_rgb}
+use Rattle.be_written.proofs.ScreenRows.{same_itself, same_is}
 use Rattle.be_summary.specs.Summary.{color_count, has_color}
 
 -- ---- truths
@@ -17,25 +19,7 @@ both true true false e = absurd (cc)
 both true false r e = absurd (cc)
 both false q r e = absurd (cc)
 
-pub same_truth : (p q : Bool) → (p ≡ true → q ≡ true) → (q ≡ true → p ≡ true) → p ≡ q
-same_truth true q to from = sym (to refl)
-same_truth false true to from = from refl
-same_truth false false to from = refl
-
 -- ---- colours
-
-pub same_is : (a b : Rgb) → same_rgb a b ≡ true → a ≡ b
-same_is a b e =
-    let same = both (a.red == b.red) (a.green == b.green) (a.blue == b.blue) e in
-    ap (λ (n : ℕ). record { red = n; green = a.green; blue = a.blue }) (eqb-true a.red b.red same.0)
-    ∙ ap (λ (n : ℕ). record { red = b.red; green = n; blue = a.blue })
-    (eqb-true a.green b.green same.1)
-    ∙ ap (λ (n : ℕ). record { red = b.red; green = b.green; blue = n })
-    (eqb-true a.blue b.blue same.2)
-
-pub same_itself : (a : Rgb) → same_rgb a a ≡ true
-same_itself a =
-    rw (eq-eqb a.red a.red refl, eq-eqb a.green a.green refl, eq-eqb a.blue a.blue refl) refl
 
 pub is_same : (a b : Rgb) → a ≡ b → same_rgb a b ≡ true
 is_same a b e = ap (same_rgb a) (sym e) ∙ same_itself a

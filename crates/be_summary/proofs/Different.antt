@@ -9,9 +9,10 @@ use Rattle.std.proofs.lemmas.Map.Made.{length-from_keys}
 use Rattle.be_color.specs.declared.colors.Rgb.{Rgb}
 use Rattle.be_span.specs.declared.Cell.{Cell}
 use Rattle.be_written.specs.ScreenText.{same_rgb}
+use Rattle.be_written.proofs.ScreenRows.{same_is, same_itself}
 use Rattle.be_summary.specs.Laws.{CountsEachOnce}
 use Rattle.be_summary.specs.Summary.{color_count, has_color}
-use Rattle.be_summary.proofs.ColorLemmas.{same_back, same_is, same_itself}
+use Rattle.be_summary.proofs.ColorLemmas.{same_back}
 
 -- the same colours are equal
 same_laws : IsEquivalence same_rgb

@@ -1,40 +1,25 @@
 -- The set of the colours, where there is one more cell.
-use Rattle.std.proofs.Common.{◌≡◌, ℕ, ◌+◌, ◌<◌, ◌==◌, Bool, true, false, cond, not, ◌&&◌, ◌||◌}
+use Rattle.std.proofs.Common.{◌≡◌, ℕ, ◌+◌, ◌==◌, Bool, true, false, cond, not, ◌&&◌, ◌||◌}
 use Rattle.std.proofs.Common.{List, [], ◌∷◌, ◌++◌, Some, None, refl, sym, ap, ◌∙◌, subst, arith}
-use Rattle.std.proofs.Common.{Option, length, ltb-true, ne_eqb}
-use Rattle.std.specs.Prelude.{nat_lt, if◌then◌else◌}
+use Rattle.std.proofs.Common.{Option, length}
+use Rattle.std.specs.Prelude.{if◌then◌else◌}
 use Rattle.std.specs.BTreeSet.{BTreeSet, IsEmpty, Updates, btree_set_len, contains}
 use Rattle.std.specs.List.{list_any}
 use Rattle.std.specs.Option.{IfSome, option_eq}
-use Rattle.std.specs.declared.cmp.Ordering.{Ordering}
-use Rattle.std.specs.declared.cmp.Ordering.TheVariants.{Less, Equal, Greater}
 use Rattle.std.specs.Ordering.{is_eq, nat_cmp, ordering_then}
 use Rattle.std.proofs.lemmas.List.Folds.{list_any-append}
+use Rattle.be_facts.proofs.Truths.{or_middle}
+use Rattle.be_facts.proofs.Orderings.{is_eq_then, is_eq_nat_cmp}
 use Rattle.be_color.specs.declared.colors.Rgb.{Rgb}
 use Rattle.be_span.specs.declared.Cell.{Cell}
 use Rattle.be_written.specs.ScreenText.{same_rgb}
+use Rattle.be_written.proofs.ScreenRows.{same_is, same_itself}
 use Rattle.be_summary.specs.Colors.{HasColors, color_cmp}
 use Rattle.be_summary.specs.Summary.{color_count, has_color}
 use Rattle.be_summary.specs.declared.colors.Colors.{Colors}
-use Rattle.be_summary.proofs.ColorLemmas.{count_more, same_is, same_itself}
+use Rattle.be_summary.proofs.ColorLemmas.{count_more}
 
 -- ---- keys
-
-same_place : (less same : Bool) → (less ≡ true → same ≡ false)
-    → is_eq (cond less Less (cond same Equal Greater)) ≡ same
-same_place true same h = sym (h refl)
-same_place false true h = refl
-same_place false false h = refl
-
-equal_numbers : (a b : ℕ) → is_eq (nat_cmp a b) ≡ (a == b)
-equal_numbers a b =
-    same_place (nat_lt a b) (a == b)
-    (λ h. ne_eqb a b (λ e. let below : a < b = ltb-true a b h in absurd (omega arith)))
-
-equal_both : (a b : Ordering) → is_eq (ordering_then a b) ≡ (is_eq a && is_eq b)
-equal_both Less b = refl
-equal_both Equal b = refl
-equal_both Greater b = refl
 
 -- a colour's place in the order
 abbrev key : Rgb → ℕ × ℕ × ℕ
@@ -42,13 +27,13 @@ key rgb = (rgb.red, rgb.green, rgb.blue)
 
 equal_keys : (a b : Rgb) → is_eq (color_cmp (key a) (key b)) ≡ same_rgb a b
 equal_keys a b =
-    equal_both (ordering_then (nat_cmp a.red b.red) (nat_cmp a.green b.green))
+    is_eq_then (ordering_then (nat_cmp a.red b.red) (nat_cmp a.green b.green))
     (nat_cmp a.blue b.blue)
     ∙ rw (
-      equal_both (nat_cmp a.red b.red) (nat_cmp a.green b.green),
-      equal_numbers a.red b.red,
-      equal_numbers a.green b.green,
-      equal_numbers a.blue b.blue,
+      is_eq_then (nat_cmp a.red b.red) (nat_cmp a.green b.green),
+      is_eq_nat_cmp a.red b.red,
+      is_eq_nat_cmp a.green b.green,
+      is_eq_nat_cmp a.blue b.blue,
     ) refl
 
 -- ---- cells
@@ -63,15 +48,11 @@ begun seen empty = record {
   last = tt;
 }
 
-or_true : (a b : Bool) → b ≡ true → (a || (b || false)) ≡ true
-or_true true b e = refl
-or_true false b e = ap (λ v. v || false) e
-
 there : (others : List Cell) (cell : Cell) (rgb : Rgb) → cell.rgb ≡ rgb
     → list_any (has_color rgb) (others ++ cell ∷ []) ≡ true
 there others cell rgb e =
     list_any-append (has_color rgb) others (cell ∷ [])
-    ∙ or_true (list_any (has_color rgb) others) (same_rgb cell.rgb rgb)
+    ∙ or_middle (list_any (has_color rgb) others) (same_rgb cell.rgb rgb)
     (ap (λ r. same_rgb r rgb) e ∙ same_itself rgb)
 
 counted : (b : Bool) (n m : ℕ) → m ≡ n + (if not b then 1 else 0)

@@ -13,7 +13,7 @@ use Rattle.be_archive.specs.Archives.{archived}
 use Rattle.be_flat.specs.Codes.{code_of}
 use Rattle.be_flat.specs.Grammar.{Spells, SpellsCoordinate, SpellsDatum, SpellsFields, SpellsInt}
 use Rattle.be_flat.specs.Grammar.{SpellsPoint, SpellsValues}
-use Rattle.be_lex.proofs.HexSpelling.{are_bytes_each}
+use Rattle.be_lex.proofs.HexSpelling.{are_bytes_each, bytes_cons}
 use Rattle.be_message.specs.declared.kind.Kind.{Kind}
 use Rattle.be_message.specs.declared.kind.Kind.TheVariants as kind
 use Rattle.be_message.specs.Messages.{Datum, bool, int, text, point, rect, message, Fields, no_fields}
@@ -32,19 +32,15 @@ weaker bytes m n h le = record { fit = h.fit; few = let few = h.few in omega ari
 none : Few [] 0
 none = record { fit = λ i. omega arith; few = omega arith }
 
-first_fits : (b : ℕ) (bytes : List ℕ) → b < 256 → IsBytes bytes → IsBytes (b ∷ bytes)
-first_fits b bytes small h zero = small
-first_fits b bytes small h (suc i) = h i
-
 before : (b : ℕ) (bytes : List ℕ) (n : ℕ) → b < 256 → Few bytes n → Few (b ∷ bytes) (1 + n)
 before b bytes n small h = record {
-  fit = first_fits b bytes small h.fit;
+  fit = bytes_cons b bytes small h.fit;
   few = let few = h.few in omega arith;
 }
 
 fit_both : (a b : List ℕ) → IsBytes a → IsBytes b → IsBytes (a ++ b)
 fit_both [] b h k = k
-fit_both (x ∷ a) b h k = first_fits x (a ++ b) (h zero) (fit_both a b (λ i. h (suc i)) k)
+fit_both (x ∷ a) b h k = bytes_cons x (a ++ b) (h zero) (fit_both a b (λ i. h (suc i)) k)
 
 both : (a b : List ℕ) (m n : ℕ) → Few a m → Few b n → Few (a ++ b) (m + n)
 both a b m n h k = record {
@@ -130,7 +126,7 @@ name_fits : (bytes : List ℕ) → list_all is_name_byte bytes ≡ true → IsBy
 name_fits [] h = none.fit
 name_fits (b ∷ bytes) h =
     let parts = and_parts (is_name_byte b) (list_all is_name_byte bytes) h in
-    first_fits b bytes (name_byte_small b parts.0) (name_fits bytes parts.1)
+    bytes_cons b bytes (name_byte_small b parts.0) (name_fits bytes parts.1)
 
 short_name : (n : ℕ) → nat_le n 32 ≡ true → n ≤ 32
 short_name n h = grind (arith, nat_tests)
@@ -143,7 +139,7 @@ name_few (b ∷ bytes) h =
     (nat_le (length (b ∷ bytes)) 32) h in
     let parts = and_parts (is_ascii_lowercase b) (list_all is_name_byte bytes) whole.0 in
     record {
-      fit = first_fits b bytes (lower_small b parts.0) (name_fits bytes parts.1);
+      fit = bytes_cons b bytes (lower_small b parts.0) (name_fits bytes parts.1);
       few = short_name (length (b ∷ bytes)) whole.1;
     }
 

@@ -1,5 +1,5 @@
 -- A text that is one line.
-use Rattle.std.proofs.Common.{◌≡◌, ℕ, Bool, true, false, eqb, not, List, [], ◌∷◌, ◌++◌, length}
+use Rattle.std.proofs.Common.{◌≡◌, ℕ, true, false, eqb, not, List, [], ◌∷◌, ◌++◌, length}
 use Rattle.std.proofs.Common.{take, Option, Some, None, inl, inr, refl, sym, ap, ◌∙◌, arith}
 use Rattle.std.specs.Prelude.{unwrap_or}
 use Rattle.std.specs.List.{list_all, position_or_len}
@@ -11,13 +11,8 @@ use Rattle.be_lex.specs.Lines.{Line, lines_of, is_line}
 use Rattle.be_lex.proofs.Cuts.{split_cut}
 use Rattle.be_lex.proofs.LineLemmas.{lines_of-ended, lines_of-first, lines_of-last, lines_of-none}
 use Rattle.be_lex.proofs.Spelling.{list_all_weaker}
+use Rattle.be_lex.proofs.LineLemmas.{is_ten, is_line_end}
 use Rattle.be_trees.specs.Reading.{one_line}
-
-abbrev is_line_end : ℕ → Bool
-is_line_end b = eqb b 10
-
-is_ten : (x : ℕ) → is_line_end x ≡ true → x ≡ 10
-is_ten x e = grind (arith, nat_tests, e)
 
 -- a text that has bytes has a line
 no_bytes : (text : List ℕ) → lines_of text ≡ [] → text ≡ []

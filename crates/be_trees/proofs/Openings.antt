@@ -1,21 +1,13 @@
 -- The views that are declared in a window, one by one.
-use Rattle.std.specs.Prelude.{pos, ◌-ℤ◌, ◌≤ℤ◌, ◌==◌, ◌&&◌, true, cond, nat_le, slice_get, Bool}
+use Rattle.std.specs.Prelude.{pos, ◌-ℤ◌, ◌≤ℤ◌, ◌==◌, cond, Bool}
 use Rattle.std.specs.List.{filter}
-use Rattle.std.proofs.Common.{◌≡◌, ◌≢◌, ℕ, ◌+◌, ◌<◌, ◌≤◌, List, [], ◌∷◌, ◌++◌, Some, length, map}
+use Rattle.std.proofs.Common.{◌≡◌, ◌≢◌, ℕ, ◌+◌, ◌<◌, ◌≤◌, List, [], ◌∷◌, ◌++◌, length, map}
 use Rattle.std.proofs.Common.{drop, get_or, sym, ap, subst, ◌∙◌, append_assoc, append-nil, eq-eqb}
-use Rattle.std.proofs.Common.{arith}
 use Rattle.std.proofs.lemmas.Bool.{ne_eqb}
-use Rattle.std.proofs.lemmas.Int.{ints}
 use Rattle.std.proofs.lemmas.List.{drop_all, drop_more}
 use Rattle.be_geom.specs.declared.rect.Rect.{Rect}
-use Rattle.be_geom.proofs.Between.{between_tells}
-use Rattle.be_script.specs.Limits.{IsWithinLimits, is_frame, is_window_line}
-use Rattle.be_script.proofs.RoutableLemmas.{all-at}
-use Rattle.be_script.proofs.WorkNumbers.{and-left}
-use Rattle.be_script.specs.Script.{Declared}
 use Rattle.be_script.specs.Windows.{declared_view}
 use Rattle.be_script.specs.declared.ViewLine.{ViewLine}
-use Rattle.be_script.specs.declared.WindowLine.{WindowLine}
 use Rattle.be_views.specs.Trees.{Tree}
 
 -- those of them that a window has
@@ -70,18 +62,3 @@ pub record IsSized (r : Rect) : Type 0 where
   pub wide : (r.right -ℤ r.left) ≤ℤ pos 32767
   pub down : pos 0 ≤ℤ (r.bottom -ℤ r.top)
   pub high : (r.bottom -ℤ r.top) ≤ℤ pos 32767
-
-pub frame_sized : (r : Rect) → is_frame r ≡ true → IsSized r
-frame_sized r is = record {
-  across = grind (arith, ints, between_tells);
-  wide = grind (arith, ints, between_tells);
-  down = grind (arith, ints, between_tells);
-  high = grind (arith, ints, between_tells);
-}
-
-pub line_framed : (d : Declared) (w : ℕ) (line : WindowLine) → IsWithinLimits d
-    → slice_get d.windows w ≡ Some line → is_frame line.frame ≡ true
-line_framed d w line limits got =
-    and-left (is_frame line.frame) (nat_le 1 line.port)
-    (and-left (is_frame line.frame && nat_le 1 line.port) (nat_le line.port 100)
-    (all-at is_window_line d.windows w line limits.windows got))

@@ -40,10 +40,3 @@ tree_read bytes message tree e f =
 pub none_read : (bytes : List ℕ) (why : FlatError) → (why ≡ flat.NoMemory → ⊥)
     → FailsAs why (reading bytes) → None ≡ tree_of_bytes bytes
 none_read bytes why other h = sym (of_message bytes None (no_message why (reading bytes) other h))
-
-pub none_archived : (bytes : List ℕ) (message : Message) (why : ArchiveFault)
-    → reading bytes ≡ Ok message → (why ≡ archive.NoMemory → ⊥) → IsFault why (tree_in message)
-    → None ≡ tree_of_bytes bytes
-none_archived bytes message why e other h =
-    sym (of_message bytes (Some message) (ap result_ok e)
-    ∙ no_tree why (tree_in message) other h)

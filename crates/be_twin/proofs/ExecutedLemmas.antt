@@ -1,7 +1,8 @@
 -- A pane on which a command was executed, and the window for which it stands.
 use Rattle.std.specs.Prelude.{option_map, slice_get, slice_set, if◌then◌else◌}
-use Rattle.std.proofs.Common.{◌≡◌, ℕ, zero, suc, ◌<◌, ℤ, Bool, true, false, List, [], ◌∷◌, length, Option, Some, None, arith, refl, sym, ap, subst, ◌∙◌}
+use Rattle.std.proofs.Common.{◌≡◌, ℕ, ◌<◌, ℤ, Bool, true, false, List, [], length, Option, Some, None, arith, refl, sym, ap, subst, ◌∙◌}
 use Rattle.std.proofs.lemmas.Option.{same_Some, slice_get_within}
+use Rattle.be_facts.proofs.Lists.{set_length, set_self, element}
 use Rattle.be_geom.specs.declared.point.Point.{Point}
 use Rattle.be_geom.specs.declared.rect.Rect.{Rect}
 use Rattle.be_geom.specs.Rects.{rect_has, moved_rect}
@@ -31,19 +32,9 @@ use Rattle.be_twin.specs.StandsAfter.{AgreesWith, StandsAfter}
 use Rattle.be_twin.specs.Made.{IsSameWindow, IsReachOf, IsInkedWith, IsDone, IsPerformed, without_update}
 use Rattle.be_twin.proofs.StackLemmas.{after_same, outcome_same}
 use Rattle.be_twin.proofs.PixelLemmas.{cell_owned, cell_stack}
-use Rattle.be_twin.proofs.JudgedLemmas.{Found, found_at, judged_as, got}
+use Rattle.be_twin.proofs.JudgedLemmas.{Found, found_at, judged_as}
 
 -- ---- lists
-
-set_self : {A : Type 0} (xs : List A) (k : ℕ) (x : A) → slice_get xs k ≡ Some x → slice_set xs k x ≡ xs
-set_self [] k x h = refl
-set_self (y ∷ xs) zero x h = ap (λ z. z ∷ xs) (sym (same_Some y x h))
-set_self (y ∷ xs) (suc k) x h = ap (λ l. y ∷ l) (set_self xs k x h)
-
-set_length : {A : Type 0} (xs : List A) (k : ℕ) (x : A) → length (slice_set xs k x) ≡ length xs
-set_length [] k x = refl
-set_length (y ∷ xs) zero x = refl
-set_length (y ∷ xs) (suc k) x = ap (λ n. suc n) (set_length xs k x)
 
 same_map : (o : Option Cell) → option_map (λ c. c) o ≡ o
 same_map (Some c) = refl
@@ -146,7 +137,7 @@ color_there pane v stack whole at =
     let within = slice_get_within pane.states.items v stack at in
     let drawn = whole.drawn in
     let colored = whole.colored in
-    got pane.colors.items v (omega arith)
+    element pane.colors.items v (omega arith)
 
 pub whole_after : (pictures : List Picture) (effect : Effect) (old new : code.Pane) → IsWhole old → IsNoChange effect → IsJudged pictures old effect Done → IsPerformed pictures effect old new → IsWhole new
 whole_after pictures (at_view v deed) old new whole no_change judged done =

@@ -1,8 +1,9 @@
 -- What comes of a deed, by the drawing states of its view.
-use Rattle.std.proofs.Common.{◌≡◌, ℕ, ◌<◌, ◌≤◌, zero, suc, ℤ, Bool, false, List, [], ◌∷◌, length, Option, Some, None, inl, inr, arith, refl, sym, ap, ◌∙◌}
+use Rattle.std.proofs.Common.{◌≡◌, ℕ, ◌<◌, ◌≤◌, ℤ, Bool, false, List, [], length, Option, Some, None, inl, inr, arith, refl, sym, ap, ◌∙◌}
 use Rattle.std.specs.Prelude.{slice_get, is_some, option_and_then, option_map}
 use Rattle.std.proofs.lemmas.Bool.{true≢false, cases_lt}
 use Rattle.std.proofs.lemmas.Option.{slice_get_past}
+use Rattle.be_facts.proofs.Lists.{element}
 use Rattle.be_geom.specs.declared.point.Point.{Point}
 use Rattle.be_bitmap.specs.Pictures.{Picture}
 use Rattle.be_command.specs.Effects.{Deed, Effect, at_view, changes, ends_update}
@@ -24,11 +25,6 @@ use Rattle.be_twin.specs.Deeds.{deed_outcome}
 use Rattle.be_twin.specs.Executed.{Sight, outcome_at, sight_by, sight_of}
 use Rattle.be_twin.specs.Judged.{ComesOf, IsJudged, by_states}
 use Rattle.be_twin.proofs.StackLemmas.{outcome_same}
-
-pub got : {A : Type 0} (xs : List A) (k : ℕ) → k < length xs → (x : A) × (slice_get xs k ≡ Some x)
-got [] k h = absurd (omega arith)
-got (x ∷ xs) zero h = (x, refl)
-got (x ∷ xs) (suc k) h = got xs k (omega arith)
 
 found : (o : Option Point) → (is_some (option_map pair_of o) ≡ false → ⊥) → (p : Point) × (o ≡ Some p)
 found (Some p) h = (p, refl)
@@ -85,8 +81,8 @@ found_at pane v w corner kept tree owned cells whole are h stands =
     let drawn = are.drawn in
     let colored = are.colored in
     let place = placed pane.tree v whole h in
-    let stack = got pane.states.items v (omega arith) in
-    let color = got pane.colors.items v (omega arith) in
+    let stack = element pane.states.items v (omega arith) in
+    let color = element pane.colors.items v (omega arith) in
     let said = stacks_at pane.states.items kept.stacks v stack.0 stands.stacks stack.1 in
     let there = ap (λ (t : Tree). place_of t v) (sym stands.views) ∙ place.1 in
     let shown = ap (λ (l : List Color). slice_get l v) (sym stands.colors) ∙ color.1 in

@@ -8,6 +8,7 @@ use Rattle.std.proofs.lemmas.Bool.Decides.{nat_tests}
 use Rattle.std.proofs.lemmas.Int.{ints}
 use Rattle.std.proofs.Common.{◌≡◌, ℕ, zero, suc, ◌+◌, ◌<◌, ◌↔◌, ℤ, pos, negsuc, ◌+ℤ◌, ◌≤ℤ◌, SFits, w16, Bool, true, false, List, [], ◌∷◌, drop, arith, Result, Ok, Err, IsNone, Option, Some, None, length, get_or, refl, sym, ap, subst, ◌∙◌}
 use Rattle.std.proofs.lemmas.Option.{get_or_from_slice_get, none-some, same_Some}
+use Rattle.be_facts.proofs.Numbers.{suc_more}
 use Rattle.be_geom.specs.declared.point.Point.{Point}
 use Rattle.be_geom.specs.declared.rect.Rect.{Rect}
 use Rattle.be_command.specs.Effects.{pen_place}
@@ -146,15 +147,12 @@ clipped_alike v old new given said alike made = record {
 
 -- ---- texts
 
-up : (k : ℕ) → suc k + 1 ≡ suc (k + 1)
-up k = omega arith
-
 -- one glyph more
 pub behind_more : (codes : List ℕ) (k : ℕ) (x : ℤ) → k < length codes → pen_after_text (drop k codes) x ≡ pen_after_text (drop (k + 1) codes) (pen_behind x)
 behind_more [] k x h = absurd (omega arith)
 behind_more (code ∷ codes) zero x h = refl
 behind_more (code ∷ codes) (suc k) x h =
-    behind_more codes k x (omega arith) ∙ ap (λ n. pen_after_text (drop n (code ∷ codes)) (pen_behind x)) (sym (up k))
+    behind_more codes k x (omega arith) ∙ ap (λ n. pen_after_text (drop n (code ∷ codes)) (pen_behind x)) (sym (suc_more k))
 
 stopped_at : (z : ℤ) → negsuc 32767 ≤ℤ z → saturate_signed w16 z ≡ int_min z (pos 32767)
 stopped_at (pos n) h = grind (arith, ints, nat_tests)

@@ -1,6 +1,7 @@
 -- A pixel after a deed, by what the deed looks at: who owns pixels, the old cells, and what clips allow.
 use Rattle.std.specs.Prelude.{◌&&◌, ◌-ℤ◌, if◌then◌else◌}
 use Rattle.std.proofs.Common.{◌≡◌, ℤ, Bool, true, List, Option, Some, None, inl, inr, refl, sym, ap, ◌∙◌}
+use Rattle.be_facts.proofs.Truths.{true_or_false}
 use Rattle.be_geom.specs.declared.point.Point.{Point}
 use Rattle.be_geom.specs.declared.rect.Rect.{Rect}
 use Rattle.be_geom.specs.Places.{less}
@@ -15,7 +16,6 @@ use Rattle.be_pane.specs.SameStacks.{SameStack}
 use Rattle.be_pane.proofs.SameLemmas.{allows_same, base_same}
 use Rattle.be_span.specs.Cells.{Lookup, colored_as, exposed_cell}
 use Rattle.be_span.specs.declared.Cell.{Cell}
-use Rattle.be_span.proofs.GridLemmas.{either}
 use Rattle.be_state.specs.declared.State.{State}
 use Rattle.be_state.specs.Stacks.{Stack, allows}
 use Rattle.be_views.specs.Pixels.{view_at}
@@ -43,7 +43,7 @@ source_owned o p reach color old new u v c h k =
     let here = is_here reach (in_window reach u v) in
     let e = exposed_cell color c in
     ap (λ b. if b && here then colored_as (old u v) c else e) h
-    ∙ (elim (either (p u v)) [
+    ∙ (elim (true_or_false (p u v)) [
       | inl had ↦ ap (λ (t : Option Cell). if p u v && here then colored_as t c else e) (k had)
       | inr lacks ↦ ap (λ b. if b && here then colored_as (old u v) c else e) lacks ∙ sym (ap (λ b. if b && here then colored_as (new u v) c else e) lacks)
     ])

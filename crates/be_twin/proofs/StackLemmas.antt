@@ -8,7 +8,7 @@ use Rattle.be_bitmap.specs.Pictures.{Picture}
 use Rattle.be_command.specs.Effects.{Setting, high_color, low_color, drawing_mode, pen_size, pen_place, origin, clipping, Deed, draws, sets, colors, saves, restores, copies, invalidates}
 use Rattle.be_paint.specs.Inks.{Ink, pen_after}
 use Rattle.be_pane.specs.SameStacks.{SameClip, SameLayer, SameLayers, SameStack}
-use Rattle.be_pane.proofs.SameLemmas.{base_same, layers_length}
+use Rattle.be_pane.proofs.SameLemmas.{base_same, layers_length, clip_self}
 use Rattle.be_region.specs.Regions.{SamePixels}
 use Rattle.be_region.proofs.MoveLemmas.{moved_region}
 use Rattle.be_state.specs.declared.State.{State}
@@ -32,10 +32,6 @@ clipped_same a b (Some xs) None same clip = absurd clip
 clipped_same a b None (Some ys) same clip = absurd clip
 clipped_same a b None None same clip = record { top = record { state = same.top.state; clip = tt }; saved = same.saved }
 
-clip_of_same : (rects : Option (List Rect)) → SameClip rects rects
-clip_of_same (Some rects) = λ x y. refl
-clip_of_same None = tt
-
 -- ---- states
 
 state_same : (a b : Stack) (s t : State) → SameStack a b → s ≡ t → SameStack (with_state a s) (with_state b t)
@@ -48,7 +44,7 @@ set_same (drawing_mode mode) a b same = state_same a b _ _ same (ap (λ (s : Sta
 set_same (pen_size size) a b same = state_same a b _ _ same (ap (λ (s : State). record s { pen_size = size }) same.top.state)
 set_same (pen_place at) a b same = state_same a b _ _ same (ap (λ (s : State). record s { pen = at }) same.top.state)
 set_same (origin at) a b same = state_same a b _ _ same (ap (λ (s : State). record s { origin = at }) same.top.state)
-set_same (clipping rects) a b same = clipped_same a b rects rects same (clip_of_same rects)
+set_same (clipping rects) a b same = clipped_same a b rects rects same (clip_self rects)
 
 pen_same : (ink : Option Ink) (a b : Stack) → SameStack a b → SameStack (with_pen a ink) (with_pen b ink)
 pen_same (Some ink) a b same = state_same a b _ _ same (ap (λ (s : State). record s { pen = pen_after ink s.pen }) same.top.state)

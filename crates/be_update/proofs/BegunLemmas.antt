@@ -6,12 +6,12 @@ use Rattle.be_geom.specs.declared.rect.Rect.{Rect}
 use Rattle.be_geom.specs.Places.{less}
 use Rattle.be_geom.specs.Rects.{moved_rect, rect_has}
 use Rattle.std.specs.Prelude.{map, slice_get}
+use Rattle.be_facts.proofs.Truths.{true_or_false}
 use Rattle.be_region.specs.Regions.{region_has}
 use Rattle.be_span.specs.declared.Cell.{Cell}
 use Rattle.be_span.specs.Cells.{unmarked}
 use Rattle.be_span.specs.Spans.{cell_in, is_dirty}
 use Rattle.be_span.proofs.CellLemmas.{cell_none}
-use Rattle.be_span.proofs.GridLemmas.{either}
 use Rattle.be_state.specs.Stacks.{Stack}
 use Rattle.be_views.specs.Trees.{Tree}
 use Rattle.be_pane.specs.Panes as machine
@@ -27,7 +27,7 @@ use Rattle.be_update.proofs.PixelLemmas.{has_pixel, moved_has}
 
 dirty_there : (pane : Pane) (w : ℕ) (corner : Point) (kept : machine.Pane) (tree : Tree) (owned : ℤ → ℤ → Bool) (cells : ℤ → ℤ → Cell) → PaneStandsFor pane w corner kept tree owned cells → (x y : ℤ) → is_dirty (cell_in pane.spans x y) ≡ (owned x y && (cells x y).dirty)
 dirty_there pane w corner kept tree owned cells stands x y =
-    elim (either (owned x y)) [
+    elim (true_or_false (owned x y)) [
       | inl h ↦ ap is_dirty (stands.shown x y h) ∙ sym (ap (λ v. v && (cells x y).dirty) h)
       | inr h ↦ ap is_dirty (cell_none pane.spans x y (stands.pixels x y ∙ h)) ∙ sym (ap (λ v. v && (cells x y).dirty) h)
     ]
@@ -73,7 +73,7 @@ begun_as_the_machine s old new w corner kept tree owned cells dirty survey begun
 
 -- ---- a pane stays whole
 
-whole_begun : (s : Surveyed) (old new : Pane) → HasBegun s old new → IsWhole old → IsWhole new
+pub whole_begun : (s : Surveyed) (old new : Pane) → HasBegun s old new → IsWhole old → IsWhole new
 whole_begun s old new begun whole = record {
   colored = ap (λ l. length l) begun.colors ∙ whole.colored ∙ ap (λ (t : Tree). length t) (sym begun.tree);
   drawn = ap (λ l. length l) begun.states ∙ whole.drawn ∙ ap (λ (t : Tree). length t) (sym begun.tree);

@@ -15,13 +15,14 @@ use Rattle.be_geom.specs.declared.rect.Rect.{Rect}
 use Rattle.be_geom.specs.Places.{at_pixel, less, same_point}
 use Rattle.be_geom.specs.Points.{between}
 use Rattle.be_geom.specs.Rects.{moved_rect}
+use Rattle.be_geom.proofs.Between.{is_between, between_parts}
+use Rattle.be_geom.proofs.RectLemmas.{same_rects}
 use Rattle.be_region.specs.Regions.{HasNone, IsNotEmpty, region_has}
 use Rattle.be_region.specs.Frames.{IsFrame, outer_rect}
-use Rattle.be_region.proofs.FrameLemmas.{frame_more, frame_of_one, same_rects}
-use Rattle.be_views.proofs.ChildLemmas.{between_parts, in_frame}
+use Rattle.be_region.proofs.FrameLemmas.{frame_more, frame_of_one}
+use Rattle.be_views.proofs.ChildLemmas.{in_frame}
 use Rattle.be_update.specs.Listing.{pixel_rect, rect_round}
 use Rattle.be_update.proofs.PixelLemmas.{has_pixel}
-use Rattle.be_update.proofs.RowLemmas.{between_is}
 
 -- ---- pixels as rectangles
 
@@ -32,7 +33,7 @@ alone : (z p : ℤ) → between p z p ≡ int_eq z p
 alone z p =
     same_from_decides (between p z p) (int_eq z p) (
       λ h. let parts = between_parts p p z h in let a = parts.0 in let b = parts.1 in equal z p a b,
-      λ e. between_is p z p (let k : z ≡ p = e in omega (arith, ints)) (let k : z ≡ p = e in omega (arith, ints)),
+      λ e. is_between p z p (let k : z ≡ p = e in omega (arith, ints)) (let k : z ≡ p = e in omega (arith, ints)),
     ) (Decides-int_eq z p)
 
 pub as_rects : (ps : List Point) (x y : ℤ) → region_has (map pixel_rect ps) x y ≡ has_pixel ps x y

@@ -3,11 +3,13 @@ use Rattle.std.specs.Prelude.{slice_get, nat_lt}
 use Rattle.std.specs.Ordering.{int_eq}
 use Rattle.std.proofs.Common.{◌≡◌, ℕ, ◌+◌, ◌*◌, ◌/◌, ◌%◌, ◌<◌, zero, suc, ℤ, pos, negsuc, Bool, true, false, ◌&&◌, ◌⊎◌, inl, inr, cond, List, [], ◌∷◌, Option, Some, None, arith, refl, sym, ap, subst, ◌∙◌}
 use Rattle.std.proofs.Math.Nat.{div-add-mod}
-use Rattle.std.proofs.lemmas.Bool.{and_parts, or_cases, or_left, or_right, false≢true}
-use Rattle.std.proofs.lemmas.Bool.Decides.{Decides-int_eq, nat_tests}
+use Rattle.std.proofs.lemmas.Bool.{and_parts, or_cases, or_left, or_right, false≢true, and_from}
+use Rattle.std.proofs.lemmas.Bool.Decides.{Decides-int_eq}
 use Rattle.std.proofs.lemmas.Int.{ints}
 use Rattle.std.proofs.lemmas.Nat.{div-mul-add, mod-mul-add}
 use Rattle.std.proofs.lemmas.Option.{none-some, same_Some}
+use Rattle.be_facts.proofs.Truths.{same_truth}
+use Rattle.be_facts.proofs.Numbers.{nat_lt_tells}
 use Rattle.be_geom.specs.declared.point.Point.{Point}
 use Rattle.be_geom.specs.Places.{at_pixel, same_point}
 use Rattle.be_span.specs.declared.Cell.{Cell}
@@ -23,11 +25,8 @@ same_parts x y p h =
     let parts = and_parts (int_eq x p.x) (int_eq y p.y) h in
     ((Decides-int_eq x p.x).0 parts.0, (Decides-int_eq y p.y).0 parts.1)
 
-both_true : (a b : Bool) → a ≡ true → b ≡ true → (a && b) ≡ true
-both_true a b e f = rw (e, f) refl
-
 pub same_self : (p : Point) → same_point (at_pixel p.x p.y) p ≡ true
-same_self p = both_true (int_eq p.x p.x) (int_eq p.y p.y) ((Decides-int_eq p.x p.x).1 refl) ((Decides-int_eq p.y p.y).1 refl)
+same_self p = and_from (int_eq p.x p.x) (int_eq p.y p.y) ((Decides-int_eq p.x p.x).1 refl) ((Decides-int_eq p.y p.y).1 refl)
 
 first_or : (b : Bool) (p : Point) (rest : List Point) (x y : ℤ) → has_pixel (cond b (p ∷ rest) rest) x y ≡ true → ((b ≡ true) × (same_point (at_pixel x y) p ≡ true)) ⊎ (has_pixel rest x y ≡ true)
 first_or true p rest x y h = elim (or_cases (same_point (at_pixel x y) p) (has_pixel rest x y) h) [ inl same ↦ inl (refl, same) | inr later ↦ inr later ]
@@ -94,7 +93,7 @@ listed_if width k owned (d ∷ cells) zero c got dirty own =
     let n : k + 0 ≡ k = omega arith in
     let same : d ≡ c = same_Some d c got in
     let here : owned (pos (k % width)) (pos (k / width)) ≡ true = subst (λ (m : ℕ). owned (pos (m % width)) (pos (m / width)) ≡ true) n own in
-    subst (λ (m : ℕ). has_pixel (dirty_from width k owned (d ∷ cells)) (pos (m % width)) (pos (m / width)) ≡ true) (sym n) (first_has (d.dirty && owned (pos (k % width)) (pos (k / width))) (at_pixel (pos (k % width)) (pos (k / width))) (dirty_from width (suc k) owned cells) (both_true d.dirty (owned (pos (k % width)) (pos (k / width))) (ap (λ (e : Cell). e.dirty) same ∙ dirty) here))
+    subst (λ (m : ℕ). has_pixel (dirty_from width k owned (d ∷ cells)) (pos (m % width)) (pos (m / width)) ≡ true) (sym n) (first_has (d.dirty && owned (pos (k % width)) (pos (k / width))) (at_pixel (pos (k % width)) (pos (k / width))) (dirty_from width (suc k) owned cells) (and_from d.dirty (owned (pos (k % width)) (pos (k / width))) (ap (λ (e : Cell). e.dirty) same ∙ dirty) here))
 listed_if width k owned (d ∷ cells) (suc i) c got dirty own =
     let n : suc k + i ≡ k + suc i = omega arith in
     subst (λ (m : ℕ). has_pixel (dirty_from width k owned (d ∷ cells)) (pos (m % width)) (pos (m / width)) ≡ true) n (later_has (d.dirty && owned (pos (k % width)) (pos (k / width))) (at_pixel (pos (k % width)) (pos (k / width))) (dirty_from width (suc k) owned cells) (pos ((suc k + i) % width)) (pos ((suc k + i) / width)) (listed_if width (suc k) owned cells i c got dirty (subst (λ (m : ℕ). owned (pos (m % width)) (pos (m / width)) ≡ true) (sym n) own)))
@@ -112,14 +111,11 @@ in_row : (b : Bool) (o : Option Cell) (c : Cell) → cond b o None ≡ Some c �
 in_row true o c h = (refl, h)
 in_row false o c h = absurd (none-some c h)
 
-less_is : (a b : ℕ) → nat_lt a b ≡ true → a < b
-less_is a b h = grind (arith, nat_tests)
-
 on_screen : (width : ℕ) (cells : List Cell) (x y : ℤ) (c : Cell) → cell_at width cells x y ≡ Some c → IsOnScreen width cells x y c
 unfolding cell_at
 on_screen width cells (pos right) (pos below) c h =
     let parts = in_row (nat_lt right width) (slice_get cells (below * width + right)) c h in
-    record { right = right; below = below; across = refl; down = refl; within = less_is right width parts.0; got = parts.1 }
+    record { right = right; below = below; across = refl; down = refl; within = nat_lt_tells right width parts.0; got = parts.1 }
 on_screen width cells (pos right) (negsuc below) c h = absurd (none-some c h)
 on_screen width cells (negsuc right) y c h = absurd (none-some c h)
 
@@ -135,18 +131,13 @@ number_of width i right below e f =
 
 -- ---- the list
 
-same_tests : (a b : Bool) → (a ≡ true → b ≡ true) → (b ≡ true → a ≡ true) → a ≡ b
-same_tests true b f g = sym (f refl)
-same_tests false true f g = g refl
-same_tests false false f g = refl
-
 waits_there : (width : ℕ) (owned : ℤ → ℤ → Bool) (screen : List Cell) (cells : ℤ → ℤ → Cell) → ((x y : ℤ) → owned x y ≡ true → cell_at width screen x y ≡ Some (cells x y)) → (x y : ℤ) → has_pixel (dirty_from width 0 owned screen) x y ≡ true → (owned x y && (cells x y).dirty) ≡ true
 waits_there width owned screen cells shown x y h =
     let l = listed_tells width 0 owned screen x y h in
     let s = on_screen width screen x y (cells x y) (shown x y l.own) in
     let number = number_of width l.at s.right s.below (sym s.across ∙ l.across) (sym s.down ∙ l.down) in
     let same : l.cell ≡ cells x y = same_Some l.cell (cells x y) (sym l.got ∙ ap (slice_get screen) (sym number) ∙ s.got) in
-    both_true (owned x y) (cells x y).dirty l.own (ap (λ (c : Cell). c.dirty) (sym same) ∙ l.dirty)
+    and_from (owned x y) (cells x y).dirty l.own (ap (λ (c : Cell). c.dirty) (sym same) ∙ l.dirty)
 
 listed_there : (width : ℕ) (owned : ℤ → ℤ → Bool) (screen : List Cell) (cells : ℤ → ℤ → Cell) → ((x y : ℤ) → owned x y ≡ true → cell_at width screen x y ≡ Some (cells x y)) → (x y : ℤ) → (owned x y && (cells x y).dirty) ≡ true → has_pixel (dirty_from width 0 owned screen) x y ≡ true
 listed_there width owned screen cells shown x y h =
@@ -163,4 +154,4 @@ listed_there width owned screen cells shown x y h =
 pub listed_as_dirty : ListedAsDirty
 unfolding dirty_pixels
 listed_as_dirty width owned screen cells shown x y =
-    same_tests (has_pixel (dirty_from width 0 owned screen) x y) (owned x y && (cells x y).dirty) (waits_there width owned screen cells shown x y) (listed_there width owned screen cells shown x y)
+    same_truth (has_pixel (dirty_from width 0 owned screen) x y) (owned x y && (cells x y).dirty) (waits_there width owned screen cells shown x y) (listed_there width owned screen cells shown x y)

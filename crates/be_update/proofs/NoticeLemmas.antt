@@ -2,7 +2,9 @@
 use Rattle.std.specs.Prelude.{is_none, not}
 use Rattle.std.specs.List.{list_any}
 use Rattle.std.proofs.Common.{◌≡◌, ℤ, Bool, true, false, ◌&&◌, List, [], ◌∷◌, Option, Some, None, refl, sym, ap, ◌∙◌}
-use Rattle.std.proofs.lemmas.Bool.{and_parts, or_left, false≢true, true≢false}
+use Rattle.std.proofs.lemmas.Bool.{and_parts, or_left, false≢true, true≢false, true_from_ne_false}
+use Rattle.std.proofs.lemmas.Bool.{false_from_ne_true}
+use Rattle.be_facts.proofs.Truths.{and_four, not_true}
 use Rattle.be_geom.specs.declared.point.Point.{Point}
 use Rattle.be_geom.specs.Places.{at_pixel, same_point}
 use Rattle.be_span.specs.declared.Cell.{Cell}
@@ -15,10 +17,6 @@ use Rattle.be_update.proofs.ListLemmas.{same_self}
 use Rattle.be_update.proofs.PixelLemmas.{has_pixel}
 
 -- ---- what waits
-
-false_unless : (b : Bool) → (b ≡ true → ⊥) → b ≡ false
-false_unless true h = absurd (h refl)
-false_unless false h = refl
 
 none_listed : (owned : ℤ → ℤ → Bool) (cells : ℤ → ℤ → Cell) (dirty : List Point) → AreDirty owned cells dirty → is_any dirty ≡ false → (x y : ℤ) → owned x y ≡ true → (cells x y).dirty ≡ false
 none_listed owned cells [] are h x y own = sym (are x y ∙ ap (λ b. b && (cells x y).dirty) own)
@@ -39,37 +37,26 @@ pub found_as_the_machine : FoundAsTheMachine
 found_as_the_machine pane w corner kept tree owned cells dirty stands are = (
   (both_closed pane.session kept.session stands.session, closed_both pane.session kept.session stands.session),
   (
-    λ clean. false_unless (is_any dirty) (λ h. some_waits owned cells dirty are h (clean_owned pane w corner kept tree owned cells stands clean)),
+    λ clean. false_from_ne_true (is_any dirty) (λ h. some_waits owned cells dirty are h (clean_owned pane w corner kept tree owned cells stands clean)),
     λ h. none_waits pane w corner kept tree owned cells stands (none_listed owned cells dirty are h),
   ),
 )
 
 -- ---- a notice
 
-true_unless : (b : Bool) → (b ≡ false → ⊥) → b ≡ true
-true_unless true h = refl
-true_unless false h = absurd (h refl)
-
 not_unless : (b : Bool) → (b ≡ true → ⊥) → not b ≡ true
 not_unless true h = absurd (h refl)
 not_unless false h = refl
-
-not_true : (b : Bool) → not b ≡ true → b ≡ false
-not_true true h = absurd (false≢true h)
-not_true false h = refl
 
 is_closed : (o : Option (List Point)) → is_none o ≡ true → o ≡ None
 is_closed None h = refl
 is_closed (Some pixels) h = absurd (false≢true h)
 
-all_four : (a b c d : Bool) → a ≡ true → b ≡ true → c ≡ true → d ≡ true → (a && b && c && d) ≡ true
-all_four a b c d e f g h = rw (e, f, g, h) refl
-
 owed_there : (closed : Bool) (dirty : List Point) (kept : machine.Pane) (owned : ℤ → ℤ → Bool) (cells : ℤ → ℤ → Cell) → AreDirty owned cells dirty → (closed ≡ true → (x y : ℤ) → owned x y ≡ false) → OwesNotice kept owned cells → is_owed closed dirty kept ≡ true
 owed_there closed dirty kept owned cells are gone owes =
-    all_four (not closed) (is_any dirty) (is_none kept.session) (not kept.notified)
+    and_four (not closed) (is_any dirty) (is_none kept.session) (not kept.notified)
     (not_unless closed (λ e. owes.waits (λ x y own. absurd (true≢false (sym own ∙ gone e x y)))))
-    (true_unless (is_any dirty) (λ e. owes.waits (none_listed owned cells dirty are e)))
+    (true_from_ne_false (is_any dirty) (λ e. owes.waits (none_listed owned cells dirty are e)))
     (ap is_none owes.closed)
     (ap not owes.unnoticed)
 

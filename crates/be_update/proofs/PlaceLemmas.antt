@@ -1,5 +1,5 @@
 -- A pixel at which a view is lies not far left of the view's place, nor far above it.
-use Rattle.std.proofs.Common.{◌≡◌, ℕ, ◌+◌, zero, suc, ℤ, pos, ◌+ℤ◌, ◌-ℤ◌, ◌≤ℤ◌, Bool, true, false, cond, [], ◌∷◌, Option, Some, None, length, ◌<◌, arith, refl, sym, ap, subst, ◌∙◌}
+use Rattle.std.proofs.Common.{◌≡◌, ℕ, ◌+◌, zero, suc, ℤ, pos, ◌+ℤ◌, ◌-ℤ◌, ◌≤ℤ◌, Bool, true, false, cond, [], Option, Some, None, length, ◌<◌, arith, refl, sym, ap, subst, ◌∙◌}
 use Rattle.std.specs.Prelude.{slice_get, option_and_then}
 use Rattle.std.specs.Option.{option_map}
 use Rattle.std.proofs.lemmas.Bool.{false≢true, eqb-true}
@@ -14,6 +14,7 @@ use Rattle.be_views.specs.Whole.{AreParentsFirst, IsTree}
 use Rattle.be_views.specs.Pixels.{descended, last_child_at, view_at, view_below}
 use Rattle.be_views.proofs.ChildLemmas.{in_frame}
 use Rattle.be_views.proofs.FrontLemmas.{child_is}
+use Rattle.be_views.proofs.TreeLemmas.{root_of}
 
 -- ---- places, climbed by more steps
 
@@ -111,10 +112,6 @@ parent_none : (tree : Tree) (root : View) → AreParentsFirst tree → slice_get
 parent_none tree root first got None e = refl
 parent_none tree root first got (Some p) e =
     absurd (not_below p (first.below 0 p (ap (λ (o : Option View). option_and_then (λ view. view.parent) o) got ∙ e)))
-
-root_of : (tree : Tree) → 0 < length tree → (root : View) × (slice_get tree 0 ≡ Some root)
-root_of [] h = absurd (omega arith)
-root_of (root ∷ tree) h = (root, refl)
 
 -- a view's place is at most 32767 columns right of each pixel that it has, and as many rows below it
 pub near_place : (tree : Tree) (v : ℕ) (x y : ℤ) (p : Point) → IsTree tree → is_number v (view_at tree x y) ≡ true → place_of tree v ≡ Some p → x ≤ℤ pos 32767 → y ≤ℤ pos 32767 → (p.x ≤ℤ (x +ℤ pos 32767)) × (p.y ≤ℤ (y +ℤ pos 32767))

@@ -5,6 +5,7 @@ use Rattle.std.specs.List.{flat_map}
 use Rattle.std.specs.Option.{option_eq}
 use Rattle.std.specs.Prelude.{nat_eq}
 use Rattle.std.proofs.lemmas.List.{append-nil}
+use Rattle.be_facts.proofs.Numbers.{suc_more}
 use Rattle.be_geom.specs.Numbers.{is_number}
 use Rattle.be_views.specs.Trees.{View, Tree, children_from, children_of, parent_of, preorder_from}
 
@@ -17,9 +18,6 @@ preorder_more (suc n) tree v h = ap (λ m. v ∷ below m tree (children_of tree 
 
 -- ---- one view of the list
 
-up : (n : ℕ) → suc n + 1 ≡ suc (n + 1)
-up n = omega arith
-
 pub record IsAt (tree : Tree) (k : ℕ) (w : View) : Type 0 where
   pub got : slice_get tree k ≡ Some w
   pub rest : drop k tree ≡ w ∷ drop (k + 1) tree
@@ -29,7 +27,7 @@ at [] k h = absurd (omega arith)
 at (w ∷ tree) zero h = (w, record { got = refl; rest = refl })
 at (w ∷ tree) (suc k) h =
     let a = at tree k (omega arith) in
-    (a.0, record { got = a.1.got; rest = a.1.rest ∙ ap (λ n. a.0 ∷ drop n (w ∷ tree)) (sym (up k)) })
+    (a.0, record { got = a.1.got; rest = a.1.rest ∙ ap (λ n. a.0 ∷ drop n (w ∷ tree)) (sym (suc_more k)) })
 
 next : (k v : ℕ) (w : View) (rest : Tree) → children_from k v (w ∷ rest) ≡ cond (is_number v w.parent) ((k, w) ∷ children_from (k + 1) v rest) (children_from (k + 1) v rest)
 next k v w rest = ap (λ n. cond (is_number v w.parent) ((k, w) ∷ children_from n v rest) (children_from n v rest)) (omega arith)

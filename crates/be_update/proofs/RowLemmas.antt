@@ -8,17 +8,17 @@ use Rattle.std.proofs.lemmas.List.{length-take, take_all}
 use Rattle.std.proofs.lemmas.Bool.{cases_lt, true≢false}
 use Rattle.std.proofs.lemmas.Bool.Decides.{Decides-int_eq}
 use Rattle.std.proofs.lemmas.Option.{none-some, same_Some, slice_get_past}
+use Rattle.be_facts.proofs.Numbers.{suc_more}
+use Rattle.be_facts.proofs.Truths.{or_assoc, and_true, and_false, with_or_false, true_or_false}
 use Rattle.be_geom.specs.declared.rect.Rect.{Rect}
 use Rattle.be_geom.specs.Points.{between}
 use Rattle.be_geom.specs.Rects.{rect_has}
-use Rattle.be_geom.proofs.Between.{between_tells}
+use Rattle.be_geom.proofs.Between.{between_tells, is_above, is_below, is_between, between_parts}
 use Rattle.be_region.specs.Regions.{region_has}
 use Rattle.be_region.proofs.CountLemmas.{has-append}
 use Rattle.be_span.specs.declared.Cell.{Cell}
 use Rattle.be_span.specs.Spans.{Spans, cell_in, is_dirty, pixels_of}
 use Rattle.be_span.proofs.CellLemmas.{cell_none, cell_some, slice_get-take}
-use Rattle.be_span.proofs.GridLemmas.{either}
-use Rattle.be_views.proofs.ChildLemmas.{between_parts}
 use Rattle.be_update.specs.Rows.{HasMore, IsAllOf, waits_at, waits_in, rows_of}
 
 -- ---- cells
@@ -33,10 +33,6 @@ below cells n k h = ap is_dirty (slice_get-take n cells k h)
 past : (cells : List Cell) (n k : ℕ) → n ≤ k → is_dirty (slice_get (take n cells) k) ≡ false
 past cells n k h = ap is_dirty (slice_get_past (take n cells) k (omega (arith, length-take n cells)))
 
-or_false : (b : Bool) → b ≡ (b || false)
-or_false true = refl
-or_false false = refl
-
 -- a run from one place to before another, behind some cells that don't wait
 pub record IsRun (cells : List Cell) (at start end : ℕ) : Type 0 where
   pub forward : at ≤ start
@@ -46,11 +42,11 @@ pub record IsRun (cells : List Cell) (at start end : ℕ) : Type 0 where
 
 outside : (cells : List Cell) (at start end k : ℕ) → IsRun cells at start end → (k < start) ⊎ (end ≤ k) → is_dirty (slice_get (take end cells) k) ≡ (is_dirty (slice_get (take at cells) k) || false)
 outside cells at start end k run (inr behind) =
-    past cells end k behind ∙ sym (past cells at k (let f = run.forward in let e = run.ends in omega arith)) ∙ or_false _
+    past cells end k behind ∙ sym (past cells at k (let f = run.forward in let e = run.ends in omega arith)) ∙ with_or_false _
 outside cells at start end k run (inl before) =
     elim (cases_lt k at) [
-      | inl less ↦ below cells end k (let e = run.ends in omega arith) ∙ sym (below cells at k less) ∙ or_false _
-      | inr more ↦ below cells end k (let e = run.ends in omega arith) ∙ seen (slice_get cells k) false (run.clean k more before) ∙ sym (past cells at k more) ∙ or_false _
+      | inl less ↦ below cells end k (let e = run.ends in omega arith) ∙ sym (below cells at k less) ∙ with_or_false _
+      | inr more ↦ below cells end k (let e = run.ends in omega arith) ∙ seen (slice_get cells k) false (run.clean k more before) ∙ sym (past cells at k more) ∙ with_or_false _
     ]
 
 inside : (cells : List Cell) (at start end k : ℕ) → IsRun cells at start end → start ≤ k → k < end → is_dirty (slice_get (take end cells) k) ≡ (is_dirty (slice_get (take at cells) k) || true)
@@ -59,15 +55,6 @@ inside cells at start end k run from to =
     ∙ sym (ap (λ v. v || true) (past cells at k (let f = run.forward in omega arith)))
 
 -- ---- one row
-
-pub between_is : (low z high : ℤ) → low ≤ℤ z → z ≤ℤ high → between low z high ≡ true
-between_is low z high a b = grind (arith, ints, between_tells)
-
-left_of : (low z high : ℤ) → z <ℤ low → between low z high ≡ false
-left_of low z high a = grind (arith, ints, between_tells)
-
-right_of : (low z high : ℤ) → high <ℤ z → between low z high ≡ false
-right_of low z high a = grind (arith, ints, between_tells)
 
 not_between : (low z high : ℤ) → between low z high ≡ false → (z <ℤ low) ⊎ (high <ℤ z)
 not_between low z high h = grind (arith, ints, between_tells)
@@ -81,7 +68,7 @@ columns : (cells : List Cell) (at start end : ℕ) (r : Rect) (left x z : ℤ) �
 columns cells at start end r left x (pos k) run place e =
     let first = place.first in
     let last = place.last in
-    elim (either (between r.left x r.right)) [
+    elim (true_or_false (between r.left x r.right)) [
       | inl h ↦
           let parts = between_parts r.left r.right x h in
           let from : start ≤ k = let a = parts.0 in omega (arith, ints) in
@@ -93,7 +80,7 @@ columns cells at start end r left x (pos k) run place e =
     ]
 columns cells at start end r left x (negsuc k) run place e =
     let first = place.first in
-    sym (left_of r.left x r.right (omega (arith, ints)))
+    sym (is_below r.left x r.right (omega (arith, ints)))
 
 eq_is : (w y : ℤ) → int_eq w y ≡ true → w ≡ y
 eq_is w y h = (Decides-int_eq w y).0 h
@@ -103,25 +90,17 @@ same_is w y e = (Decides-int_eq w y).1 e
 
 other_row : (w y : ℤ) → int_eq w y ≡ false → between y w y ≡ false
 other_row w y h =
-    elim (either (between y w y)) [
+    elim (true_or_false (between y w y)) [
       | inl b ↦ let parts = between_parts y y w b in absurd (true≢false (sym (same_is w y (let a = parts.0 in let c = parts.1 in omega (arith, ints))) ∙ h))
       | inr b ↦ b
     ]
 
-and_false : (b : Bool) → (b && false) ≡ false
-and_false true = refl
-and_false false = refl
-
-and_true : (b : Bool) → (b && true) ≡ b
-and_true true = refl
-and_true false = refl
-
--- the cells that wait up to the end of a run are those before it, and the run's rectangle
+-- the cells that wait suc_more to the end of a run are those before it, and the run's rectangle
 row_waits : (cells : List Cell) (at start end : ℕ) (r : Rect) (left y x w : ℤ) → IsRun cells at start end → IsRunAt r left start end → r.top ≡ y → r.bottom ≡ y → waits_in (take end cells) left y x w ≡ (waits_in (take at cells) left y x w || rect_has r x w)
 row_waits cells at start end r left y x w run place top bottom =
-    elim (either (int_eq w y)) [
+    elim (true_or_false (int_eq w y)) [
       | inl h ↦
-          let here : between r.top w r.bottom ≡ true = rw (top, bottom, eq_is w y h) (between_is y y y (omega (arith, ints)) (omega (arith, ints))) in
+          let here : between r.top w r.bottom ≡ true = rw (top, bottom, eq_is w y h) (is_between y y y (omega (arith, ints)) (omega (arith, ints))) in
           ap (λ v. v && waits_at (take end cells) (x -ℤ left)) h
           ∙ columns cells at start end r left x (x -ℤ left) run place refl
           ∙ sym (ap (λ v. (v && waits_at (take at cells) (x -ℤ left)) || rect_has r x w) h ∙ ap (λ v. waits_at (take at cells) (x -ℤ left) || (between r.left x r.right && v)) here ∙ ap (λ v. waits_at (take at cells) (x -ℤ left) || v) (and_true (between r.left x r.right)))
@@ -131,21 +110,17 @@ row_waits cells at start end r left y x w run place top bottom =
           ∙ sym (ap (λ v. (v && waits_at (take at cells) (x -ℤ left)) || rect_has r x w) h ∙ ap (λ v. between r.left x r.right && v) gone ∙ and_false (between r.left x r.right))
     ]
 
-or_assoc : (a b c : Bool) → ((a || b) || c) ≡ (a || (b || c))
-or_assoc true b c = refl
-or_assoc false b c = refl
-
 pub row_more : (cells : List Cell) (at start end : ℕ) (r : Rect) (left y : ℤ) (old now new : List Rect) → IsRun cells at start end → IsRunAt r left start end → r.top ≡ y → r.bottom ≡ y → HasMore (waits_in (take at cells) left y) old now → new ≡ now ++ r ∷ [] → HasMore (waits_in (take end cells) left y) old new
 row_more cells at start end r left y old now new run place top bottom more e x w =
     ap (λ rs. region_has rs x w) e ∙ has-append now (r ∷ []) x w
     ∙ ap (λ v. v || region_has (r ∷ []) x w) (more x w)
-    ∙ ap (λ v. (region_has old x w || waits_in (take at cells) left y x w) || v) (sym (or_false (rect_has r x w)))
+    ∙ ap (λ v. (region_has old x w || waits_in (take at cells) left y x w) || v) (sym (with_or_false (rect_has r x w)))
     ∙ or_assoc (region_has old x w) (waits_in (take at cells) left y x w) (rect_has r x w)
     ∙ ap (λ v. region_has old x w || v) (sym (row_waits cells at start end r left y x w run place top bottom))
 
 -- where there is no run, no more cells wait
 stays : (cells : List Cell) (at start : ℕ) (z : ℤ) → IsRun cells at start start → waits_at (take start cells) z ≡ waits_at (take at cells) z
-stays cells at start (pos k) run = outside cells at start start k run (cases_lt k start) ∙ sym (or_false _)
+stays cells at start (pos k) run = outside cells at start start k run (cases_lt k start) ∙ sym (with_or_false _)
 stays cells at start (negsuc k) run = refl
 
 pub row_passed : (cells : List Cell) (at start : ℕ) (left y : ℤ) (old now : List Rect) → IsRun cells at start start → HasMore (waits_in (take at cells) left y) old now → HasMore (waits_in (take start cells) left y) old now
@@ -171,7 +146,7 @@ moves_on cells at start end here forward ends clean dirty =
           let s : start ≡ at = omega arith in
           let e : end ≡ at = omega arith in
           let cell = got cells at here in
-          elim (either cell.0.dirty) [
+          elim (true_or_false cell.0.dirty) [
             | inl h ↦ absurd (dirty (omega arith) (marked true (slice_get cells end) cell.0 (ap (slice_get cells) e ∙ cell.1) h))
             | inr h ↦ absurd (clean (omega arith) (marked false (slice_get cells start) cell.0 (ap (slice_get cells) s ∙ cell.1) h))
           ]
@@ -181,7 +156,7 @@ moves_on cells at start end here forward ends clean dirty =
 
 pub rows_none : (r : Rect) (x y : ℤ) → rect_has (rows_of r 0) x y ≡ false
 rows_none r x y =
-    let e : between r.top y (r.top +ℤ pos 0 -ℤ pos 1) ≡ false = elim (either (between r.top y (r.top +ℤ pos 0 -ℤ pos 1))) [
+    let e : between r.top y (r.top +ℤ pos 0 -ℤ pos 1) ≡ false = elim (true_or_false (between r.top y (r.top +ℤ pos 0 -ℤ pos 1))) [
       | inl h ↦ let parts = between_parts r.top (r.top +ℤ pos 0 -ℤ pos 1) y h in absurd (let a = parts.0 in let b = parts.1 in omega (arith, ints))
       | inr h ↦ h
     ] in
@@ -192,20 +167,20 @@ behind top w n h other = grind (arith, ints)
 
 row_below : (top w : ℤ) (n : ℕ) → between top w (top +ℤ pos (n + 1) -ℤ pos 1) ≡ (between top w (top +ℤ pos n -ℤ pos 1) || int_eq w (top +ℤ pos n))
 row_below top w n =
-    elim (either (int_eq w (top +ℤ pos n))) [
+    elim (true_or_false (int_eq w (top +ℤ pos n))) [
       | inl h ↦
           let e = eq_is w (top +ℤ pos n) h in
-          between_is top w (top +ℤ pos (n + 1) -ℤ pos 1) (omega (arith, ints)) (omega (arith, ints))
-          ∙ sym (ap (λ v. v || int_eq w (top +ℤ pos n)) (right_of top w (top +ℤ pos n -ℤ pos 1) (omega (arith, ints))) ∙ h)
+          is_between top w (top +ℤ pos (n + 1) -ℤ pos 1) (omega (arith, ints)) (omega (arith, ints))
+          ∙ sym (ap (λ v. v || int_eq w (top +ℤ pos n)) (is_above top w (top +ℤ pos n -ℤ pos 1) (omega (arith, ints))) ∙ h)
       | inr h ↦
-          elim (either (between top w (top +ℤ pos n -ℤ pos 1))) [
+          elim (true_or_false (between top w (top +ℤ pos n -ℤ pos 1))) [
             | inl b ↦
                 let parts = between_parts top (top +ℤ pos n -ℤ pos 1) w b in
-                between_is top w (top +ℤ pos (n + 1) -ℤ pos 1) parts.0 (let c = parts.1 in omega (arith, ints)) ∙ sym (ap (λ v. v || int_eq w (top +ℤ pos n)) b)
+                is_between top w (top +ℤ pos (n + 1) -ℤ pos 1) parts.0 (let c = parts.1 in omega (arith, ints)) ∙ sym (ap (λ v. v || int_eq w (top +ℤ pos n)) b)
             | inr b ↦
                 elim (not_between top w (top +ℤ pos n -ℤ pos 1) b) [
-                  | inl a ↦ left_of top w (top +ℤ pos (n + 1) -ℤ pos 1) a ∙ sym (ap (λ v. v || int_eq w (top +ℤ pos n)) b ∙ h)
-                  | inr c ↦ right_of top w (top +ℤ pos (n + 1) -ℤ pos 1) (behind top w n c (λ e. true≢false (sym (same_is w (top +ℤ pos n) e) ∙ h))) ∙ sym (ap (λ v. v || int_eq w (top +ℤ pos n)) b ∙ h)
+                  | inl a ↦ is_below top w (top +ℤ pos (n + 1) -ℤ pos 1) a ∙ sym (ap (λ v. v || int_eq w (top +ℤ pos n)) b ∙ h)
+                  | inr c ↦ is_above top w (top +ℤ pos (n + 1) -ℤ pos 1) (behind top w n c (λ e. true≢false (sym (same_is w (top +ℤ pos n) e) ∙ h))) ∙ sym (ap (λ v. v || int_eq w (top +ℤ pos n)) b ∙ h)
                 ]
           ]
     ]
@@ -231,17 +206,17 @@ row_at spans r y row x (pos k) of e =
       | inl less ↦
           let at : r.left +ℤ pos k ≡ x = omega (arith, ints) in
           ap is_dirty (sym (of.cells k less)) ∙ ap (λ z. is_dirty (cell_in spans z y)) at
-          ∙ sym (ap (λ v. v && is_dirty (cell_in spans x y)) (between_is r.left x r.right (omega (arith, ints)) (omega (arith, ints))))
+          ∙ sym (ap (λ v. v && is_dirty (cell_in spans x y)) (is_between r.left x r.right (omega (arith, ints)) (omega (arith, ints))))
       | inr more ↦
           ap is_dirty (slice_get_past row k more)
-          ∙ sym (ap (λ v. v && is_dirty (cell_in spans x y)) (right_of r.left x r.right (omega (arith, ints))))
+          ∙ sym (ap (λ v. v && is_dirty (cell_in spans x y)) (is_above r.left x r.right (omega (arith, ints))))
     ]
 row_at spans r y row x (negsuc k) of e =
-    sym (ap (λ v. v && is_dirty (cell_in spans x y)) (left_of r.left x r.right (omega (arith, ints))))
+    sym (ap (λ v. v && is_dirty (cell_in spans x y)) (is_below r.left x r.right (omega (arith, ints))))
 
 row_dirty : (spans : Spans) (r : Rect) (y : ℤ) (row : List Cell) (x w : ℤ) → IsRowOf spans r y row → waits_in row r.left y x w ≡ ((between r.left x r.right && int_eq w y) && is_dirty (cell_in spans x w))
 row_dirty spans r y row x w of =
-    elim (either (int_eq w y)) [
+    elim (true_or_false (int_eq w y)) [
       | inl h ↦
           ap (λ v. v && waits_at row (x -ℤ r.left)) h ∙ row_at spans r y row x (x -ℤ r.left) of refl
           ∙ ap (λ z. between r.left x r.right && is_dirty (cell_in spans x z)) (sym (eq_is w y h))
@@ -268,14 +243,11 @@ rect_more spans r n row old now new of before more x y =
 
 -- ---- all rectangles
 
-up : (n : ℕ) → suc n + 1 ≡ suc (n + 1)
-up n = omega arith
-
 has_next : (rs : List Rect) (n : ℕ) (r : Rect) (x y : ℤ) → slice_get rs n ≡ Some r → region_has (take (n + 1) rs) x y ≡ (region_has (take n rs) x y || rect_has r x y)
 has_next [] n r x y h = absurd (none-some r h)
-has_next (s ∷ rs) zero r x y h = ap (λ (q : Rect). rect_has q x y || false) (same_Some s r h) ∙ sym (or_false (rect_has r x y))
+has_next (s ∷ rs) zero r x y h = ap (λ (q : Rect). rect_has q x y || false) (same_Some s r h) ∙ sym (with_or_false (rect_has r x y))
 has_next (s ∷ rs) (suc n) r x y h =
-    ap (λ k. region_has (take k (s ∷ rs)) x y) (up n)
+    ap (λ k. region_has (take k (s ∷ rs)) x y) (suc_more n)
     ∙ ap (λ v. rect_has s x y || v) (has_next rs n r x y h) ∙ sym (or_assoc (rect_has s x y) (region_has (take n rs) x y) (rect_has r x y))
 
 pub all_more : (spans : Spans) (place : ℕ) (r : Rect) (now new : List Rect) → slice_get spans.rects place ≡ Some r → ((x y : ℤ) → region_has now x y ≡ (region_has (take place spans.rects) x y && is_dirty (cell_in spans x y))) → HasMore (λ x y. rect_has r x y && is_dirty (cell_in spans x y)) now new → (x y : ℤ) → region_has new x y ≡ (region_has (take (place + 1) spans.rects) x y && is_dirty (cell_in spans x y))
@@ -287,19 +259,10 @@ all_more spans place r now new at before more x y =
 pub all_of : (spans : Spans) (n : ℕ) (x y : ℤ) → length spans.rects ≤ n → (region_has (take n spans.rects) x y && is_dirty (cell_in spans x y)) ≡ is_dirty (cell_in spans x y)
 all_of spans n x y h =
     ap (λ rs. region_has rs x y && is_dirty (cell_in spans x y)) (take_all n spans.rects h)
-    ∙ elim (either (region_has spans.rects x y)) [
+    ∙ elim (true_or_false (region_has spans.rects x y)) [
       | inl a ↦ ap (λ v. v && is_dirty (cell_in spans x y)) a
       | inr a ↦ ap (λ v. v && is_dirty (cell_in spans x y)) a ∙ sym (ap is_dirty (cell_none spans x y a))
     ]
-
-or_true : (b : Bool) → (b || true) ≡ true
-or_true true = refl
-or_true false = refl
-
-pub is_inside : (rs : List Rect) (n : ℕ) (r : Rect) (x y : ℤ) → slice_get rs n ≡ Some r → rect_has r x y ≡ true → region_has rs x y ≡ true
-is_inside [] n r x y h e = absurd (none-some r h)
-is_inside (s ∷ rs) zero r x y h e = ap (λ v. v || region_has rs x y) (ap (λ (q : Rect). rect_has q x y) (same_Some s r h) ∙ e)
-is_inside (s ∷ rs) (suc n) r x y h e = ap (λ v. rect_has s x y || v) (is_inside rs n r x y h e) ∙ or_true (rect_has s x y)
 
 -- ---- a row of the buffer is as wide as its rectangle
 

@@ -5,18 +5,18 @@ use Rattle.std.specs.Option.{option_map}
 use Rattle.std.proofs.lemmas.Bool.{true≢false}
 use Rattle.std.proofs.lemmas.Int.{ints}
 use Rattle.std.proofs.lemmas.Option.{none-some, same_Some}
+use Rattle.be_facts.proofs.Truths.{true_or_false}
 use Rattle.be_geom.specs.declared.rect.Rect.{Rect}
 use Rattle.be_geom.specs.Points.{in_range}
 use Rattle.be_geom.specs.Rects.{moved_rect, rect_has}
+use Rattle.be_geom.proofs.Between.{is_between}
 use Rattle.be_region.specs.Regions.{region_has}
 use Rattle.be_span.specs.Spans.{cell_in, is_dirty}
 use Rattle.be_span.proofs.CellLemmas.{cell_none}
-use Rattle.be_span.proofs.GridLemmas.{either}
 use Rattle.be_views.specs.Trees.{View}
 use Rattle.be_views.proofs.ChildLemmas.{in_frame}
 use Rattle.be_pane.specs.declared.pane.Pane.{Pane}
 use Rattle.be_pane.specs.StandsFor.{IsWhole}
-use Rattle.be_update.proofs.RowLemmas.{between_is}
 
 pub record FrameFits (r : Rect) : Type 0 where
   pub left : SFits w16 r.left
@@ -36,7 +36,7 @@ stays_in_range frame px py dx dy x y fits e f has =
     let b = inside.1 in
     let c = inside.2 in
     let d = inside.3 in
-    ap₂ (λ v w. v && w) (between_is (negsuc 32767) (x +ℤ dx) (pos 32767) (omega (arith, ints)) (omega (arith, ints))) (between_is (negsuc 32767) (y +ℤ dy) (pos 32767) (omega (arith, ints)) (omega (arith, ints)))
+    ap₂ (λ v w. v && w) (is_between (negsuc 32767) (x +ℤ dx) (pos 32767) (omega (arith, ints)) (omega (arith, ints))) (is_between (negsuc 32767) (y +ℤ dy) (pos 32767) (omega (arith, ints)) (omega (arith, ints)))
 
 root_is : (o : Option View) (f : Rect) → option_map (λ v. v.frame) o ≡ Some f → (root : View) × ((o ≡ Some root) × (root.frame ≡ f))
 root_is (Some root) f h = (root, (refl, same_Some root.frame f h))
@@ -44,7 +44,7 @@ root_is None f h = absurd (none-some f h)
 
 owned_if_dirty : (pane : Pane) (x y : ℤ) → is_dirty (cell_in pane.spans x y) ≡ true → region_has pane.spans.rects x y ≡ true
 owned_if_dirty pane x y h =
-    elim (either (region_has pane.spans.rects x y)) [
+    elim (true_or_false (region_has pane.spans.rects x y)) [
       | inl has ↦ has
       | inr none ↦ absurd (true≢false (sym h ∙ ap is_dirty (cell_none pane.spans x y none)))
     ]

@@ -2,19 +2,15 @@
 use Rattle.std.specs.Prelude.{find, reverse, option_map}
 use Rattle.std.proofs.lemmas.Option.{none-some, same_Some}
 use Rattle.std.proofs.Common.{◌≡◌, ℕ, ◌+◌, ◌-◌, ◌<◌, ◌≤◌, zero, suc, ℤ, ◌-ℤ◌, ◌≤ℤ◌, Bool, true, false, ◌&&◌, cond, List, [], ◌∷◌, ◌++◌, Option, Some, None, length, get_or, take, arith, refl, sym, ap, ◌∙◌}
-use Rattle.std.proofs.lemmas.Int.{ints}
 use Rattle.std.proofs.lemmas.Bool.{and_parts}
 use Rattle.std.proofs.lemmas.List.{take_more, length-take, reverse-append, append-nil}
 use Rattle.be_geom.specs.declared.rect.Rect.{Rect}
 use Rattle.be_geom.specs.Numbers.{is_number}
 use Rattle.be_geom.specs.Points.{between}
 use Rattle.be_geom.specs.Rects.{rect_has}
-use Rattle.be_geom.proofs.Between.{between_tells}
+use Rattle.be_geom.proofs.Between.{between_parts}
 use Rattle.be_views.specs.Trees.{View, Tree, children_from}
 use Rattle.be_views.specs.Pixels.{last_child_at, descended, view_below}
-
-pub between_parts : (low high z : ℤ) → between low z high ≡ true → (low ≤ℤ z) × (z ≤ℤ high)
-between_parts low high z h = grind (arith, ints, between_tells)
 
 pub in_frame : (f : Rect) (x y : ℤ) → rect_has f x y ≡ true → (f.left ≤ℤ x) × (x ≤ℤ f.right) × (f.top ≤ℤ y) × (y ≤ℤ f.bottom)
 in_frame f x y h =
@@ -73,9 +69,6 @@ meets_child tree k v x y view some h read inside before =
 
 pub both_are : (p q b c : Bool) → p ≡ b → q ≡ c → (p && q) ≡ (b && c)
 both_are p q b c e f = rw (e, f) refl
-
-pub first_is_not : (p q : Bool) → p ≡ false → (p && q) ≡ false
-first_is_not p q e = rw e refl
 
 -- ---- the way down
 

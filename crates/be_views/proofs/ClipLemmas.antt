@@ -1,26 +1,28 @@
 -- Which pixels of the window are a view's own.
 use Rattle.std.specs.Prelude.{slice_get, option_and_then, is_some}
 use Rattle.std.proofs.Common.{◌≡◌, ℕ, ◌+◌, ◌-◌, ◌<◌, ◌≤◌, ◌==◌, suc, ℤ, pos, ◌+ℤ◌, ◌-ℤ◌, ◌≤ℤ◌, ◌<ℤ◌, negsuc, Bool, true, false, not, ◌&&◌, ◌||◌, cond, inl, inr, List, Option, Some, None, length, get_or, take, drop, SFits, w16, w32, rules, arith, refl, sym, ap, subst, ◌∙◌}
-use Rattle.std.proofs.lemmas.Bool.{and_parts, and_left, and_right, and_cases, and_from, false≢true, false_from_ne_true, eq-eqb, ne_eqb, not-true}
+use Rattle.std.proofs.lemmas.Bool.{and_parts, and_right, and_cases, and_from, false≢true, false_from_ne_true, eq-eqb, ne_eqb, not-true}
 use Rattle.std.proofs.lemmas.Int.{ints, clamps}
 use Rattle.std.specs.Int.{int_max, int_min}
 use Rattle.std.proofs.lemmas.List.{take_rest}
 use Rattle.std.proofs.lemmas.List.Folds.{list_any_more}
 use Rattle.std.proofs.lemmas.Option.{none-some, same_Some}
+use Rattle.be_facts.proofs.Numbers.{fits_16}
+use Rattle.be_facts.proofs.Truths.{or_false}
 use Rattle.be_geom.specs.declared.rect.Rect.{Rect}
 use Rattle.be_geom.specs.Numbers.{is_number}
 use Rattle.be_geom.specs.Points.{between, in_range}
 use Rattle.be_geom.specs.Rects.{rect_has}
-use Rattle.be_geom.proofs.Between.{between_tells}
-use Rattle.be_region.proofs.LineLemmas.{is_between, not_between_left, not_between_right}
+use Rattle.be_geom.proofs.Between.{between_tells, between_parts, is_between, is_below, is_above}
 use Rattle.be_region.specs.Regions.{region_has, IsDifference, IsIntersection}
 use Rattle.be_views.specs.Clips.{covers, IsClip, IsInRange, HasPixelsMoved, IsUncovered, ComesBy, IsOutside, IsReach}
 use Rattle.be_geom.specs.Places.{IsNear}
-use Rattle.be_views.proofs.ChildLemmas.{in_frame, between_parts}
+use Rattle.be_geom.proofs.Numbered.{number_is as number_some}
+use Rattle.be_views.proofs.ChildLemmas.{in_frame}
 use Rattle.be_views.specs.Trees.{View, Tree, parent_of, lies_within}
 use Rattle.be_views.specs.Pixels.{last_child_at, view_below, view_at}
 use Rattle.be_views.specs.Whole.{AreParentsFirst}
-use Rattle.be_views.proofs.FrontLemmas.{child_is, covers_is, in_front, none_in_front, number_some}
+use Rattle.be_views.proofs.FrontLemmas.{child_is, covers_is, in_front, none_in_front}
 use Rattle.be_views.proofs.KinLemmas.{ends_within, within_self, within_below, within_child, one_child, parent_read, goes_on, stops}
 
 -- ---- the root
@@ -51,7 +53,7 @@ pub record IsIn (tree : Tree) (u c : ℕ) (w : View) : Type 0 where
 pub in_parent : (tree : Tree) (u c : ℕ) (w : View) → IsIn tree u c w → parent_of tree c ≡ Some u
 in_parent tree u c w h = ap (λ o. option_and_then (λ (v : View). v.parent) o) h.got ∙ h.parent
 
-is_lying : (tree : Tree) (u c : ℕ) (w : View) → IsIn tree u c w → is_number u w.parent ≡ true
+pub is_lying : (tree : Tree) (u c : ℕ) (w : View) → IsIn tree u c w → is_number u w.parent ≡ true
 is_lying tree u c w h = ap (is_number u) h.parent ∙ eq-eqb u u refl
 
 -- the way that comes by a view comes by the child that is in front
@@ -68,7 +70,7 @@ by_child tree u c w x y left top found h holds free by =
     rw (a, b) (steps - 1, (omega arith, by.1.1 ∙ ap (λ k. Some (view_below k tree u (x -ℤ left) (y -ℤ top))) n ∙ ap (λ v. Some v) (goes_on (steps - 1) tree u (x -ℤ left) (y -ℤ top) (c, w) front)))
 
 -- the way that ends in a child comes by it
-front_is : (tree : Tree) (u c : ℕ) (w : View) (n k r : ℕ) (x y : ℤ) (o : Option (ℕ × View)) → IsIn tree u c w → last_child_at tree u x y ≡ o → view_below (suc n) tree u x y ≡ r → lies_within k tree c r ≡ true → (rect_has w.frame x y && not (covers (drop (c + 1) tree) u x y)) ≡ true
+pub front_is : (tree : Tree) (u c : ℕ) (w : View) (n k r : ℕ) (x y : ℤ) (o : Option (ℕ × View)) → IsIn tree u c w → last_child_at tree u x y ≡ o → view_below (suc n) tree u x y ≡ r → lies_within k tree c r ≡ true → (rect_has w.frame x y && not (covers (drop (c + 1) tree) u x y)) ≡ true
 front_is tree u c w n k r x y None h is ends lies =
     let e : u ≡ r = sym (stops (suc n) tree u x y is) ∙ ends in
     let low = within_below k tree c r h.first lies in
@@ -82,7 +84,7 @@ front_is tree u c w n k r x y (Some d) h is ends lies =
     let view : d.1 ≡ w = same_Some d.1 w (sym child.got ∙ ap (slice_get tree) number ∙ h.got) in
     and_from (rect_has w.frame x y) (not (covers (drop (c + 1) tree) u x y)) (ap (λ (v : View). rect_has v.frame x y) (sym view) ∙ child.holds) (ap not (ap (λ m. covers (drop (m + 1) tree) u x y) (sym number) ∙ none_in_front tree u x y d is))
 
-by_front : (tree : Tree) (u c : ℕ) (w : View) (k r : ℕ) (x y : ℤ) (found : Option ℕ) → IsIn tree u c w → ComesBy tree u x y found → found ≡ Some r → lies_within k tree c r ≡ true → (rect_has w.frame x y && not (covers (drop (c + 1) tree) u x y)) ≡ true
+pub by_front : (tree : Tree) (u c : ℕ) (w : View) (k r : ℕ) (x y : ℤ) (found : Option ℕ) → IsIn tree u c w → ComesBy tree u x y found → found ≡ Some r → lies_within k tree c r ≡ true → (rect_has w.frame x y && not (covers (drop (c + 1) tree) u x y)) ≡ true
 by_front tree u c w k r x y found h by is lies =
     let many = by.1.0 in
     let there = h.there in
@@ -109,7 +111,7 @@ child_reach tree u c w left top rs cut h reach has = record {
 number_is : (v : ℕ) (o : Option ℕ) (r : ℕ) → o ≡ Some r → is_number v o ≡ (r == v)
 number_is v o r h = ap (is_number v) h
 
-own_or_child : (tree : Tree) (v n : ℕ) (x y : ℤ) (o : Option (ℕ × View)) → AreParentsFirst tree → last_child_at tree v x y ≡ o → (view_below (suc n) tree v x y == v) ≡ not (is_some o)
+pub own_or_child : (tree : Tree) (v n : ℕ) (x y : ℤ) (o : Option (ℕ × View)) → AreParentsFirst tree → last_child_at tree v x y ≡ o → (view_below (suc n) tree v x y == v) ≡ not (is_some o)
 own_or_child tree v n x y None first is = ap (λ r. r == v) (stops (suc n) tree v x y is) ∙ eq-eqb v v refl
 own_or_child tree v n x y (Some d) first is =
     let child = child_is tree v x y d is in
@@ -117,13 +119,13 @@ own_or_child tree v n x y (Some d) first is =
     let low = within_below n tree d.0 (view_below n tree d.0 (x -ℤ d.1.frame.left) (y -ℤ d.1.frame.top)) first (ends_within n tree d.0 (x -ℤ d.1.frame.left) (y -ℤ d.1.frame.top)) in
     ap (λ r. r == v) (goes_on n tree v x y d is) ∙ ne_eqb (view_below n tree d.0 (x -ℤ d.1.frame.left) (y -ℤ d.1.frame.top)) v (λ e. omega arith)
 
-own : (tree : Tree) (v : ℕ) (x y : ℤ) (found : Option ℕ) → AreParentsFirst tree → v < length tree → ComesBy tree v x y found → not (covers tree v x y) ≡ is_number v found
+pub own : (tree : Tree) (v : ℕ) (x y : ℤ) (found : Option ℕ) → AreParentsFirst tree → v < length tree → ComesBy tree v x y found → not (covers tree v x y) ≡ is_number v found
 own tree v x y found first there by =
     let many = by.1.0 in
     let n : suc (by.0 - 1) ≡ by.0 = omega arith in
     ap not (covers_is tree v x y) ∙ sym (own_or_child tree v (by.0 - 1) x y (last_child_at tree v x y) first refl) ∙ ap (λ m. view_below m tree v x y == v) n ∙ sym (number_is v found (view_below by.0 tree v x y) by.1.1)
 
-not_own : (tree : Tree) (v : ℕ) (found : Option ℕ) → IsOutside tree v found → is_number v found ≡ false
+pub not_own : (tree : Tree) (v : ℕ) (found : Option ℕ) → IsOutside tree v found → is_number v found ≡ false
 not_own tree v found h = false_from_ne_true (is_number v found) (λ e. false≢true (sym (h v (number_some v found e) 0) ∙ within_self 0 tree v))
 
 clip_at : (tree : Tree) (v : ℕ) (x y left top : ℤ) (rs : List Rect) (b : Bool) → AreParentsFirst tree → v < length tree → IsReach tree v left top rs → region_has rs x y ≡ b → (b && not (covers tree v (x -ℤ left) (y -ℤ top))) ≡ is_number v (view_at tree x y)
@@ -141,7 +143,7 @@ edges_some low high by first last z e f h k =
     let range = between_parts (negsuc 32767) (pos 32767) z k in
     let least = range.0 in
     let most = range.1 in
-    elim (between_tells first z last) [ inl i ↦ let from = i.1 in let to = i.2 in i.0 ∙ sym (is_between low (z -ℤ by) high (omega (arith, ints, clamps)) (omega (arith, ints, clamps))) | inr o ↦ o.0 ∙ sym (elim o.1 [ inl less ↦ not_between_left low (z -ℤ by) high (omega (arith, ints, clamps)) | inr more ↦ not_between_right low (z -ℤ by) high (omega (arith, ints, clamps)) ]) ]
+    elim (between_tells first z last) [ inl i ↦ let from = i.1 in let to = i.2 in i.0 ∙ sym (is_between low (z -ℤ by) high (omega (arith, ints, clamps)) (omega (arith, ints, clamps))) | inr o ↦ o.0 ∙ sym (elim o.1 [ inl less ↦ is_below low (z -ℤ by) high (omega (arith, ints, clamps)) | inr more ↦ is_above low (z -ℤ by) high (omega (arith, ints, clamps)) ]) ]
 
 pub edges_none : (low high by first last z : ℤ) → first ≡ int_max (low +ℤ by) (negsuc 32767) → last ≡ int_min (high +ℤ by) (pos 32767) → last <ℤ first → in_range z ≡ true → false ≡ between low (z -ℤ by) high
 edges_none low high by first last z e f h k =
@@ -154,10 +156,6 @@ pub moved_pixels : (rs : List Rect) (frame : Rect) (left right top bottom dx dy 
 moved_pixels rs frame left right top bottom dx dy has across down x y h =
     let parts = and_parts (in_range x) (in_range y) h in
     has x y ∙ ap (λ b. b && between top y bottom) (across x parts.0) ∙ ap (λ b. between frame.left (x -ℤ dx) frame.right && b) (down y parts.1)
-
-pub no_columns : (rs : List Rect) (frame : Rect) (dx dy : ℤ) → ((x y : ℤ) → region_has rs x y ≡ false) → ((z : ℤ) → in_range z ≡ true → false ≡ between frame.left (z -ℤ dx) frame.right) → HasPixelsMoved rs frame dx dy
-no_columns rs frame dx dy has across x y h =
-    has x y ∙ sym (and_left (between frame.left (x -ℤ dx) frame.right) (between frame.top (y -ℤ dy) frame.bottom) (sym (across x (and_parts (in_range x) (in_range y) h).0)))
 
 pub no_rows : (rs : List Rect) (frame : Rect) (dx dy : ℤ) → ((x y : ℤ) → region_has rs x y ≡ false) → ((z : ℤ) → in_range z ≡ true → false ≡ between frame.top (z -ℤ dy) frame.bottom) → HasPixelsMoved rs frame dx dy
 no_rows rs frame dx dy has down x y h =
@@ -172,17 +170,6 @@ less_one false c r m h = refl
 
 covers_more : (views : List View) (i v : ℕ) (x y : ℤ) (d : View) → i < length views → covers (take (i + 1) views) v x y ≡ (covers (take i views) v x y || (is_number v (get_or views i d).parent && rect_has (get_or views i d).frame x y))
 covers_more views i v x y d h = list_any_more (λ view. is_number v view.parent && rect_has view.frame x y) views i d h
-
-and_true : (b : Bool) → (b && true) ≡ b
-and_true true = refl
-and_true false = refl
-
-or_false : (b : Bool) → (b || false) ≡ b
-or_false true = refl
-or_false false = refl
-
-pub uncovered_none : (a : List Rect) (views : List View) (v : ℕ) (left top : ℤ) → IsUncovered a a (take 0 views) v left top
-uncovered_none a views v left top x y = sym (and_true (region_has a x y))
 
 pub uncovered_passes : (now a : List Rect) (views : List View) (i v : ℕ) (left top : ℤ) (view d : View) → i < length views → view ≡ get_or views i d → is_number v view.parent ≡ false → IsUncovered now a (take i views) v left top → IsUncovered now a (take (i + 1) views) v left top
 uncovered_passes now a views i v left top view d h read out u x y =
@@ -231,14 +218,11 @@ near_more u c z edge h f near =
     let most : edge ≤ℤ pos 32767 = search rules in
     (omega (arith, ints), omega (arith, ints))
 
-fits_from : (z : ℤ) → negsuc 32767 ≤ℤ z → z ≤ℤ pos 32767 → SFits w16 z
-fits_from z low high = search rules
-
 pub first_fits : (low high by first last : ℤ) → first ≡ int_max (low +ℤ by) (negsuc 32767) → last ≡ int_min (high +ℤ by) (pos 32767) → first ≤ℤ last → SFits w16 first
-first_fits low high by first last e f h = fits_from first (omega (arith, ints, clamps)) (omega (arith, ints, clamps))
+first_fits low high by first last e f h = fits_16 first (omega (arith, ints, clamps)) (omega (arith, ints, clamps))
 
 pub last_fits : (low high by first last : ℤ) → first ≡ int_max (low +ℤ by) (negsuc 32767) → last ≡ int_min (high +ℤ by) (pos 32767) → first ≤ℤ last → SFits w16 last
-last_fits low high by first last e f h = fits_from last (omega (arith, ints, clamps)) (omega (arith, ints, clamps))
+last_fits low high by first last e f h = fits_16 last (omega (arith, ints, clamps)) (omega (arith, ints, clamps))
 
 pub near_sum : (z edge : ℤ) → SFits w16 edge → IsNear 32 z → SFits w32 (z +ℤ edge)
 near_sum z edge f near =

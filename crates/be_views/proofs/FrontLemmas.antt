@@ -2,19 +2,16 @@
 use Rattle.std.specs.Prelude.{find, reverse, slice_get, is_some}
 use Rattle.std.specs.Option.{option_or}
 use Rattle.std.proofs.Common.{◌≡◌, ℕ, ◌+◌, zero, suc, ℤ, Bool, true, false, ◌&&◌, ◌||◌, cond, List, [], ◌∷◌, Option, Some, None, drop, arith, refl, sym, ap, subst, ◌∙◌}
-use Rattle.std.proofs.lemmas.Bool.{and_parts, false≢true, true≢false, eqb-true}
+use Rattle.std.proofs.lemmas.Bool.{and_parts, true≢false}
 use Rattle.std.proofs.lemmas.Option.{none-some, same_Some, cond_some}
 use Rattle.std.proofs.lemmas.List.{reverse-append}
 use Rattle.std.proofs.lemmas.List.Folds.{find-append}
 use Rattle.be_geom.specs.Numbers.{is_number}
 use Rattle.be_geom.specs.Rects.{rect_has}
+use Rattle.be_geom.proofs.Numbered.{number_is}
 use Rattle.be_views.specs.Trees.{View, Tree, children_from}
 use Rattle.be_views.specs.Pixels.{last_child_at}
 use Rattle.be_views.specs.Clips.{covers}
-
-pub number_some : (u : ℕ) (o : Option ℕ) → is_number u o ≡ true → o ≡ Some u
-number_some u None h = absurd (false≢true h)
-number_some u (Some m) h = ap (λ n. Some n) (eqb-true m u h)
 
 -- the last of the views from number k on
 abbrev pub last_from : ℕ → ℕ → Tree → ℤ → ℤ → Option (ℕ × View)
@@ -68,7 +65,7 @@ child_is tree u x y c e =
     let f = is_front 0 u tree x y c e in
     let number = f.number in
     let n : f.at ≡ c.0 = omega arith in
-    record { got = ap (slice_get tree) (sym n) ∙ f.got; lies = number_some u c.1.parent f.lies; holds = f.holds }
+    record { got = ap (slice_get tree) (sym n) ∙ f.got; lies = number_is u c.1.parent f.lies; holds = f.holds }
 
 -- ---- what is in front of it
 

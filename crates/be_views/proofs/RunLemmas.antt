@@ -1,18 +1,18 @@
 -- How far the answer stays the same along a row.
 use Rattle.std.specs.Prelude.{is_some, slice_get, option_map, option_and_then}
 use Rattle.std.specs.Int.{int_min}
-use Rattle.std.proofs.Common.{◌≡◌, ℕ, ◌+◌, ◌-◌, ◌<◌, zero, suc, ℤ, pos, ◌+ℤ◌, ◌-ℤ◌, ◌≤ℤ◌, ◌<ℤ◌, Bool, true, false, ◌&&◌, ◌||◌, cond, ◌⊎◌, inl, inr, List, [], ◌∷◌, Option, Some, None, length, get_or, take, drop, SFits, w16, w32, rules, arith, refl, sym, ap, subst, ◌∙◌}
+use Rattle.std.proofs.Common.{◌≡◌, ℕ, ◌+◌, ◌-◌, ◌<◌, zero, suc, ℤ, pos, ◌+ℤ◌, ◌-ℤ◌, ◌≤ℤ◌, ◌<ℤ◌, true, false, ◌&&◌, ◌||◌, cond, ◌⊎◌, inl, inr, List, [], ◌∷◌, Option, Some, None, length, get_or, take, drop, SFits, w16, w32, rules, arith, refl, sym, ap, subst, ◌∙◌}
 use Rattle.std.proofs.lemmas.Bool.{and_right, or_parts, or_from, false≢true, false_from_ne_true, true_from_ne_false, and_from, eq-eqb}
 use Rattle.std.proofs.lemmas.Int.{ints, clamps}
 use Rattle.std.proofs.lemmas.Option.{none-some, same_Some, slice_get_read}
 use Rattle.std.proofs.lemmas.List.{take_rest}
 use Rattle.std.proofs.lemmas.List.Folds.{list_any_more, list_any_at}
+use Rattle.be_facts.proofs.Truths.{or_false_second, or_false_first, or_false, or_same}
 use Rattle.be_geom.specs.declared.rect.Rect.{Rect}
 use Rattle.be_geom.specs.Numbers.{is_number}
 use Rattle.be_geom.specs.Points.{between}
 use Rattle.be_geom.specs.Rects.{rect_has}
-use Rattle.be_geom.proofs.Between.{between_tells}
-use Rattle.be_region.proofs.LineLemmas.{not_between_left, not_between_right, is_between}
+use Rattle.be_geom.proofs.Between.{between_tells, is_below, is_above, is_between}
 use Rattle.be_region.specs.Runs.{IsRun}
 use Rattle.be_views.specs.Clips.{covers}
 use Rattle.be_views.specs.Runs.{IsRunTo}
@@ -29,10 +29,10 @@ min_cases : (last a b : ℤ) → last ≡ int_min a b → (last ≡ a) ⊎ ((las
 min_cases last a b h = grind (arith, ints, clamps)
 
 pub left_of : (f : Rect) (z y : ℤ) → z <ℤ f.left → rect_has f z y ≡ false
-left_of f z y h = ap (λ b. b && between f.top y f.bottom) (not_between_left f.left z f.right h)
+left_of f z y h = ap (λ b. b && between f.top y f.bottom) (is_below f.left z f.right h)
 
 right_of : (f : Rect) (z y : ℤ) → f.right <ℤ z → rect_has f z y ≡ false
-right_of f z y h = ap (λ b. b && between f.top y f.bottom) (not_between_right f.left z f.right h)
+right_of f z y h = ap (λ b. b && between f.top y f.bottom) (is_above f.left z f.right h)
 
 begins : (f : Rect) (z y : ℤ) → z ≡ f.left → f.left ≤ℤ f.right → between f.top y f.bottom ≡ true → rect_has f z y ≡ true
 begins f z y at h row = ap (λ b. b && between f.top y f.bottom) (is_between f.left z f.right (omega (arith, ints)) (omega (arith, ints))) ∙ row
@@ -61,9 +61,6 @@ none_ahead f x y end why none h = record {
 
 -- ---- up to the next of some views
 
-pub or_same : (p q p' q' : Bool) → p ≡ p' → q ≡ q' → (p || q) ≡ (p' || q')
-or_same p q p' q' h k = rw (h, k) refl
-
 pub covers_more : (views : List View) (i v : ℕ) (x y : ℤ) (d : View) → i < length views → covers (take (i + 1) views) v x y ≡ (covers (take i views) v x y || (is_number v (get_or views i d).parent && rect_has (get_or views i d).frame x y))
 covers_more views i v x y d h = list_any_more (λ view. is_number v view.parent && rect_has view.frame x y) views i d h
 
@@ -74,16 +71,6 @@ front_free [] (suc i) v x y h = refl
 front_free (w ∷ views) (suc i) v x y h =
     let parts = or_parts (is_number v w.parent && rect_has w.frame x y) (covers views v x y) h in
     or_from (is_number v w.parent && rect_has w.frame x y) (covers (take i views) v x y) parts.0 (front_free views i v x y parts.1)
-
-pub or_false : (p : Bool) → (p || false) ≡ p
-or_false true = refl
-or_false false = refl
-
-or_first : (p q : Bool) → (p || q) ≡ false → p ≡ false
-or_first p q h = (or_parts p q h).0
-
-or_second : (p q : Bool) → (p || q) ≡ false → q ≡ false
-or_second p q h = (or_parts p q h).1
 
 -- one that lies elsewhere
 pub run_passes : (views : List View) (i v : ℕ) (x y end last : ℤ) (view d : View) → i < length views → view ≡ get_or views i d → is_number v view.parent ≡ false → IsRunTo (λ z. covers (take i views) v z y) x end last → IsRunTo (λ z. covers (take (i + 1) views) v z y) x end last
@@ -108,7 +95,7 @@ run_narrows views i v x y end last until view d h read lies free none r s =
       forward = s.forward;
       within = omega (arith, ints);
       same = λ z a b. same z ∙ or_same (covers (take i views) v z y) (rect_has view.frame z y) (covers (take i views) v x y) (rect_has view.frame x y) (r.same z a (omega (arith, ints))) (s.same z a b) ∙ sym (same x);
-      other = elim s.other [ inl e ↦ elim r.other [ inl f ↦ inl (e ∙ f) | inr f ↦ let less = f.0 in inr (omega (arith, ints), λ k. f.1 (ap (λ z. covers (take i views) v (z +ℤ pos 1) y) (sym e) ∙ or_first (covers (take i views) v (until +ℤ pos 1) y) (rect_has view.frame (until +ℤ pos 1) y) (sym (same (until +ℤ pos 1)) ∙ k ∙ same x ∙ here) ∙ sym front)) ] | inr e ↦ let less = e.0 in inr (omega (arith, ints), λ k. e.1 (or_second (covers (take i views) v (until +ℤ pos 1) y) (rect_has view.frame (until +ℤ pos 1) y) (sym (same (until +ℤ pos 1)) ∙ k ∙ same x ∙ here) ∙ sym none)) ];
+      other = elim s.other [ inl e ↦ elim r.other [ inl f ↦ inl (e ∙ f) | inr f ↦ let less = f.0 in inr (omega (arith, ints), λ k. f.1 (ap (λ z. covers (take i views) v (z +ℤ pos 1) y) (sym e) ∙ or_false_first (covers (take i views) v (until +ℤ pos 1) y) (rect_has view.frame (until +ℤ pos 1) y) (sym (same (until +ℤ pos 1)) ∙ k ∙ same x ∙ here) ∙ sym front)) ] | inr e ↦ let less = e.0 in inr (omega (arith, ints), λ k. e.1 (or_false_second (covers (take i views) v (until +ℤ pos 1) y) (rect_has view.frame (until +ℤ pos 1) y) (sym (same (until +ℤ pos 1)) ∙ k ∙ same x ∙ here) ∙ sym none)) ];
     }
 
 pub free_frame : (views : List View) (i v : ℕ) (x y : ℤ) (view d : View) → i < length views → view ≡ get_or views i d → is_number v view.parent ≡ true → covers views v x y ≡ false → rect_has view.frame x y ≡ false

@@ -1,14 +1,14 @@
 -- What holds of every tree: its root begins at (0, 0), parents stand before their children, and no view is deeper than 8.
 use Rattle.std.specs.Prelude.{slice_get, option_map, option_and_then, is_some}
-use Rattle.std.proofs.Common.{◌≡◌, ℕ, ◌+◌, ◌<◌, ◌≤◌, zero, suc, pos, ◌↔◌, ◌⊎◌, inl, inr, false, [], ◌∷◌, ◌++◌, Option, Some, None, IfSome, length, arith, refl, sym, ap, ◌∙◌}
+use Rattle.std.proofs.Common.{◌≡◌, ℕ, ◌+◌, ◌<◌, ◌≤◌, zero, suc, pos, ◌↔◌, ◌⊎◌, inl, inr, false, [], ◌∷◌, ◌++◌, Option, Some, None, IfSome, length, arith, refl, sym, ap, ◌∙◌, get_or}
 use Rattle.std.proofs.lemmas.Bool.{cases_lt, cases_order}
-use Rattle.std.proofs.lemmas.Option.{none-some, same_Some, slice_get_past}
+use Rattle.std.proofs.lemmas.Option.{none-some, same_Some, slice_get_past, slice_get-get_or}
 use Rattle.be_geom.specs.declared.point.Point.{Point}
 use Rattle.be_geom.specs.declared.rect.Rect.{Rect}
 use Rattle.be_geom.specs.Places.{at_pixel, sum_of}
 use Rattle.be_views.specs.Trees.{View, Tree, parent_of, left_top, corner_in, place_from, place_of}
 use Rattle.be_views.specs.Places.{pair_of}
-use Rattle.be_views.specs.Whole.{AreParentsFirst, IsTree, depth_above, depth_in, depth_from, depth_of}
+use Rattle.be_views.specs.Whole.{AreParentsFirst, IsTree, depth_above, depth_in, depth_from, depth_of, root_view}
 
 -- ---- one view more
 
@@ -29,26 +29,26 @@ got_past (u ∷ tree) w (suc v) h = got_past tree w v (omega arith)
 
 -- ---- depths
 
-above_same : (f g : ℕ → ℕ) (o : Option ℕ) → ((p : ℕ) → o ≡ Some p → f p ≡ g p) → depth_above f o + 1 ≡ depth_above g o + 1
+pub above_same : (f g : ℕ → ℕ) (o : Option ℕ) → ((p : ℕ) → o ≡ Some p → f p ≡ g p) → depth_above f o + 1 ≡ depth_above g o + 1
 above_same f g None h = refl
 above_same f g (Some p) h = ap (λ n. n + 1) (h p refl)
 
-depth_same : (f g : ℕ → ℕ) (o : Option View) → ((p : ℕ) → option_and_then (λ view. view.parent) o ≡ Some p → f p ≡ g p) → depth_in f o ≡ depth_in g o
+pub depth_same : (f g : ℕ → ℕ) (o : Option View) → ((p : ℕ) → option_and_then (λ view. view.parent) o ≡ Some p → f p ≡ g p) → depth_in f o ≡ depth_in g o
 depth_same f g None h = refl
 depth_same f g (Some view) h = above_same f g view.parent h
 
-depth_more : (tree : Tree) (n m v : ℕ) → AreParentsFirst tree → v < n → v < m → depth_from n tree v ≡ depth_from m tree v
+pub depth_more : (tree : Tree) (n m v : ℕ) → AreParentsFirst tree → v < n → v < m → depth_from n tree v ≡ depth_from m tree v
 depth_more tree zero m v first h k = absurd (omega arith)
 depth_more tree (suc n) zero v first h k = absurd (omega arith)
 depth_more tree (suc n) (suc m) v first h k =
     depth_same (depth_from n tree) (depth_from m tree) (slice_get tree v) (λ p is. let below = first.below v p is in depth_more tree n m p first (omega arith) (omega arith))
 
-depth_push : (tree : Tree) (w : View) (n v : ℕ) → AreParentsFirst tree → v < length tree → depth_from n (tree ++ w ∷ []) v ≡ depth_from n tree v
+pub depth_push : (tree : Tree) (w : View) (n v : ℕ) → AreParentsFirst tree → v < length tree → depth_from n (tree ++ w ∷ []) v ≡ depth_from n tree v
 depth_push tree w zero v first h = refl
 depth_push tree w (suc n) v first h =
     ap (depth_in (depth_from n (tree ++ w ∷ []))) (got_front tree w v h) ∙ depth_same (depth_from n (tree ++ w ∷ [])) (depth_from n tree) (slice_get tree v) (λ p is. let below = first.below v p is in depth_push tree w n p first (omega arith))
 
-length_more : (tree : Tree) (w : View) → length (tree ++ w ∷ []) ≡ suc (length tree)
+pub length_more : (tree : Tree) (w : View) → length (tree ++ w ∷ []) ≡ suc (length tree)
 length_more [] w = refl
 length_more (u ∷ tree) w = ap (λ n. suc n) (length_more tree w)
 
@@ -177,3 +177,11 @@ if_some P (Some a) h = h a refl
 
 pub parent_under : (tree : Tree) (v : ℕ) → IsTree tree → IfSome (parent_of tree v) (λ parent. parent < v)
 parent_under tree v t = if_some (λ p. p < v) (parent_of tree v) (t.parents.below v)
+
+pub view_there : (tree : Tree) (n : ℕ) → n < length tree → (v : View) × (slice_get tree n ≡ Some v)
+view_there tree n below =
+    (get_or tree n (root_view (pos 0) (pos 0)), slice_get-get_or tree n (root_view (pos 0) (pos 0)) below)
+
+pub root_of : (tree : Tree) → 0 < length tree → (root : View) × (slice_get tree 0 ≡ Some root)
+root_of [] h = absurd (omega arith)
+root_of (root ∷ tree) h = (root, refl)

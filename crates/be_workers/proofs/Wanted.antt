@@ -1,6 +1,6 @@
 -- The places that a turn wants.
 use Rattle.std.proofs.Common.{◌≡◌, ℕ, zero, suc, ◌+◌, ◌<◌, ◌≤◌, ◌-◌, inl, inr, Bool, true, false}
-use Rattle.std.proofs.Common.{◌||◌, ◌&&◌}
+use Rattle.std.proofs.Common.{◌||◌}
 use Rattle.std.proofs.Common.{◌==◌, nat_lt, cond, List, [], ◌∷◌, ◌++◌, length, filter, map, All}
 use Rattle.std.proofs.Common.{Contains, get_or, refl, sym, ap, ◌∙◌, subst, append-nil, eq-eqb}
 use Rattle.std.proofs.Common.{arith}
@@ -9,39 +9,31 @@ use Rattle.std.proofs.lemmas.Bool.Decides.{nat_tests}
 use Rattle.std.specs.List.{list_any}
 use Rattle.std.proofs.lemmas.List.Elements.{All-nil, All-cons, All-head, All-tail, All-weaker, All-contains, All-filter}
 use Rattle.std.proofs.lemmas.List.Elements.{Contains-push, Contains-append_left, filter-append}
+use Rattle.std.proofs.lemmas.Bool.{or_right, and_from}
 use mathlib.Core.Logic.{dite}
 use native.Mathlib.Decide.{dec_le}
-use Rattle.be_hall.proofs.Rising.{both_true, other_true, both_hold, less_than, is_less}
+use Rattle.be_facts.proofs.Truths.{and_false_second, false_is_not_true, and_first, and_second}
+use Rattle.be_facts.proofs.Numbers.{eq_false, nat_lt_from, nat_lt_tells}
+use Rattle.be_facts.proofs.Lists.{length_push}
 use Rattle.be_hall.proofs.UpFrom.{up_rises, up_below, up_snoc}
 use Rattle.be_hall.specs.Hands.{rises_from, up_from, places_of, meant}
 use Rattle.be_hall.specs.Machine.{IsHeld}
 use Rattle.be_workers.specs.Wanted.{below, inserted, is_wanted, pushed}
 use Rattle.be_workers.specs.Wanted.{stands_at, wanted_below}
 
-pub longer : {A : Type 0} (xs : List A) (x : A) → length (xs ++ x ∷ []) ≡ length xs + 1
-longer [] x = refl
-longer (y ∷ ys) x = let r = longer ys x in omega arith
-
-or_other : (a b : Bool) → b ≡ true → (a || b) ≡ true
-or_other true b h = refl
-or_other false b h = h
-
 or_more : (a b c : Bool) → (b ≡ true → c ≡ true) → (a || b) ≡ true → (a || c) ≡ true
 or_more true b c f h = refl
 or_more false b c f h = f h
 
-no_false : false ≡ true → ⊥
-no_false h = cc
-
 -- a rising list with a number behind it that lies above all
 pub rises_with : (low : ℕ) (ps : List ℕ) (p : ℕ) → rises_from low ps ≡ true
     → All (λ q. q < p) ps → low ≤ p → rises_from low (ps ++ p ∷ []) ≡ true
-rises_with low [] p h above l = both_hold (nat_lt low (p + 1)) true
-    (less_than low (p + 1) (omega arith)) refl
+rises_with low [] p h above l = and_from (nat_lt low (p + 1)) true
+    (nat_lt_from low (p + 1) (omega arith)) refl
 rises_with low (q ∷ qs) p h above l =
     let less : q < p = All-head (λ q. q < p) q qs above in
-    both_hold (nat_lt low (q + 1)) _ (both_true (nat_lt low (q + 1)) _ h)
-    (rises_with (q + 1) qs p (other_true (nat_lt low (q + 1)) _ h)
+    and_from (nat_lt low (q + 1)) _ (and_first (nat_lt low (q + 1)) _ h)
+    (rises_with (q + 1) qs p (and_second (nat_lt low (q + 1)) _ h)
     (All-tail (λ q. q < p) q qs above) (omega arith))
 
 -- a rising list without some of its numbers
@@ -49,22 +41,22 @@ rises_lower : (low high : ℕ) (ps : List ℕ) → low ≤ high → rises_from h
     → rises_from low ps ≡ true
 rises_lower low high [] h r = refl
 rises_lower low high (p ∷ ps) h r =
-    let above : high < p + 1 = is_less high (p + 1) (both_true (nat_lt high (p + 1)) _ r) in
-    both_hold (nat_lt low (p + 1)) _ (less_than low (p + 1) (omega arith))
-    (other_true (nat_lt high (p + 1)) _ r)
+    let above : high < p + 1 = nat_lt_tells high (p + 1) (and_first (nat_lt high (p + 1)) _ r) in
+    and_from (nat_lt low (p + 1)) _ (nat_lt_from low (p + 1) (omega arith))
+    (and_second (nat_lt high (p + 1)) _ r)
 
 rises_kept : (low p : ℕ) (b : Bool) (ps : List ℕ) → nat_lt low (p + 1) ≡ true
     → rises_from (p + 1) ps ≡ true → rises_from low (cond b (p ∷ ps) ps) ≡ true
-rises_kept low p true ps l r = both_hold (nat_lt low (p + 1)) _ l r
+rises_kept low p true ps l r = and_from (nat_lt low (p + 1)) _ l r
 rises_kept low p false ps l r =
-    let above : low < p + 1 = is_less low (p + 1) l in rises_lower low (p + 1) ps (omega arith) r
+    let above : low < p + 1 = nat_lt_tells low (p + 1) l in rises_lower low (p + 1) ps (omega arith) r
 
 rises_filter : (test : ℕ → Bool) (low : ℕ) (ps : List ℕ) → rises_from low ps ≡ true
     → rises_from low (filter test ps) ≡ true
 rises_filter test low [] r = refl
 rises_filter test low (p ∷ ps) r =
-    rises_kept low p (test p) (filter test ps) (both_true (nat_lt low (p + 1)) _ r)
-    (rises_filter test (p + 1) ps (other_true (nat_lt low (p + 1)) _ r))
+    rises_kept low p (test p) (filter test ps) (and_first (nat_lt low (p + 1)) _ r)
+    (rises_filter test (p + 1) ps (and_second (nat_lt low (p + 1)) _ r))
 
 kept_short : (b : Bool) (x : ℕ) (xs : List ℕ) (n : ℕ) → length xs ≤ n
     → length (cond b (x ∷ xs) xs) ≤ suc n
@@ -78,7 +70,7 @@ kept_last false xs n = append-nil xs
 
 pushed_here : (b : Bool) (xs : List ℕ) (n p : ℕ) → n ≡ p → b ≡ true → Contains (pushed b xs n) p
 pushed_here true xs n p e h = subst (λ (q : ℕ). Contains (xs ++ n ∷ []) q) e (Contains-push xs n)
-pushed_here false xs n p e h = absurd (no_false h)
+pushed_here false xs n p e h = absurd (false_is_not_true h)
 
 pushed_before : (b : Bool) (xs : List ℕ) (n p : ℕ) → Contains xs p → Contains (pushed b xs n) p
 pushed_before true xs n p h = Contains-append_left xs (n ∷ []) p h
@@ -87,38 +79,38 @@ pushed_before false xs n p h = h
 pub pushed_long : (b : Bool) (n : ℕ) (xs ys : List ℕ) → ys ≡ pushed b xs n → length xs ≤ n
     → length ys ≤ n + 1
 pushed_long true n xs ys is h =
-    let l : length ys ≡ length xs + 1 = ap length is ∙ longer xs n in omega arith
+    let l : length ys ≡ length xs + 1 = ap length is ∙ length_push xs n in omega arith
 pushed_long false n xs ys is h = let l : length ys ≡ length xs = ap length is in omega arith
 
 pub last_any : (xs : List ℕ) (p : ℕ) → list_any (λ q. q == p) (xs ++ p ∷ []) ≡ true
 last_any [] p = ap (λ (b : Bool). b || false) (eq-eqb p p refl)
-last_any (x ∷ xs) p = or_other (x == p) _ (last_any xs p)
+last_any (x ∷ xs) p = or_right (x == p) _ (last_any xs p)
 
 any_more : (xs : List ℕ) (p n : ℕ) → list_any (λ q. q == n) xs ≡ true
     → list_any (λ q. q == n) (xs ++ p ∷ []) ≡ true
-any_more [] p n h = absurd (no_false h)
+any_more [] p n h = absurd (false_is_not_true h)
 any_more (x ∷ xs) p n h = or_more (x == n) (list_any (λ q. q == n) xs) _ (any_more xs p n) h
 
 -- lists that grow by one number
 pushed_more : (a b : Bool) (xs ys : List ℕ) (n : ℕ) → (a ≡ true → b ≡ true) → length xs ≤ length ys
     → length (pushed a xs n) ≤ length (pushed b ys n)
-pushed_more true true xs ys n f h = let l = longer xs n in let k = longer ys n in omega arith
-pushed_more true false xs ys n f h = absurd (no_false (f refl))
-pushed_more false true xs ys n f h = let k = longer ys n in omega arith
+pushed_more true true xs ys n f h = let l = length_push xs n in let k = length_push ys n in omega arith
+pushed_more true false xs ys n f h = absurd (false_is_not_true (f refl))
+pushed_more false true xs ys n f h = let k = length_push ys n in omega arith
 pushed_more false false xs ys n f h = h
 
 pushed_more_than : (a b : Bool) (xs ys : List ℕ) (n : ℕ) → (a ≡ true → b ≡ true)
     → length xs < length ys → length (pushed a xs n) < length (pushed b ys n)
-pushed_more_than true true xs ys n f h = let l = longer xs n in let k = longer ys n in omega arith
-pushed_more_than true false xs ys n f h = absurd (no_false (f refl))
-pushed_more_than false true xs ys n f h = let k = longer ys n in omega arith
+pushed_more_than true true xs ys n f h = let l = length_push xs n in let k = length_push ys n in omega arith
+pushed_more_than true false xs ys n f h = absurd (false_is_not_true (f refl))
+pushed_more_than false true xs ys n f h = let k = length_push ys n in omega arith
 pushed_more_than false false xs ys n f h = h
 
 pushed_new : (a b : Bool) (xs ys : List ℕ) (n : ℕ) → (a ≡ true → ⊥) → b ≡ true
     → length xs ≤ length ys → length (pushed a xs n) < length (pushed b ys n)
 pushed_new true b xs ys n f is h = absurd (f refl)
-pushed_new false true xs ys n f is h = let k = longer ys n in omega arith
-pushed_new false false xs ys n f is h = absurd (no_false is)
+pushed_new false true xs ys n f is h = let k = length_push ys n in omega arith
+pushed_new false false xs ys n f is h = absurd (false_is_not_true is)
 
 pub filter_short : (test : ℕ → Bool) (xs : List ℕ) → length (filter test xs) ≤ length xs
 filter_short test [] = omega arith
@@ -177,7 +169,7 @@ module _ (owns : ℕ → Bool) (more : List ℕ) where
 
   pub named : (n p : ℕ) → p < n → list_any (λ q. q == p) more ≡ true
       → Contains (wanted_below owns more n) p
-  named n p below any = wanted_has n p below (or_other (owns p) _ any)
+  named n p below any = wanted_has n p below (or_right (owns p) _ any)
 
   -- with one place more that wasn't there before
   module _ (p : ℕ) where
@@ -214,7 +206,7 @@ module _ (owns : ℕ → Bool) (more : List ℕ) where
         (λ last.
         let same : n ≡ p = omega arith in
         pushed_new a b xs ys n (λ h. absent (pushed_here a xs n p same h))
-        (or_other (owns n) _ (subst any (sym same) (last_any more p))) (no_shorter n))
+        (or_right (owns n) _ (subst any (sym same) (last_any more p))) (no_shorter n))
         (λ before. pushed_more_than a b xs ys n (more_wanted n)
         (longer_wanted n (omega arith) (λ has. absent (pushed_before a xs n p has)))) in
         omega arith
@@ -235,17 +227,6 @@ pub record Grown (n : ℕ) (more ps : List ℕ) (p : ℕ) (ws : List ℕ) : Type
   pub less : n - length ws < n - length ps
   pub kept : length (more ++ p ∷ []) ≤ length ws
 
-pub or_none : (b : Bool) → (b || false) ≡ b
-or_none true = refl
-or_none false = refl
-
-differ : (p n : ℕ) → (p ≡ n → ⊥) → (p == n) ≡ false
-differ p n h = grind (arith, nat_tests, h)
-
-other_false : (a b : Bool) → (a && b) ≡ false → a ≡ true → b ≡ false
-other_false true b h e = h
-other_false false b h e = absurd (no_false e)
-
 one_more : (k : ℕ) → 1 + k ≡ suc k
 one_more k = omega arith
 
@@ -260,7 +241,7 @@ module _ (p : ℕ) where
       ap (λ r. q ∷ r) (rest (omega arith)
       (subst (λ n. (get_or (q ∷ qs) n 0 == p) ≡ true) (one_more k) is))
   there_step false true q k qs ys e rest l is = refl
-  there_step false false q k qs ys e rest l is = absurd (no_false (sym e ∙ is))
+  there_step false false q k qs ys e rest l is = absurd (false_is_not_true (sym e ∙ is))
 
   before_there : (qs : List ℕ) → below p qs < length qs
       → (get_or qs (below p qs) 0 == p) ≡ true → qs ≡ inserted p qs
@@ -269,9 +250,9 @@ module _ (p : ℕ) where
       refl (before_there qs) l is
 
   pub inserted_there : (qs : List ℕ) → stands_at qs (below p qs) p ≡ true → qs ≡ inserted p qs
-  inserted_there qs h = before_there qs (is_less (below p qs) (length qs)
-      (both_true (nat_lt (below p qs) (length qs)) _ h))
-      (other_true (nat_lt (below p qs) (length qs)) _ h)
+  inserted_there qs h = before_there qs (nat_lt_tells (below p qs) (length qs)
+      (and_first (nat_lt (below p qs) (length qs)) _ h))
+      (and_second (nat_lt (below p qs) (length qs)) _ h)
 
   new_step : (b c : Bool) (q k : ℕ) (qs ys : List ℕ) → (q == p) ≡ c
       → ((k < length qs → (get_or qs k 0 == p) ≡ false) → insert qs k p ≡ ys)
@@ -283,7 +264,7 @@ module _ (p : ℕ) where
       let s : 1 + k < suc (length qs) = omega arith in
       subst (λ n. (get_or (q ∷ qs) n 0 == p) ≡ false) (one_more k) (is s))))
   new_step false true q k qs ys e rest is =
-      let s : 0 < suc (length qs) = omega arith in absurd (no_false (sym (is s) ∙ e))
+      let s : 0 < suc (length qs) = omega arith in absurd (false_is_not_true (sym (is s) ∙ e))
   new_step false false q k qs ys e rest is = refl
 
   before_new : (qs : List ℕ)
@@ -296,7 +277,7 @@ module _ (p : ℕ) where
   pub inserted_new : (qs : List ℕ) → stands_at qs (below p qs) p ≡ false
       → insert qs (below p qs) p ≡ inserted p qs
   inserted_new qs h = before_new qs (λ l.
-      other_false (nat_lt (below p qs) (length qs)) _ h (less_than (below p qs) (length qs) l))
+      and_false_second (nat_lt (below p qs) (length qs)) _ h (nat_lt_from (below p qs) (length qs) l))
 
 any_other : (p n : ℕ) (xs : List ℕ) → (p == n) ≡ false
     → list_any (λ q. q == n) (xs ++ p ∷ []) ≡ list_any (λ q. q == n) xs
@@ -313,8 +294,8 @@ back_step false false p n q qs ys zs e = refl
 -- a greater number behind all
 front_end : (b c : Bool) (p n : ℕ) → b ≡ false → c ≡ false
     → cond b (n ∷ p ∷ []) (cond c (n ∷ []) (p ∷ n ∷ [])) ≡ p ∷ n ∷ []
-front_end true c p n e f = absurd (no_false (sym e))
-front_end false true p n e f = absurd (no_false (sym f))
+front_end true c p n e f = absurd (false_is_not_true (sym e))
+front_end false true p n e f = absurd (false_is_not_true (sym f))
 front_end false false p n e f = refl
 
 less_not : (p n : ℕ) → p < n → nat_lt n p ≡ false
@@ -322,7 +303,7 @@ less_not p n h = grind (arith, nat_tests)
 
 inserted_back : (p n : ℕ) (xs : List ℕ) → p < n → inserted p (xs ++ n ∷ []) ≡ inserted p xs ++ n ∷ []
 inserted_back p n [] h = front_end (nat_lt n p) (n == p) p n (less_not p n h)
-    (differ n p (λ e. omega (arith, e)))
+    (eq_false n p (λ e. omega (arith, e)))
 inserted_back p n (x ∷ xs) h = back_step (nat_lt x p) (x == p) p n x xs (inserted p xs) _
     (inserted_back p n xs h)
 
@@ -330,31 +311,31 @@ inserted_back p n (x ∷ xs) h = back_step (nat_lt x p) (x == p) p n x xs (inser
 last_step : (b c : Bool) (n x : ℕ) (xs ys : List ℕ) → b ≡ true → ys ≡ xs ++ n ∷ []
     → cond b (x ∷ ys) (cond c (x ∷ xs) (n ∷ x ∷ xs)) ≡ x ∷ xs ++ n ∷ []
 last_step true c n x xs ys e f = ap (λ r. x ∷ r) f
-last_step false c n x xs ys e f = absurd (no_false e)
+last_step false c n x xs ys e f = absurd (false_is_not_true e)
 
 pub inserted_last : (n : ℕ) (xs : List ℕ) → All (λ p. p < n) xs → inserted n xs ≡ xs ++ n ∷ []
 inserted_last n [] h = refl
 inserted_last n (x ∷ xs) h = last_step (nat_lt x n) (x == n) n x xs (inserted n xs)
-    (less_than x n (All-head (λ p. p < n) x xs h))
+    (nat_lt_from x n (All-head (λ p. p < n) x xs h))
     (inserted_last n xs (All-tail (λ p. p < n) x xs h))
 
 -- the greatest one, which is there
 kept_step : (b c : Bool) (n x : ℕ) (xs ys : List ℕ) → b ≡ true → ys ≡ xs
     → cond b (x ∷ ys) (cond c (x ∷ xs) (n ∷ x ∷ xs)) ≡ x ∷ xs
 kept_step true c n x xs ys e f = ap (λ r. x ∷ r) f
-kept_step false c n x xs ys e f = absurd (no_false e)
+kept_step false c n x xs ys e f = absurd (false_is_not_true e)
 
 same_end : (b c : Bool) (n : ℕ) → b ≡ false → c ≡ true
     → cond b (n ∷ n ∷ []) (cond c (n ∷ []) (n ∷ n ∷ [])) ≡ n ∷ []
-same_end true c n e f = absurd (no_false (sym e))
+same_end true c n e f = absurd (false_is_not_true (sym e))
 same_end false true n e f = refl
-same_end false false n e f = absurd (no_false f)
+same_end false false n e f = absurd (false_is_not_true f)
 
 inserted_kept : (n : ℕ) (xs : List ℕ) → All (λ p. p < n) xs
     → inserted n (xs ++ n ∷ []) ≡ xs ++ n ∷ []
 inserted_kept n [] h = same_end (nat_lt n n) (n == n) n (grind (arith, nat_tests)) (eq-eqb n n refl)
 inserted_kept n (x ∷ xs) h = kept_step (nat_lt x n) (x == n) n x (xs ++ n ∷ []) _
-    (less_than x n (All-head (λ p. p < n) x xs h))
+    (nat_lt_from x n (All-head (λ p. p < n) x xs h))
     (inserted_kept n xs (All-tail (λ p. p < n) x xs h))
 
 inserted_pushed : (b : Bool) (n : ℕ) (xs : List ℕ) → All (λ p. p < n) xs
@@ -369,7 +350,7 @@ pushed_inserted false p n xs h = refl
 
 module _ (owns : ℕ → Bool) (more : List ℕ) (p : ℕ) where
   is_other : (n : ℕ) → (p ≡ n → ⊥) → is_wanted owns (more ++ p ∷ []) n ≡ is_wanted owns more n
-  is_other n h = ap (λ (b : Bool). owns n || b) (any_other p n more (differ p n h))
+  is_other n h = ap (λ (b : Bool). owns n || b) (any_other p n more (eq_false p n h))
 
   next : (ms : List ℕ) (n : ℕ) → wanted_below owns ms (suc n)
       ≡ pushed (is_wanted owns ms n) (wanted_below owns ms n) n
@@ -394,7 +375,7 @@ module _ (owns : ℕ → Bool) (more : List ℕ) (p : ℕ) where
       (λ last.
       let same : n ≡ p = omega arith in
       let is : is_wanted owns (more ++ p ∷ []) n ≡ true =
-      or_other (owns n) _ (subst (λ (q : ℕ). list_any (λ r. r == q) (more ++ p ∷ []) ≡ true)
+      or_right (owns n) _ (subst (λ (q : ℕ). list_any (λ r. r == q) (more ++ p ∷ []) ≡ true)
       (sym same) (last_any more p)) in
       next (more ++ p ∷ []) n
       ∙ (ap (λ (b : Bool). pushed b (wanted_below owns (more ++ p ∷ []) n) n) is
@@ -435,7 +416,7 @@ module _ {T M : Type 0} (f : T → M) where
   same_places held other is =
       sym (places_meant held) ∙ (ap (map (λ x. x.0)) is ∙ places_meant other)
 
-  -- a place that isn't in hand, where all that were wanted are, makes what is wanted longer
+  -- a place that isn't in hand, where all that were wanted are, makes what is wanted length_push
   pub grown : (owns : ℕ → Bool) (more : List ℕ) (held : List (ℕ × T)) (ps : List ℕ) (n p : ℕ)
       → places_of held ≡ ps → ps ≡ wanted_below owns more n
       → (p < n) × (IsHeld (meant f held) p → ⊥) → length more ≤ length ps
@@ -449,5 +430,5 @@ module _ {T M : Type 0} (f : T → M) where
       subst (λ (l : List ℕ). length l < length ws) (sym is)
       (longer_wanted owns more p n told.0 absent) in
       let short : length ws ≤ n = wanted_short owns (more ++ p ∷ []) n in
-      let one : length (more ++ p ∷ []) ≡ length more + 1 = longer more p in
+      let one : length (more ++ p ∷ []) ≡ length more + 1 = length_push more p in
       record { few = omega arith; less = omega arith; kept = omega arith }

@@ -5,6 +5,7 @@ use Rattle.std.proofs.Common.{subst, ◌∙◌, arith}
 use Rattle.std.specs.Prelude.{◌-◌, ◌/◌, ◌%◌, ◌==◌, ◌||◌, nat_lt, if◌then◌else◌}
 use Rattle.std.proofs.lemmas.Bool.Decides.{nat_tests}
 use Rattle.std.proofs.lemmas.Nat.{div-add-mod'}
+use Rattle.be_facts.proofs.Truths.{or_either}
 use Rattle.be_machine.specs.Activities.{Activity, runner, app, looper, twin, input, closing}
 use Rattle.be_machine.specs.Activities.{activities, activity_of, numbered, window_activity}
 use Rattle.be_machine.specs.declared.Act.{Act}
@@ -24,10 +25,6 @@ both_marked these those old mid new m k = record {
       let lt' : a < length mid = subst (λ n. a < n) (sym m.long) lt in
       ⊎_elim (λ one. m.marked a lt (k.kept a lt' e) one) (λ two. k.marked a lt' e two) is;
 }
-
-either : (a b : Bool) → (a || b) ≡ true → (a ≡ true) ⊎ (b ≡ true)
-either true b e = inl refl
-either false b e = inr e
 
 -- ---- numbers
 
@@ -68,7 +65,7 @@ module _ (who : Activity) (act : Act) (apps windows a : ℕ) where
     near e =
         ⊎_elim (λ own. inl (inl (inr (of_window (own_window who) own))))
         (λ named. inl (inr (of_window (act_window act) named)))
-        (either (is_window (own_window who) w) (is_window (act_window act) w) e)
+        (or_either (is_window (own_window who) w) (is_window (act_window act) w) e)
 
   few : (b c : Bool) → b ≡ false → (b || c) ≡ true → c ≡ true
   few true c none e = absurd (cc)
@@ -85,7 +82,7 @@ module _ (who : Activity) (act : Act) (apps windows a : ℕ) where
         let odd_at : a ≡ apps + (2 * (k / 2) + 1) = at ∙ ap (λ n. apps + n) (odd k e) in
         ⊎_elim (λ command. inr (command, (k / 2, lt, odd_at)))
         (λ close. near (k / 2) (inr odd_at) close)
-        (either (is_command act) (is_near who act (k / 2))
+        (or_either (is_command act) (is_near who act (k / 2))
         (few (may_touch_all who) (is_command act || is_near who act (k / 2)) all marked))
 
     half_below : (k : ℕ) → k < 2 * windows → k / 2 < windows

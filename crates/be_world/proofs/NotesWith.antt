@@ -1,18 +1,12 @@
 -- The notes of parts in hand of which one takes a note.
-use Rattle.std.proofs.Common.{◌≡◌, ℕ, ◌+◌, ◌<◌, ◌≢◌, ◌==◌, if◌then◌else◌, nat_lt, true, List, [], ◌∷◌}
+use Rattle.std.proofs.Common.{◌≡◌, ℕ, ◌+◌, ◌<◌, ◌==◌, if◌then◌else◌, true, List, [], ◌∷◌}
 use Rattle.std.proofs.Common.{◌++◌, ◌∙◌, Some, sym, refl, ap, arith}
-use Rattle.be_hall.proofs.Rising.{both_true, is_less, other_true}
+use Rattle.be_facts.proofs.Truths.{and_first}
+use Rattle.be_facts.proofs.Numbers.{nat_lt_tells}
 use Rattle.be_hall.specs.Hands.{meant, part_at, places_of, rises_from, with_part}
+use Rattle.be_hall.proofs.Holding.{past, later}
 use Rattle.be_noting.specs.Noting.{noted_in}
 use Rattle.be_steps.proofs.Making.{by_place_test}
-
-later : (low : ℕ) (ps : List ℕ) (q : ℕ) → rises_from low (q ∷ ps) ≡ true
-    → rises_from (q + 1) ps ≡ true
-later low ps q r = other_true (nat_lt low (q + 1)) _ r
-
--- a part below all places isn't in hand
-past : (low p : ℕ) (ps : List ℕ) (q : ℕ) → rises_from low (q ∷ ps) ≡ true → p < low → q ≢ p
-past low p ps q r l e = let m = is_less low (q + 1) (both_true _ _ r) in absurd (omega arith)
 
 module _ {T N : Type 0} (notes : T → List N) where
   noted_past : (low p : ℕ) (more : List N) (held : List (ℕ × T))
@@ -23,7 +17,7 @@ module _ {T N : Type 0} (notes : T → List N) where
       by_place_test (λ b. (x.0, if b then notes x.1 ++ more else notes x.1)
       ∷ noted_in p more (meant notes xs) ≡ meant notes (x ∷ xs)) x.0 p
       (λ is. absurd (past low p (places_of xs) x.0 r l is))
-      (λ other. let first = is_less low (x.0 + 1) (both_true _ _ r) in
+      (λ other. let first = nat_lt_tells low (x.0 + 1) (and_first _ _ r) in
       ap (λ (t : List (ℕ × List N)). (x.0, notes x.1) ∷ t)
       (noted_past (x.0 + 1) p more xs (later low (places_of xs) x.0 r) (omega arith)))
 

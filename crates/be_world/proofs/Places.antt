@@ -2,8 +2,7 @@
 use Rattle.std.proofs.Common.{◌≡◌, ℕ, zero, suc, ◌+◌, ◌*◌, ◌<◌, ◌≤◌, List, [], ◌∷◌, ◌++◌, map}
 use Rattle.std.proofs.Common.{length, Some, inl, inr, refl, sym, ap, ◌∙◌, subst, arith}
 use Rattle.std.specs.List.{range_with_len}
-use Rattle.std.proofs.lemmas.List.{length-append, length-map}
-use Rattle.std.proofs.lemmas.List.FromFn.{length-range_with_len}
+use Rattle.std.proofs.lemmas.List.{length-append}
 use mathlib.Core.Logic.{dite}
 use native.Mathlib.Decide.{dec_le}
 use Rattle.be_hall.specs.Hands.{meant, places_of, up_from}
@@ -18,14 +17,11 @@ use Rattle.be_machine.proofs.Histories.{in_range}
 use Rattle.be_rules.specs.Places.{place_of}
 use Rattle.be_rules.specs.Rules.{TouchesAt, kept_at}
 use Rattle.be_rules.specs.Slices.{all_parts}
-use Rattle.be_rules.proofs.Keepers.{kept_there, own_of}
+use Rattle.be_rules.proofs.Keepers.{kept_there, own_of, long}
 use Rattle.be_rules.proofs.ListLemmas.{there_in}
 use Rattle.be_script.specs.Script.{Declared}
 
 -- ---- how many
-
-long : (g : ℕ → Part) (n : ℕ) → length (map g (range_with_len 0 n)) ≡ n
-long g n = length-map (range_with_len 0 n) g ∙ length-range_with_len 0 n
 
 behind : (g : ℕ → Part) (n m : ℕ) (rest : List Part) → length rest ≡ m
     → length (map g (range_with_len 0 n) ++ rest) ≡ n + m

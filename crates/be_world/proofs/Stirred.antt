@@ -3,6 +3,8 @@
 use Rattle.std.proofs.Common.{◌≡◌, ℕ, ◌<◌, Bool, true, false, List, length, Option, Some, None}
 use Rattle.std.proofs.Common.{refl, sym, ap, subst, ◌∙◌}
 use Rattle.std.specs.Prelude.{◌||◌, option_map, option_and_then}
+use Rattle.std.proofs.lemmas.Bool.{false_from_ne_true, or_from}
+use Rattle.be_facts.proofs.Truths.{or_false_second, or_false_first}
 use Rattle.be_machine.specs.Activities.{Activity, runner, app, looper, twin, input, closing}
 use Rattle.be_machine.specs.Activities.{activities, activity_of}
 use Rattle.be_machine.specs.declared.Act.{Act}
@@ -31,17 +33,6 @@ use Rattle.be_world.specs.Stirring.{is_command, is_near, may_stir, may_touch_all
 use Rattle.be_world.specs.Turns.{entry_by, legal_entry}
 use Rattle.be_world.proofs.Having.{SameLooper, SameTwin, looper_has, twin_has}
 use Rattle.be_world.proofs.Untouched.{reached, reaches}
-
-neither_first : (a b : Bool) → (a || b) ≡ false → a ≡ false
-neither_first true b e = absurd (cc)
-neither_first false b e = refl
-
-neither_second : (a b : Bool) → (a || b) ≡ false → b ≡ false
-neither_second true b e = absurd (cc)
-neither_second false b e = e
-
-neither : (a b : Bool) → a ≡ false → b ≡ false → (a || b) ≡ false
-neither a b h k = ap (λ x. x || b) h ∙ k
 
 entry_there : (a : ℕ) (o : Option Act) → is_some (option_map (entry_by a) o) ≡ is_some o
 entry_there a (Some act) = refl
@@ -113,16 +104,16 @@ module _ (d : Declared) (all : List Slice) (sound : IsSound d all) (e : Entry)
       → (may_touch_all met.who || (is_command e.act || is_near met.who e.act w)) ≡ false → IsSame a
   twin_same a w number out =
       let one : may_touch_all met.who ≡ false =
-      neither_first (may_touch_all met.who) (is_command e.act || is_near met.who e.act w) out in
+      or_false_first (may_touch_all met.who) (is_command e.act || is_near met.who e.act w) out in
       let two : is_near met.who e.act w ≡ false =
-      neither_second (is_command e.act) (is_near met.who e.act w)
-      (neither_second (may_touch_all met.who) (is_command e.act || is_near met.who e.act w)
+      or_false_second (is_command e.act) (is_near met.who e.act w)
+      (or_false_second (may_touch_all met.who) (is_command e.act || is_near met.who e.act w)
       out) in
       let pane : SamePart s r (part.pane w) = stays (part.pane w) out in
       twin_has d s r w (record {
         pane = pane;
         link =
-            stays (part.link w) (neither (may_touch_all met.who) (is_near met.who e.act w) one two);
+            stays (part.link w) (or_from (may_touch_all met.who) (is_near met.who e.act w) one two);
         ports = as_many;
       }) a number
       (want_after d sound.history (longer d all sound e legal) (twin w) sound.limits sound.legal
@@ -156,10 +147,6 @@ module _ (d : Declared) (all : List Slice) (sound : IsSound d all) (e : Entry)
       ∙ sym (ap (λ (t : State). is_some (legal_act d t a)) (back d all sound))
       ∙ sym (entry_there a (legal_act d (state_of d all) a))
 
-not_true : (b : Bool) → (b ≡ true → ⊥) → b ≡ false
-not_true true never = absurd (never refl)
-not_true false never = refl
-
 -- whoever has no mark behind the entry had none before it, and has an entry as before
 pub stirs_no_other : (d : Declared) (e : Entry) (old new : List Bool) → length old ≡ activities d
     → Marks (λ a. may_stir d e a ≡ true) old new
@@ -168,5 +155,5 @@ stirs_no_other d e old new long m a lt out =
     let there : a < length old = subst (λ n. a < n) (sym long) lt in (
       m.kept a there out,
       λ all sound legal. has_as_before d all sound e legal a
-          (not_true (may_stir d e a) (m.marked a there out)),
+          (false_from_ne_true (may_stir d e a) (m.marked a there out)),
     )

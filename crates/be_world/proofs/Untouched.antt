@@ -4,6 +4,8 @@ use Rattle.std.proofs.Common.{⊎_elim, refl, sym, ap, subst, ◌∙◌}
 use Rattle.std.specs.Prelude.{◌||◌, ◌==◌, ◌+◌, slice_get, option_map, option_and_then, length}
 use Rattle.std.specs.Prelude.{if◌then◌else◌}
 use Rattle.std.proofs.lemmas.Option.{same_Some}
+use Rattle.std.proofs.lemmas.Bool.{or_right, or_left}
+use Rattle.be_facts.proofs.Numbers.{eq_self}
 use Rattle.be_actor.specs.declared.Wish.{Wish}
 use Rattle.be_actor.specs.declared.Wish.TheVariants as wish
 use Rattle.be_command.specs.Effects.{Effect, at_view, changes, ends_update, effect_of}
@@ -30,7 +32,6 @@ use Rattle.be_machine.specs.Touched as part
 use Rattle.be_machine.specs.Wants.{Want, asks, takes, begins, flushes, draws_end, ends, notifies}
 use Rattle.be_machine.specs.Wants.{executes, uses, stops}
 use Rattle.be_machine.proofs.LegalEntries.{maker}
-use Rattle.be_machine.proofs.Lists.{is_same_number}
 use Rattle.be_world.specs.Stirring.{act_window, is_command, is_near, is_window, may_touch_all}
 use Rattle.be_world.specs.Stirring.{own_window}
 
@@ -46,24 +47,16 @@ reaches who a (part.pane w) = may_touch_all who || (is_command a || is_near who 
 
 -- ---- by windows
 
-or_first : (a b : Bool) → a ≡ true → (a || b) ≡ true
-or_first true b e = refl
-or_first false b e = absurd (cc)
-
-or_second : (a b : Bool) → b ≡ true → (a || b) ≡ true
-or_second true b e = refl
-or_second false b e = e
-
 here : (o : Option ℕ) (w : ℕ) → o ≡ Some w → is_window o w ≡ true
-here o w e = ap (λ (x : Option ℕ). is_window x w) e ∙ is_same_number w
+here o w e = ap (λ (x : Option ℕ). is_window x w) e ∙ eq_self w
 
 module _ (who : Activity) (a : Act) (w : ℕ) where
   near_own : own_window who ≡ Some w → is_near who a w ≡ true
-  near_own e = or_first (is_window (own_window who) w) (is_window (act_window a) w)
+  near_own e = or_left (is_window (own_window who) w) (is_window (act_window a) w)
       (here (own_window who) w e)
 
   near_act : act_window a ≡ Some w → is_near who a w ≡ true
-  near_act e = or_second (is_window (own_window who) w) (is_window (act_window a) w)
+  near_act e = or_right (is_window (own_window who) w) (is_window (act_window a) w)
       (here (act_window a) w e)
 
   near : (own_window who ≡ Some w) ⊎ (act_window a ≡ Some w) → is_near who a w ≡ true
@@ -72,31 +65,31 @@ module _ (who : Activity) (a : Act) (w : ℕ) where
 
   module _ (is : is_near who a w ≡ true) where
     to_looper : reaches who a (part.looper w) ≡ true
-    to_looper = or_second (may_touch_all who) (is_near who a w) is
+    to_looper = or_right (may_touch_all who) (is_near who a w) is
 
     to_port : reaches who a (part.port w) ≡ true
-    to_port = or_second (may_touch_all who) (is_near who a w) is
+    to_port = or_right (may_touch_all who) (is_near who a w) is
 
     to_link : reaches who a (part.link w) ≡ true
-    to_link = or_second (may_touch_all who) (is_near who a w) is
+    to_link = or_right (may_touch_all who) (is_near who a w) is
 
     to_pane : reaches who a (part.pane w) ≡ true
-    to_pane = or_second (may_touch_all who) (is_command a || is_near who a w)
-        (or_second (is_command a) (is_near who a w) is)
+    to_pane = or_right (may_touch_all who) (is_command a || is_near who a w)
+        (or_right (is_command a) (is_near who a w) is)
 
 by_command : (who : Activity) (a : Act) (u : ℕ) → is_command a ≡ true
     → reaches who a (part.pane u) ≡ true
-by_command who a u is = or_second (may_touch_all who) (is_command a || is_near who a u)
-    (or_first (is_command a) (is_near who a u) is)
+by_command who a u is = or_right (may_touch_all who) (is_command a || is_near who a u)
+    (or_left (is_command a) (is_near who a u) is)
 
 by_all : (who : Activity) (a : Act) (p : Part) → may_touch_all who ≡ true → reaches who a p ≡ true
 by_all who a part.desk is = refl
 by_all who a part.input is = refl
 by_all who a (part.cell m) is = refl
-by_all who a (part.looper w) is = or_first (may_touch_all who) (is_near who a w) is
-by_all who a (part.port w) is = or_first (may_touch_all who) (is_near who a w) is
-by_all who a (part.link w) is = or_first (may_touch_all who) (is_near who a w) is
-by_all who a (part.pane w) is = or_first (may_touch_all who) (is_command a || is_near who a w) is
+by_all who a (part.looper w) is = or_left (may_touch_all who) (is_near who a w) is
+by_all who a (part.port w) is = or_left (may_touch_all who) (is_near who a w) is
+by_all who a (part.link w) is = or_left (may_touch_all who) (is_near who a w) is
+by_all who a (part.pane w) is = or_left (may_touch_all who) (is_command a || is_near who a w) is
 
 -- the part is this one
 so : (who : Activity) (a : Act) (p q : Part) → p ≡ q → reaches who a q ≡ true

@@ -1,6 +1,7 @@
 -- A message is written piece by piece.
 use Rattle.std.proofs.Common.{◌≡◌, ℕ, zero, suc, ◌+◌, ◌<◌, ◌≤◌, List, [], ◌∷◌, ◌++◌, length, get_or, drop, Result, OnOk, codes, refl, sym, ap, ◌∙◌, arith, append_assoc, append-nil}
 use Rattle.std.proofs.lemmas.List.{drop_all, drop_more}
+use Rattle.be_facts.proofs.Lists.{append_moved, append_three, on_ok_map}
 use Rattle.be_flat.specs.Codes.{code_of}
 use Rattle.be_lex.specs.Codes as lex
 use Rattle.be_message.specs.declared.field.Field as declared
@@ -9,10 +10,6 @@ use Rattle.be_message.specs.Depths.{datum_depth, values_depth, fields_depth}
 use Rattle.be_message.specs.Messages.{Datum, Field, Message, all_values, all_fields, packed}
 use Rattle.be_message.specs.Views.{seen_value, seen_values, seen_field, seen_fields}
 use Rattle.be_written.specs.MessageText.{datum_text, fields_text, values_text, more_text, message_text}
-use Rattle.be_written.proofs.WriteLemmas.{mapped}
-
-row_of_three : (start a b c : List ℕ) → ((start ++ a) ++ b) ++ c ≡ start ++ (a ++ (b ++ c))
-row_of_three start a b c = simp append_assoc
 
 -- ---- values
 
@@ -30,7 +27,7 @@ more_goes_on vs i v page one two lt is first second =
     let text = datum_text (seen_value v) in
     let rest = more_text (all_values (seen_values (drop (i + 1) vs))) in
     ap (λ (t : List ℕ). t ++ rest) (second ∙ ap (λ (t : List ℕ). t ++ text) first)
-    ∙ row_of_three page (codes ",") text rest
+    ∙ append_three page (codes ",") text rest
     ∙ ap (λ (left : List Value). page ++ more_text (all_values (seen_values left))) (sym (drop_more vs i v lt ∙ ap (λ (x : Value). x ∷ drop (i + 1) vs) (sym is)))
 
 pub all_more : (vs : List Value) (i : ℕ) (page all : List ℕ) → page ++ more_text (all_values (seen_values (drop i vs))) ≡ all → length vs ≤ i → page ≡ all
@@ -80,7 +77,7 @@ unfolding fields_text
 field_written r f name letters values old one two three four new same_name same_letters same_values first second third fourth last =
     let before : four ≡ (((old ++ (codes " " ++ f.name)) ++ codes "=") ++ code_of f.kind) ++ codes ":" =
     rw (fourth, third, second, first, same_name, same_letters) refl in
-    mapped r (new ≡ four ++ values_text (all_values values)) (new ≡ old ++ fields_text (all_fields (f ∷ []))) last
+    on_ok_map r (new ≡ four ++ values_text (all_values values)) (new ≡ old ++ fields_text (all_fields (f ∷ []))) last
     (λ end. end ∙ ap (λ (ds : List Datum). four ++ values_text (all_values ds)) same_values
     ∙ ap (λ (t : List ℕ). t ++ values_text (all_values f.values)) before
     ∙ row_of_five old (codes " ") f.name (codes "=") (code_of f.kind) (codes ":") (values_text (all_values f.values)))
@@ -94,18 +91,15 @@ pub bracketed : {E : Type 0} (r : Result (Unit {0}) E) (v : Value) (m : Message)
     → one ≡ old ++ codes "(" → two ≡ one ++ message_text m → OnOk r (new ≡ two ++ codes ")") → OnOk r (new ≡ old ++ datum_text (seen_value v))
 unfolding datum_text
 bracketed r v m old one two new is first second last =
-    mapped r (new ≡ two ++ codes ")") (new ≡ old ++ datum_text (seen_value v)) last
+    on_ok_map r (new ≡ two ++ codes ")") (new ≡ old ++ datum_text (seen_value v)) last
     (λ end. end ∙ ap (λ (t : List ℕ). t ++ codes ")") (second ∙ ap (λ (t : List ℕ). t ++ message_text m) first)
     ∙ row_in_brackets old (codes "(") (lex.code_text m.what) (fields_text (all_fields m.fields)) (codes ")")
     ∙ ap (λ (d : Datum). old ++ datum_text d) (sym is))
 
 -- ---- a rectangle
 
-row_of_edges : (start a b c : List ℕ) → ((start ++ a) ++ b) ++ c ≡ start ++ ((a ++ b) ++ c)
-row_of_edges start a b c = simp append_assoc
-
 pub edges_written : {E : Type 0} (r : Result (Unit {0}) E) (a b old one two new : List ℕ) → one ≡ old ++ a → two ≡ one ++ codes "/"
     → OnOk r (new ≡ two ++ b) → OnOk r (new ≡ old ++ ((a ++ codes "/") ++ b))
 edges_written r a b old one two new first second last =
-    mapped r (new ≡ two ++ b) (new ≡ old ++ ((a ++ codes "/") ++ b)) last
-    (λ end. end ∙ ap (λ (t : List ℕ). t ++ b) (second ∙ ap (λ (t : List ℕ). t ++ codes "/") first) ∙ row_of_edges old a (codes "/") b)
+    on_ok_map r (new ≡ two ++ b) (new ≡ old ++ ((a ++ codes "/") ++ b)) last
+    (λ end. end ∙ ap (λ (t : List ℕ). t ++ b) (second ∙ ap (λ (t : List ℕ). t ++ codes "/") first) ∙ append_moved old a (codes "/") b)

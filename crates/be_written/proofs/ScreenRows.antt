@@ -5,12 +5,15 @@ use Rattle.std.proofs.lemmas.Bool.{cases_lt, eqb-true}
 use Rattle.std.specs.List.{slice_get}
 use Rattle.std.specs.Fmt.{decimal}
 use Rattle.std.proofs.lemmas.List.{drop-drop, drop_all, length-drop, length-take, length-take-le}
+use Rattle.be_facts.proofs.Lists.{on_ok_map}
+use Rattle.be_facts.proofs.Truths.{and_first, and_second}
+use Rattle.be_facts.proofs.Numbers.{eq_tells}
 use Rattle.be_color.specs.declared.colors.Rgb.{Rgb}
 use Rattle.be_span.specs.declared.Cell.{Cell}
 use Rattle.be_written.specs.Lines.{behind, line_of}
 use Rattle.be_written.specs.ScreenText.{Colored, same_rgb, before_runs, runs_of, run_word, row_text, rows_from, screen_text}
 use Rattle.be_written.specs.Screens.{rgb_at, AreCellsOf, AreColored, row_at, IsLongest}
-use Rattle.be_written.proofs.WriteLemmas.{appended, line_behind, line_written, mapped}
+use Rattle.be_written.proofs.WriteLemmas.{appended, line_behind, line_written}
 
 -- ---- where cells are
 
@@ -81,7 +84,7 @@ alone : (rgb : Rgb) (rs : List Colored) → Differs rgb rs → before_runs rgb r
 alone rgb [] other = refl
 alone rgb (r ∷ rs) other = ap (λ (v : Bool). if v then record { count = r.count + 1; rgb = rgb } ∷ rs else record { count = 1; rgb = rgb } ∷ r ∷ rs) other
 
-same_itself : (rgb : Rgb) → same_rgb rgb rgb ≡ true
+pub same_itself : (rgb : Rgb) → same_rgb rgb rgb ≡ true
 same_itself rgb = rw (eq-eqb rgb.red rgb.red refl, eq-eqb rgb.green rgb.green refl, eq-eqb rgb.blue rgb.blue refl) refl
 
 are_same : (p q r : Bool) → false ≡ not (p && (q && r)) → (p ≡ true) × (q ≡ true) × (r ≡ true)
@@ -176,7 +179,7 @@ row_ended r width y column cells text new all is le last =
     let row = row_at width y cells in
     let small = short_row width y cells column le in
     let end : text ++ 10 ∷ [] ≡ all = ap (λ (cs : List Cell). text ++ (behind (map run_word (runs_of cs)) ++ 10 ∷ [])) (sym (drop_all column row small)) ∙ is in
-    mapped r (new ≡ text ++ 10 ∷ []) (new ≡ all) last (λ e. e ∙ end)
+    on_ok_map r (new ≡ text ++ 10 ∷ []) (new ≡ all) last (λ e. e ∙ end)
 
 -- ---- the screen
 
@@ -212,3 +215,15 @@ unfolding screen_rest rows_from
 screen_ended width height row cells text all is le =
     let none : height - row ≡ 0 = omega arith in
     sym (append-nil text) ∙ ap (λ (n : ℕ). text ++ rows_from width row n (drop (row * width) cells)) (sym none) ∙ is
+
+pub same_is : (a b : Rgb) → same_rgb a b ≡ true → a ≡ b
+same_is a b e =
+    let two = and_first ((a.red == b.red) && (a.green == b.green)) (a.blue == b.blue) e in
+    let red : a.red ≡ b.red =
+    eq_tells a.red b.red (and_first (a.red == b.red) (a.green == b.green) two) in
+    let green : a.green ≡ b.green =
+    eq_tells a.green b.green (and_second (a.red == b.red) (a.green == b.green) two) in
+    let blue : a.blue ≡ b.blue =
+    eq_tells a.blue b.blue
+    (and_second ((a.red == b.red) && (a.green == b.green)) (a.blue == b.blue) e) in
+    λ i. record { red = red i; green = green i; blue = blue i }

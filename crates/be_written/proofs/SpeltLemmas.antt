@@ -1,6 +1,7 @@
 -- A message is written from the bytes that spell it, piece by piece.
 use Rattle.std.proofs.Common.{◌≡◌, ℕ, suc, List, [], ◌∷◌, ◌++◌, length, Bool, true, false, Result, Ok, Err, codes, refl, sym, ap, ◌∙◌, arith, append_assoc, append-nil}
 use Rattle.std.specs.Prelude.{◌==◌, if◌then◌else◌, IfOk}
+use Rattle.be_facts.proofs.Lists.{append_three}
 use Rattle.be_flat.specs.Codes.{code_of}
 use Rattle.be_geom.specs.declared.rect.Rect.{Rect}
 use Rattle.be_lex.specs.Codes as lex
@@ -58,9 +59,6 @@ pub record ValuesLeft (rest : List ℕ) (levels : ℕ) (kind : Kind) (count : �
   pub starts : StartsValues rest levels kind count values behind
   pub text : page ++ more_text values ≡ all
 
-row_of_three : (start a b c : List ℕ) → ((start ++ a) ++ b) ++ c ≡ start ++ (a ++ (b ++ c))
-row_of_three start a b c = simp append_assoc
-
 pub value_gone : (vs : Values) (rest next : List ℕ) (levels : ℕ) (kind : Kind) (left more : ℕ) (behind page comma new all : List ℕ) → StartsValues rest levels kind left vs behind → page ++ more_text vs ≡ all
     → left ≡ suc more → comma ≡ page ++ codes ","
     → ((d : Datum) (after : List ℕ) → StartsDatum rest levels kind d after → Leaves comma (datum_text d) after new next)
@@ -74,7 +72,7 @@ value_gone (value d vs) rest next levels kind left more behind page comma new al
     record {
       values = vs;
       starts = record { front = b; parts = leaves.1; spells = values; many = omega (arith, starts.many); deep = omega (arith, starts.deep) };
-      text = ap (λ (t : List ℕ). t ++ more_text vs) (leaves.0 ∙ ap (λ (t : List ℕ). t ++ datum_text d) parted) ∙ row_of_three page (codes ",") (datum_text d) (more_text vs) ∙ text;
+      text = ap (λ (t : List ℕ). t ++ more_text vs) (leaves.0 ∙ ap (λ (t : List ℕ). t ++ datum_text d) parted) ∙ append_three page (codes ",") (datum_text d) (more_text vs) ∙ text;
     }
 
 pub no_value_left : (vs : Values) (rest : List ℕ) (levels : ℕ) (kind : Kind) (left : ℕ) (behind page all : List ℕ) → StartsValues rest levels kind left vs behind → page ++ more_text vs ≡ all → left ≡ 0 → (page ≡ all) × (rest ≡ behind)

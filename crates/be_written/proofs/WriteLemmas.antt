@@ -1,8 +1,9 @@
 -- What is written, piece by piece.
-use Rattle.std.proofs.Common.{◌≡◌, ℕ, zero, suc, ◌+◌, ◌*◌, ◌<◌, ◌≤◌, List, [], ◌∷◌, ◌++◌, length, get_or, drop, map, flat_map, Option, Result, Ok, Err, OnOk, codes, refl, sym, ap, subst, ◌∙◌, arith, append_assoc, append-nil}
+use Rattle.std.proofs.Common.{◌≡◌, ℕ, zero, suc, ◌+◌, ◌*◌, ◌<◌, ◌≤◌, List, [], ◌∷◌, ◌++◌, length, get_or, drop, map, flat_map, Option, Result, OnOk, codes, refl, sym, ap, subst, ◌∙◌, arith, append_assoc, append-nil}
 use Rattle.std.specs.List.{join_with_byte}
 use Rattle.std.specs.Fmt.{decimal}
 use Rattle.std.proofs.lemmas.List.{length-map, drop_all, drop_more, get_or_append_left, get_or-append_right}
+use Rattle.be_facts.proofs.Lists.{on_ok_map}
 use Rattle.be_machine.specs.declared.Act.{Act}
 use Rattle.be_machine.specs.declared.Act.TheVariants.{Event}
 use Rattle.be_machine.specs.declared.Entry.{Entry}
@@ -15,10 +16,6 @@ use Rattle.be_written.specs.Names.{app_names, app_actor, looper_actor, twin_acto
 use Rattle.be_written.proofs.ActorNames.{names_of, length_windows}
 
 -- ---- one piece behind another
-
-pub mapped : {E : Type 0} (r : Result (Unit {0}) E) (P Q : Type 0) → OnOk r P → (P → Q) → OnOk r Q
-mapped (Ok x) P Q is f = f is
-mapped (Err e) P Q is f = tt
 
 pub same_text : {E : Type 0} (r : Result (Unit {0}) E) (old new a b : List ℕ) → OnOk r (new ≡ old ++ a) → a ≡ b → OnOk r (new ≡ old ++ b)
 same_text r old new a b is same = subst (λ (text : List ℕ). OnOk r (new ≡ old ++ text)) same is
@@ -119,7 +116,7 @@ pub entry_written : {E : Type 0} (r : Result (Unit {0}) E) (d : Declared) (k : �
 entry_written r d k e old one two three new first second third last =
     let actor = actor_name d e.actor in
     let words = appended one two three (32 ∷ actor) (behind (act_words d e.act)) second third in
-    mapped r (new ≡ three ++ 10 ∷ []) (new ≡ old ++ line_of (entry_words d k e)) last (λ end. line_written old one three new (decimal k) (actor ∷ act_words d e.act) first words end)
+    on_ok_map r (new ≡ three ++ 10 ∷ []) (new ≡ old ++ line_of (entry_words d k e)) last (λ end. line_written old one three new (decimal k) (actor ∷ act_words d e.act) first words end)
 
 pub event_written : {E : Type 0} (r : Result (Unit {0}) E) (d : Declared) (k : ℕ) (a b : Option (ℕ × Posted)) (act : Act) (old one two new : List ℕ) → act ≡ Event k a b
     → one ≡ old ++ behind (codes "event" ∷ decimal k ∷ []) → two ≡ one ++ behind (delivery_words d a) → OnOk r (new ≡ two ++ behind (delivery_words d b)) → OnOk r (new ≡ old ++ behind (act_words d act))
@@ -129,7 +126,7 @@ event_written r d k a b act old one two new is first second last =
     let all = appended old one two (behind event) (behind (delivery_words d a)) first second in
     let words : (behind event ++ behind (delivery_words d a)) ++ behind (delivery_words d b) ≡ behind (event ++ delivery_words d a ++ delivery_words d b) =
     ap (λ (text : List ℕ). text ++ behind (delivery_words d b)) (sym (behind_append event (delivery_words d a))) ∙ sym (behind_append (event ++ delivery_words d a) (delivery_words d b)) in
-    mapped r (new ≡ two ++ behind (delivery_words d b)) (new ≡ old ++ behind (act_words d act)) last
+    on_ok_map r (new ≡ two ++ behind (delivery_words d b)) (new ≡ old ++ behind (act_words d act)) last
     (λ end. appended old two new (behind event ++ behind (delivery_words d a)) (behind (delivery_words d b)) all end ∙ ap (λ (text : List ℕ). old ++ text) words
     ∙ ap (λ (done : Act). old ++ behind (act_words d done)) (sym is))
 

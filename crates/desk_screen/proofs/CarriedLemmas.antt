@@ -1,20 +1,20 @@
 -- A plan that is carried out on the panes of a screen, one by one.
 use Rattle.std.specs.Prelude.{slice_get, slice_set}
-use Rattle.std.proofs.Common.{◌≡◌, ℕ, ◌+◌, ◌<◌, ◌≤◌, List, length, Option, Some, Result, Ok, Err, inl, inr, refl, sym, ap, ◌∙◌, subst, arith}
+use Rattle.std.proofs.Common.{◌≡◌, ℕ, ◌+◌, ◌<◌, ◌≤◌, List, length, Option, Some, Ok, inl, inr, sym, ap, ◌∙◌, subst, arith}
 use Rattle.std.proofs.lemmas.Bool.{cases_lt}
 use Rattle.std.proofs.lemmas.Option.{same_Some, slice_get_within}
+use Rattle.be_facts.proofs.Lists.{element, set_length, set_other}
 use Rattle.be_pane.specs.declared.pane.Pane.{Pane}
 use Rattle.be_span.specs.Spans.{Spans}
 use Rattle.be_stack.specs.Windows.{Windows}
-use Rattle.be_stack.specs.declared.fault.ChangeFault.{ChangeFault}
 use Rattle.be_desk.specs.Changes.{Desk, desk_after}
-use Rattle.be_desk.specs.Desks.{IsPaired, IsTaken}
-use Rattle.be_desk.specs.Plans.{CarriesOver, IsDeskPlan, IsPaneOf, IsPlanOf, Planned}
+use Rattle.be_desk.specs.Desks.{IsPaired}
+use Rattle.be_desk.specs.Plans.{CarriesOver, IsPaneOf, IsPlanOf, Planned}
 use Rattle.be_desk.proofs.DeskLemmas.{is_after}
 use Rattle.be_desk.proofs.OthersLemmas.{others_stay}
-use Rattle.be_desk.proofs.PairedLemmas.{set_many, set_other, set_there}
+use Rattle.be_desk.proofs.PairedLemmas.{set_there}
+use Rattle.be_desk.proofs.TakenLemmas.{taken_as}
 use Rattle.desk_screen.specs.Screens.{IsScreen}
-use Rattle.desk_screen.proofs.ScreenLemmas.{there}
 
 -- a pane of the desk afterwards, at its window's number
 abbrev pub IsDone : Desk → Planned → ℕ → Pane → Type 0
@@ -30,16 +30,6 @@ pub record AreCarriedTo (before : Desk) (plan left : Planned) (old now : List Pa
   pub done : (k : ℕ) (pane : Pane) → k < n → slice_get now k ≡ Some pane → IsDone before plan k pane
   pub panes : (k : ℕ) → n ≤ k → slice_get now k ≡ slice_get old k
 
-pub none_carried : (before : Desk) (plan : Planned) (old : List Pane) → AreCarriedTo before plan plan old old 0
-none_carried before plan old = record {
-  left_is = refl;
-  many = refl;
-  spans_left = λ k less. refl;
-  each = refl;
-  done = λ k pane less. absurd (omega arith);
-  panes = λ k less. refl;
-}
-
 not_below : (k n : ℕ) → k < n → k ≡ n → ⊥
 not_below k n less e = omega arith
 
@@ -50,7 +40,7 @@ not_above k n more e = omega arith
 done_there : (before : Desk) (plan left : Planned) (old now : List Pane) (n : ℕ) (pane new : Pane) → IsScreen before old → IsPlanOf plan before old → AreCarriedTo before plan left old now n → n < length old → slice_get now n ≡ Some pane → ((these : Option Spans) → slice_get left.spans n ≡ Some these → CarriesOver left these pane new) → IsDone before plan n new
 done_there before plan left old now n pane new screen is to within got carries after taken =
     let each = is.each in
-    let these = there plan.spans n (omega arith) in
+    let these = element plan.spans n (omega arith) in
     let was : slice_get old n ≡ Some pane = sym (to.panes n (omega arith)) ∙ got in
     let over : CarriesOver plan these.0 pane new = subst (λ (p : Planned). CarriesOver p these.0 pane new) to.left_is (carries these.0 (to.spans_left n (omega arith) ∙ these.1)) in
     let all = over before after old screen.paired taken (is.on_desk.then_windows after taken) (is.panes_of n pane was) (is.changed after taken n pane these.0 was these.1) in
@@ -61,9 +51,9 @@ one_carried before plan left next old now n pane new other screen is to within g
     let spans : next.spans ≡ slice_set left.spans n other = ap (λ (p : Planned). p.spans) e in
     record {
       left_is = e ∙ ap (λ (p : Planned). record p { spans = slice_set left.spans n other }) to.left_is ∙ ap (λ (l : List (Option Spans)). record plan { spans = l }) (sym spans);
-      many = ap length spans ∙ set_many left.spans n other ∙ to.many;
+      many = ap length spans ∙ set_length left.spans n other ∙ to.many;
       spans_left = λ k more. ap (λ (l : List (Option Spans)). slice_get l k) spans ∙ set_other left.spans n k other (λ e. not_above k n more e) ∙ to.spans_left k (omega arith);
-      each = set_many now n new ∙ to.each;
+      each = set_length now n new ∙ to.each;
       done = λ k q less then_got.
           elim (cases_lt k n) [
             | inl below ↦ to.done k q below (sym (set_other now n k new (λ e. not_below k n below e)) ∙ then_got)
@@ -77,13 +67,9 @@ one_carried before plan left next old now n pane new other screen is to within g
 
 -- ---- what the calls ask
 
-taken_to : (r : Result Desk ChangeFault) → IsTaken r → (after : Desk) × (r ≡ Ok after)
-taken_to (Ok after) taken = (after, refl)
-taken_to (Err fault) taken = absurd taken
-
 pub window_there : (before : Desk) (plan left : Planned) (old now : List Pane) (n : ℕ) (pane : Pane) → IsScreen before old → IsPlanOf plan before old → AreCarriedTo before plan left old now n → slice_get now n ≡ Some pane → pane.window < length left.windows.windows
 window_there before plan left old now n pane screen is to got =
-    let taken = taken_to (desk_after before plan.window plan.change) is.on_desk.taken in
+    let taken = taken_as (desk_after before plan.window plan.change) is.on_desk.taken in
     let stay = others_stay before.windows taken.0.windows plan.window plan.change (is_after before taken.0 plan.window plan.change taken.1).windows in
     let many = stay.many in
     let each = screen.each in
@@ -93,9 +79,6 @@ window_there before plan left old now n pane screen is to got =
     let there_then : pane.window < length taken.0.windows.windows = omega arith in
     let same : taken.0.windows ≡ left.windows = is.on_desk.then_windows taken.0 taken.1 ∙ sym (ap (λ (p : Planned). p.windows) to.left_is) in
     subst (λ (w : Windows). pane.window < length w.windows) same there_then
-
-pub desk_plan : (before : Desk) (plan left : Planned) (old now : List Pane) (n : ℕ) → IsPlanOf plan before old → AreCarriedTo before plan left old now n → IsDeskPlan left before
-desk_plan before plan left old now n is to = subst (λ (p : Planned). IsDeskPlan p before) (sym to.left_is) is.on_desk
 
 pub same_change : (before : Desk) (plan left : Planned) (old now : List Pane) (n : ℕ) (after : Desk) → AreCarriedTo before plan left old now n → desk_after before left.window left.change ≡ Ok after → desk_after before plan.window plan.change ≡ Ok after
 same_change before plan left old now n after to taken = subst (λ (p : Planned). desk_after before p.window p.change ≡ Ok after) to.left_is taken

@@ -1,13 +1,15 @@
 -- Hidden windows make a screen, and one more may be added to them.
 use Rattle.std.specs.Prelude.{ℤ, pos, ◌+ℤ◌, ◌-ℤ◌, ◌&&◌, slice_get, option_and_then}
 use Rattle.std.specs.Option.{option_map}
-use Rattle.std.proofs.Common.{◌≡◌, ℕ, zero, suc, ◌<◌, false, List, [], ◌∷◌, ◌++◌, length, Some, inl, inr, refl, sym, ap, ◌∙◌, subst, arith}
+use Rattle.std.proofs.Common.{◌≡◌, ℕ, ◌<◌, false, List, [], ◌∷◌, ◌++◌, length, Some, inl, inr, refl, sym, ap, ◌∙◌, subst, arith}
 use Rattle.std.proofs.lemmas.Bool.{cases_lt}
 use Rattle.std.proofs.lemmas.Int.{ints}
 use Rattle.std.proofs.lemmas.List.{length_push}
 use Rattle.std.proofs.lemmas.Option.{same_Some, slice_get_within}
+use Rattle.be_facts.proofs.Lists.{got_last, got_front, element}
 use Rattle.be_geom.specs.declared.rect.Rect.{Rect}
 use Rattle.be_geom.specs.Rects.{rect_has}
+use Rattle.be_geom.proofs.RectLemmas.{same_rects}
 use Rattle.be_input.specs.Pointing.{Pointing, corner_of}
 use Rattle.be_pane.specs.declared.pane.Pane.{Pane}
 use Rattle.be_stack.specs.declared.flags.WindowFlags.{WindowFlags}
@@ -22,29 +24,13 @@ use Rattle.be_desk.specs.Desks.{IsRootIn, at_origin}
 use Rattle.be_desk.specs.Plans.{IsPaneOf}
 use Rattle.desk_screen.specs.Making.{AreMade, IsMade, IsNewPane}
 use Rattle.desk_screen.specs.Screens.{IsScreen}
-use Rattle.desk_screen.proofs.ScreenLemmas.{there}
-
-got_front : {A : Type 0} (xs : List A) (x : A) (k : ℕ) → k < length xs → slice_get (xs ++ x ∷ []) k ≡ slice_get xs k
-got_front [] x k h = absurd (omega arith)
-got_front (y ∷ ys) x zero h = refl
-got_front (y ∷ ys) x (suc k) h = got_front ys x k (omega arith)
-
-got_last : {A : Type 0} (xs : List A) (x : A) (k : ℕ) → k ≡ length xs → slice_get (xs ++ x ∷ []) k ≡ Some x
-got_last [] x zero e = refl
-got_last [] x (suc k) e = absurd (omega arith)
-got_last (y ∷ ys) x zero e = absurd (omega arith)
-got_last (y ∷ ys) x (suc k) e = got_last ys x k (omega arith)
 
 pub none_made : (width height : ℕ) → AreMade (empty_windows width height) [] []
 none_made width height = record { many_trees = refl; many_panes = refl; each = λ k window tree pane got views paned. cc }
 
--- the same rectangle by its edges
-rebuilt : (a b c d e f g h : ℤ) → a ≡ b → c ≡ d → e ≡ f → g ≡ h → ◌≡◌ {A = Rect} (record { left = a; top = c; right = e; bottom = g }) (record { left = b; top = d; right = f; bottom = h })
-rebuilt a b c d e f g h p q r s = cc
-
 root_is : (frame : Rect) (width height : ℤ) → width ≡ frame.right -ℤ frame.left → height ≡ frame.bottom -ℤ frame.top → root_frame width height ≡ at_origin frame
 root_is r width height across down =
-    rebuilt (pos 0) (r.left +ℤ (pos 0 -ℤ r.left)) (pos 0) (r.top +ℤ (pos 0 -ℤ r.top)) width (r.right +ℤ (pos 0 -ℤ r.left)) height (r.bottom +ℤ (pos 0 -ℤ r.top)) (omega (arith, ints)) (omega (arith, ints)) (omega (arith, ints)) (omega (arith, ints))
+    same_rects (pos 0) (r.left +ℤ (pos 0 -ℤ r.left)) (pos 0) (r.top +ℤ (pos 0 -ℤ r.top)) width (r.right +ℤ (pos 0 -ℤ r.left)) height (r.bottom +ℤ (pos 0 -ℤ r.top)) (omega (arith, ints)) (omega (arith, ints)) (omega (arith, ints)) (omega (arith, ints))
 
 -- a new window is hidden, and its root has its size
 new_made : (w : ℕ) (frame : Rect) (flags : WindowFlags) (tree : Tree) (pane : Pane) (width height : ℤ) → width ≡ frame.right -ℤ frame.left → height ≡ frame.bottom -ℤ frame.top → slice_get tree 0 ≡ Some (root_view width height) → IsNewPane w (left_top frame) tree pane → IsMade w (record { frame = frame; hides = 1; flags = flags; closed = false }) tree pane
@@ -125,19 +111,19 @@ screen_made s pointing panes made =
         each = many_trees;
         rooted = λ u window root got is_root.
             let within = slice_get_within s.windows u window got in
-            let tree = there pointing.trees u (omega arith) in
-            let pane = there panes u (omega arith) in
+            let tree = element pointing.trees u (omega arith) in
+            let pane = element panes u (omega arith) in
             (made.each u window tree.0 pane.0 got tree.1 pane.1).rooted root (sym (ap (option_and_then (λ (t : Tree). slice_get t 0)) tree.1) ∙ is_root);
       };
       panes_of = λ k pane got.
           let within = slice_get_within panes k pane got in
-          let window = there s.windows k (omega arith) in
-          let tree = there pointing.trees k (omega arith) in
+          let window = element s.windows k (omega arith) in
+          let tree = element pointing.trees k (omega arith) in
           pane_of_made s pointing k window.0 tree.0 pane window.1 tree.1 (made.each k window.0 tree.0 pane window.1 tree.1 got);
       each = many_panes;
       numbered = λ k pane got.
           let within = slice_get_within panes k pane got in
-          let window = there s.windows k (omega arith) in
-          let tree = there pointing.trees k (omega arith) in
+          let window = element s.windows k (omega arith) in
+          let tree = element pointing.trees k (omega arith) in
           (made.each k window.0 tree.0 pane window.1 tree.1 got).new_pane.number;
     }

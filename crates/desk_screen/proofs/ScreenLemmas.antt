@@ -1,10 +1,11 @@
 -- A screen names each window that a change alters, and stays one.
 use Rattle.std.specs.Prelude.{slice_get, slice_set, Contains, map}
-use Rattle.std.proofs.Common.{◌≡◌, ℕ, zero, suc, ◌<◌, List, [], ◌∷◌, length, Some, Ok, inl, inr, refl, sym, ap, ◌∙◌, subst, arith}
+use Rattle.std.proofs.Common.{◌≡◌, ℕ, ◌<◌, List, [], length, Some, Ok, inl, inr, sym, ap, ◌∙◌, subst, arith}
 use Rattle.std.proofs.Common.{◌++◌, take, drop, get_or}
 use Rattle.std.proofs.Math.Seq.{take-append_seam}
 use Rattle.std.proofs.lemmas.Bool.{cases_eq, cases_lt}
 use Rattle.std.proofs.lemmas.Option.{same_Some, slice_get-get_or}
+use Rattle.be_facts.proofs.Lists.{element, set_length, set_other}
 use Rattle.be_color.specs.declared.colors.Color.{Color}
 use Rattle.be_geom.specs.declared.change.Change.{Change}
 use Rattle.be_geom.specs.declared.rect.Rect.{Rect}
@@ -19,14 +20,9 @@ use Rattle.be_desk.specs.Plans.{AreAscending, IsPaneOf}
 use Rattle.be_desk.proofs.AffectedLemmas.{past_owns_none}
 use Rattle.be_desk.proofs.DeskLemmas.{is_after}
 use Rattle.be_desk.proofs.OthersLemmas.{others_stay}
-use Rattle.be_desk.proofs.PairedLemmas.{set_many, set_other, set_there}
+use Rattle.be_desk.proofs.PairedLemmas.{set_there}
 use Rattle.be_desk.proofs.PlanLemmas.{listed_name}
 use Rattle.desk_screen.specs.Screens.{IsRecolored, IsScreen}
-
-pub there : {A : Type 0} (xs : List A) (k : ℕ) → k < length xs → (x : A) × (slice_get xs k ≡ Some x)
-there [] k h = absurd (omega arith)
-there (x ∷ xs) zero h = (x, refl)
-there (x ∷ xs) (suc k) h = there xs k (omega arith)
 
 -- each window that a change alters has its pane
 pub all_named : (before after : Desk) (panes : List Pane) (w : ℕ) (change : Change) → IsScreen before panes → desk_after before w change ≡ Ok after → HasAltered before.windows after.windows (map (λ pane. pane.window) panes)
@@ -36,7 +32,7 @@ all_named before after panes w change screen taken u differs =
     let each = screen.each in
     elim (cases_lt u (length panes)) [
       | inl less ↦
-          let pane = there panes u less in
+          let pane = element panes u less in
           subst (λ (n : ℕ). Contains (map (λ (p : Pane). p.window) panes) n) (screen.numbered u pane.0 pane.1) (listed_name panes u pane.0 pane.1)
       | inr above ↦
           absurd (differs (λ x y. past_owns_none before.windows u (omega arith) x y ∙ sym (past_owns_none after.windows u (omega arith) x y)))
@@ -73,7 +69,7 @@ recolored desk panes w old new there_old same screen =
                 subst (λ (p : Pane). IsPaneOf desk p) (same_Some new pane (sym there_new ∙ ap (slice_get (slice_set panes w new)) (sym here) ∙ got)) (recolored_pane desk old new (screen.panes_of w old there_old) same)
             | inr other ↦ screen.panes_of k pane (sym (set_other panes w k new other) ∙ got)
           ];
-      each = set_many panes w new ∙ screen.each;
+      each = set_length panes w new ∙ screen.each;
       numbered = λ k pane got.
           elim (cases_eq k w) [
             | inl here ↦

@@ -1,5 +1,5 @@
 -- Counters in hand before and after a transfer.
-use Rattle.std.proofs.Common.{◌≡◌, ◌≢◌, ℕ, ◌+◌, ◌-◌, ◌<◌, ◌≤◌, ◌⊎◌, inl, inr, ⊎_elim, true, List, [], ◌∷◌, ◌++◌, length, Option, Some, None, option_map, sym, refl, ap, ◌∙◌, subst, arith}
+use Rattle.std.proofs.Common.{◌≡◌, ◌≢◌, ℕ, ◌+◌, ◌-◌, ◌<◌, ◌≤◌, ◌⊎◌, inl, inr, ⊎_elim, true, List, [], ◌∷◌, ◌++◌, length, Option, Some, option_map, sym, refl, ap, ◌∙◌, subst, arith}
 use mathlib.Core.Option.{some-injective}
 use lib.ListN.{get_elem?}
 use Rattle.be_hall.specs.Hands.{places_of, part_at, with_part, meant, rises_from}
@@ -9,14 +9,6 @@ use Rattle.hall_counters.specs.declared.transfer.Count.{Count}
 use Rattle.hall_counters.specs.declared.transfer.Transfer.{Transfer}
 use Rattle.hall_counters.specs.Counting.{gave, got, moved, counting}
 use Rattle.hall_counters.specs.Laws.{moved_is}
-
-pub some_part : {A B : Type 0} (f : A → B) (o : Option A) (k : B) → option_map f o ≡ Some k → (x : A) × (o ≡ Some x) × (f x ≡ k)
-some_part f None k e = absurd (cc)
-some_part f (Some x) k e = (x, refl, (cc))
-
-pub no_part : {A B : Type 0} (f : A → B) (o : Option A) → option_map f o ≡ None → o ≡ None
-no_part f None e = refl
-no_part f (Some x) e = absurd (cc)
 
 -- what is seen of the part before is what the part after has
 pub counted_as : {A B : Type 0} (f : A → B) (o : Option A) (x y : A) (k : B) → o ≡ Some x → option_map f o ≡ Some k → f y ≡ f x → f y ≡ k

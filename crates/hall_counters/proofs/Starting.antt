@@ -1,5 +1,5 @@
 -- Counters and places at the start and at the end.
-use Rattle.std.proofs.Common.{rules, ◌≡◌, ℕ, zero, suc, ◌+◌, ◌*◌, ◌<◌, ◌≤◌, Bool, true, false, ◌&&◌, nat_lt, List, [], ◌∷◌, ◌++◌, map, length, All, refl, sym, ap, ◌∙◌, subst, arith}
+use Rattle.std.proofs.Common.{rules, ◌≡◌, ℕ, zero, suc, ◌*◌, ◌<◌, ◌≤◌, Bool, true, false, ◌&&◌, nat_lt, List, [], ◌∷◌, ◌++◌, map, length, All, sym, ap, ◌∙◌, subst, arith}
 use Rattle.std.proofs.lemmas.Bool.Decides.{nat_tests}
 use Rattle.std.proofs.lemmas.List.Elements.{All-cons}
 use Rattle.be_hall.specs.Numbers.{total}
@@ -9,10 +9,6 @@ use Rattle.hall_counters.specs.declared.counters.Counter.{Counter}
 use Rattle.hall_counters.specs.declared.transfer.Count.{Count}
 use Rattle.hall_counters.specs.Counting.{counting}
 use Rattle.hall_counters.specs.Opening.{EachOpens}
-
-pub more_long : {A : Type 0} (xs : List A) (x : A) → length (xs ++ x ∷ []) ≡ length xs + 1
-more_long [] x = refl
-more_long (y ∷ ys) x = let r = more_long ys x in omega arith
 
 pub opens_snoc : (xs : List Counter) (x : Counter) (u l : ℕ) → x.count ≡ record { units = u; left = l } → u ≤ 4611686018427387904 → l ≤ 1073741824 → x.log.items ≡ [] → EachOpens xs → EachOpens (xs ++ x ∷ [])
 opens_snoc [] x u l is a b e o = (subst (λ (c : Count). c.units ≤ 4611686018427387904) (sym is) a, subst (λ (c : Count). c.left ≤ 1073741824) (sym is) b, e, tt)

@@ -1,10 +1,11 @@
 -- A plain script can be routed.
 use Rattle.std.proofs.Common.{◌≡◌, ℕ, zero, suc, ◌+◌, ◌<◌, ◌≤◌, ◌==◌, Bool, true, false, cond, ◌&&◌, ◌||◌, not, List, [], ◌∷◌, length, take, filter, min, Option, Some, None, refl, ap, sym, ◌∙◌, arith, eqb-true, ne_eqb, length-take}
 use Rattle.std.specs.Prelude.{slice_get, nat_lt, nat_le}
-use Rattle.std.specs.Bool.{OnTrue}
 use Rattle.std.specs.List.{list_all, list_any}
-use Rattle.std.proofs.lemmas.Bool.{lt-ltb, leb-true}
+use Rattle.std.proofs.lemmas.Bool.{lt-ltb, leb-true, and_from, not_from_false}
 use Rattle.std.proofs.lemmas.Option.{slice_get_within}
+use Rattle.be_facts.proofs.Truths.{and_first, and_second}
+use Rattle.be_facts.proofs.Lists.{all_at}
 use Rattle.be_handler.specs.declared.Rule.{Rule}
 use Rattle.be_handler.specs.declared.Rule.TheVariants.{Skip, Pass, Redirect}
 use Rattle.be_handler.specs.Growth.{is_there, has_owner, has_end, is_place, listed}
@@ -21,8 +22,7 @@ use Rattle.be_script.specs.Programs.{view_count}
 use Rattle.be_script.specs.Routable.{IsRoutable, views_before, filters_before, bodies_before, can_add_view, can_add_filter, can_add_body}
 use Rattle.be_script.specs.Script.{Declared}
 use Rattle.be_script.specs.Windows.{chain_of, body_lines, declared_filter, declared_body}
-use Rattle.be_script.proofs.RoutableLemmas.{all-at, and-both, parents-count, listed-is, bodies-count, has_body-any, not-false}
-use Rattle.be_script.proofs.WorkNumbers.{and-left, and-right}
+use Rattle.be_script.proofs.RoutableLemmas.{parents-count, listed-is, bodies-count, has_body-any}
 
 -- ---- lists
 
@@ -98,19 +98,19 @@ rises n low (x ∷ xs) zero line h at =
     let a = nat_lt x.window n in
     let b = is_near x.target in
     let c = nat_le low x.what in
-    let abc = and-left ((a && b) && c) (are_plain_bodies n (x.what + 1) xs) h in
-    let ab = and-left (a && b) c abc in (
-      ap (λ (y : BodyLine). nat_lt y.window n) (sym same) ∙ and-left a b ab,
-      ap (λ (y : BodyLine). is_near y.target) (sym same) ∙ and-right a b ab,
-      leb-true low line.what (ap (λ (y : BodyLine). nat_le low y.what) (sym same) ∙ and-right (a && b) c abc),
+    let abc = and_first ((a && b) && c) (are_plain_bodies n (x.what + 1) xs) h in
+    let ab = and_first (a && b) c abc in (
+      ap (λ (y : BodyLine). nat_lt y.window n) (sym same) ∙ and_first a b ab,
+      ap (λ (y : BodyLine). is_near y.target) (sym same) ∙ and_second a b ab,
+      leb-true low line.what (ap (λ (y : BodyLine). nat_le low y.what) (sym same) ∙ and_second (a && b) c abc),
       refl,
     )
 rises n low (x ∷ xs) (suc k) line h at =
     let a = nat_lt x.window n in
     let b = is_near x.target in
     let c = nat_le low x.what in
-    let first : low ≤ x.what = leb-true low x.what (and-right (a && b) c (and-left ((a && b) && c) (are_plain_bodies n (x.what + 1) xs) h)) in
-    let rest = rises n (x.what + 1) xs k line (and-right ((a && b) && c) (are_plain_bodies n (x.what + 1) xs) h) at in
+    let first : low ≤ x.what = leb-true low x.what (and_second (a && b) c (and_first ((a && b) && c) (are_plain_bodies n (x.what + 1) xs) h)) in
+    let rest = rises n (x.what + 1) xs k line (and_second ((a && b) && c) (are_plain_bodies n (x.what + 1) xs) h) at in
     let above : x.what + 1 ≤ line.what = rest.2 in
     let apart : (x.what == line.what) ≡ false = ne_eqb x.what line.what (λ e. let same : x.what ≡ line.what = e in absurd (omega arith)) in
     (rest.0, rest.1, omega arith, rw apart rest.3)
@@ -125,10 +125,10 @@ body-fits d k line at most facts =
     let apart : has_body c line.what line.target ≡ false =
     has_body-any (bodies_before d k) w line.target line.what
     ∙ none_weaker (λ other. other.what == line.what) (λ other. same_target other.target line.target && other.what == line.what) (λ other. other.window == w)
-    (λ other. and-right (same_target other.target line.target) (other.what == line.what)) (take k d.bodies) facts.3 in
-    and-both (is_there c line.target && not (has_body c line.what line.target)) (nat_lt (length c.bodies) 512)
-    (and-both (is_there c line.target) (not (has_body c line.what line.target)) (near_there c line.target (some_view (bodies_before d k) w) facts.1)
-    (not-false (has_body c line.what line.target) apart))
+    (λ other. and_second (same_target other.target line.target) (other.what == line.what)) (take k d.bodies) facts.3 in
+    and_from (is_there c line.target && not (has_body c line.what line.target)) (nat_lt (length c.bodies) 512)
+    (and_from (is_there c line.target) (not (has_body c line.what line.target)) (near_there c line.target (some_view (bodies_before d k) w) facts.1)
+    (not_from_false (has_body c line.what line.target) apart))
     (lt-ltb (length c.bodies) 512 (omega arith))
 
 -- ---- views and filters
@@ -140,7 +140,7 @@ view-fits d k line at most first =
     let parents = length (chain_of (views_before d k) w).parents in
     let fewer : length (filter (λ other. other.window == w) (take k d.views)) < length d.views = kept_before (λ other. other.window == w) d.views k line at in
     let count : parents ≡ length (filter (λ other. other.window == w) (take k d.views)) + 1 = parents-count (views_before d k) w in
-    and-both (nat_lt line.parent parents) (nat_lt parents 32) (lt-ltb line.parent parents (omega arith)) (lt-ltb parents 32 (omega arith))
+    and_from (nat_lt line.parent parents) (nat_lt parents 32) (lt-ltb line.parent parents (omega arith)) (lt-ltb parents 32 (omega arith))
 
 filter-fits : (d : Declared) (k : ℕ) (line : FilterLine) → slice_get d.filters k ≡ Some line → length d.filters ≤ 32 → is_common line.list ≡ true → leads_near line.rule ≡ true →
     can_add_filter (chain_of (filters_before d k) line.window) (declared_filter line) ≡ true
@@ -150,8 +150,8 @@ filter-fits d k line at most list rule =
     let test : FilterLine → Bool = λ other. other.window == w && same_list other.list line.list in
     let fewer : length (filter test (take k d.filters)) < length d.filters = kept_before test d.filters k line at in
     let count : length (listed c line.list) ≡ length (filter test (take k d.filters)) = listed-is d k w line.list in
-    and-both (is_place c line.list line.rule) (nat_lt (length (listed c line.list)) 32)
-    (and-both (has_owner c line.list) (has_end c line.rule) (owner_common c line.list list) (near_end c line.rule (some_view (filters_before d k) w) rule))
+    and_from (is_place c line.list line.rule) (nat_lt (length (listed c line.list)) 32)
+    (and_from (has_owner c line.list) (has_end c line.rule) (owner_common c line.list list) (near_end c line.rule (some_view (filters_before d k) w) rule))
     (lt-ltb (length (listed c line.list)) 32 (omega arith))
 
 -- ---- all of a script
@@ -164,20 +164,20 @@ plain-routable d windows views all_views handlers filters all_filters bodies all
     record {
       windows = omega arith;
       views = λ k line at.
-          let h = all-at (is_plain_view n) d.views k line all_views at in
-          and-both (is_window d line.window) (can_add_view (chain_of (views_before d k) line.window) line.parent) (and-left (is_window d line.window) (line.parent == 0) h)
-          (view-fits d k line at views (eqb-true line.parent 0 (and-right (is_window d line.window) (line.parent == 0) h)));
+          let h = all_at (is_plain_view n) d.views k line all_views at in
+          and_from (is_window d line.window) (can_add_view (chain_of (views_before d k) line.window) line.parent) (and_first (is_window d line.window) (line.parent == 0) h)
+          (view-fits d k line at views (eqb-true line.parent 0 (and_second (is_window d line.window) (line.parent == 0) h)));
       handlers = λ k line at.
           let within : k < length d.handlers = slice_get_within d.handlers k line at in
           absurd (omega arith);
       filters = λ k line at.
-          let h = all-at (is_plain_filter n) d.filters k line all_filters at in
-          let front = and-left (is_window d line.window && is_common line.list) (leads_near line.rule) h in
-          and-both (is_window d line.window) (can_add_filter (chain_of (filters_before d k) line.window) (declared_filter line)) (and-left (is_window d line.window) (is_common line.list) front)
-          (filter-fits d k line at filters (and-right (is_window d line.window) (is_common line.list) front) (and-right (is_window d line.window && is_common line.list) (leads_near line.rule) h));
+          let h = all_at (is_plain_filter n) d.filters k line all_filters at in
+          let front = and_first (is_window d line.window && is_common line.list) (leads_near line.rule) h in
+          and_from (is_window d line.window) (can_add_filter (chain_of (filters_before d k) line.window) (declared_filter line)) (and_first (is_window d line.window) (is_common line.list) front)
+          (filter-fits d k line at filters (and_second (is_window d line.window) (is_common line.list) front) (and_second (is_window d line.window && is_common line.list) (leads_near line.rule) h));
       bodies = λ k line at.
           let facts = rises n 0 d.bodies k line all_bodies at in
-          and-both (is_window d line.window) (can_add_body (chain_of (bodies_before d k) line.window) (declared_body line)) facts.0 (body-fits d k line at bodies facts);
+          and_from (is_window d line.window) (can_add_body (chain_of (bodies_before d k) line.window) (declared_body line)) facts.0 (body-fits d k line at bodies facts);
       draws = draws;
     }
 
@@ -194,7 +194,3 @@ plain-read d n views filters bodies draws count is_views is_filters is_bodies is
     (sym (ap (λ k. list_all (is_plain_filter k) filters) count ∙ ap (list_all (is_plain_filter m)) is_filters) ∙ h) f
     (sym (ap (λ k. are_plain_bodies k 0 bodies) count ∙ ap (are_plain_bodies m 0) is_bodies) ∙ i)
     (sym (ap (λ k. list_all (is_plain_draw k) draws) count ∙ ap (list_all (is_plain_draw m)) is_draws) ∙ j)
-
-pub on-true : (b : Bool) (P : Type 0) → (b ≡ true → P) → OnTrue b P
-on-true true P h = h refl
-on-true false P h = tt

@@ -1,11 +1,12 @@
 -- A run may begin with the counters of the start.
-use Rattle.std.proofs.Common.{◌≡◌, ℕ, zero, suc, ◌+◌, ◌*◌, ◌<◌, ◌≤◌, true, false, nat_lt, ◌==◌, if◌then◌else◌, List, [], ◌∷◌, ◌++◌, length, map, sym, refl, ap, ◌∙◌, arith}
+use Rattle.std.proofs.Common.{◌≡◌, ℕ, zero, suc, ◌+◌, ◌*◌, ◌<◌, ◌≤◌, true, false, nat_lt, ◌==◌, if◌then◌else◌, List, [], ◌∷◌, ◌++◌, length, sym, refl, ap, ◌∙◌, arith}
 use Rattle.std.proofs.lemmas.Bool.{not_from_true, both_ways, cond-false, cond_both, le-ltb}
 use mathlib.Core.Option.{some}
 use mathlib.Core.Logic.{dite}
 use native.Mathlib.Decide.{dec_le}
 use lib.ListN.{get_elem?}
 use Rattle.atomic_table.proofs.Lists.{at_last, at_longer}
+use Rattle.be_facts.proofs.Lists.{length_push}
 use Rattle.be_hall.specs.Numbers.{total}
 use Rattle.be_hall.specs.Machine.{AllFit}
 use Rattle.small_world.specs.declared.step.Count.{Count}
@@ -14,15 +15,6 @@ use Rattle.small_world.specs.Counting.{closing_place, work_of, has_work, is_clos
 use Rattle.small_world.specs.Opening.{opening_count, opening_below, opening_counts}
 use Rattle.small_world.specs.Changing.{has_at, Fit}
 use Rattle.small_world.specs.Laws.{work_units}
-
-pub map_snoc : {A B : Type 0} (f : A → B) (xs : List A) (x : A)
-    → map f (xs ++ x ∷ []) ≡ map f xs ++ f x ∷ []
-map_snoc f [] x = refl
-map_snoc f (y ∷ ys) x = ap (λ l. f y ∷ l) (map_snoc f ys x)
-
-pub more_long : {A : Type 0} (xs : List A) (x : A) → length (xs ++ x ∷ []) ≡ length xs + 1
-more_long [] x = refl
-more_long (y ∷ ys) x = let r = more_long ys x in omega arith
 
 total_snoc : (f : Count → ℕ) (xs : List Count) (x : Count)
     → total f (xs ++ x ∷ []) ≡ total f xs + f x
@@ -45,7 +37,7 @@ module _ (w : World) (each stored : ℕ) where
   opening_long : (k : ℕ) → length (opening_below w each stored k) ≡ k
   opening_long zero = refl
   opening_long (suc k) =
-      let m = more_long (opening_below w each stored k) (opening_count w each stored k) in
+      let m = length_push (opening_below w each stored k) (opening_count w each stored k) in
       let r = opening_long k in omega arith
 
   opening_at : (k p : ℕ) → p < k

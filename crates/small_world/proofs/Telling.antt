@@ -1,8 +1,9 @@
 -- What counters in hand tell of all of them.
-use Rattle.std.proofs.Common.{◌≡◌, ℕ, zero, suc, ◌+◌, ◌<◌, ◌≤◌, inl, inr, ⊎_elim, Bool, true, false, not, ◌&&◌, nat_lt, List, [], ◌∷◌, Option, Some, None, option_map, if◌then◌else◌, sym, refl, ap, ◌∙◌, subst, arith}
+use Rattle.std.proofs.Common.{◌≡◌, ℕ, zero, suc, ◌+◌, ◌<◌, ◌≤◌, inl, inr, ⊎_elim, Bool, true, false, not, ◌&&◌, nat_lt, List, [], ◌∷◌, Some, None, option_map, if◌then◌else◌, sym, refl, ap, ◌∙◌, subst, arith}
 use Rattle.std.proofs.lemmas.Bool.{and_from, lt-ltb, le-ltb, not_from_false, both_ways, false_from_ne_true, cond-true, cond-false}
 use mathlib.Core.Logic.{dite}
 use native.Mathlib.Decide.{dec_le}
+use Rattle.be_facts.proofs.Lists.{no_part, some_part}
 use Rattle.be_hall.specs.Hands.{part_at, meant, places_of, up_from}
 use Rattle.be_hall.specs.Machine.{Fits, IsHeld, IsReady}
 use Rattle.be_hall.proofs.Holding.{fits_at, not_held, part_held, held_part}
@@ -17,15 +18,6 @@ use Rattle.small_world.specs.Counters.{count_of}
 use Rattle.small_world.specs.InHand.{told_work}
 use Rattle.small_world.specs.Changing.{has_at}
 use Rattle.small_world.specs.Laws.{gives, uses, closes, idle_at, idle_from, may_wish}
-
-pub some_part : {A B : Type 0} (f : A → B) (o : Option A) (k : B) → option_map f o ≡ Some k
-    → (x : A) × (o ≡ Some x) × (f x ≡ k)
-some_part f None k e = absurd (cc)
-some_part f (Some x) k e = (x, refl, (cc))
-
-pub no_part : {A B : Type 0} (f : A → B) (o : Option A) → option_map f o ≡ None → o ≡ None
-no_part f None e = refl
-no_part f (Some x) e = absurd (cc)
 
 pub some_if : (b : Bool) (v : Step) → is_some (if b then Some v else None) ≡ b
 some_if true v = refl

@@ -2,9 +2,9 @@ use Rattle.std.proofs.Common.{rules, ◌+◌, ◌-◌, length, suc, option_map, 
 use Rattle.std.proofs.Common.{arith}
 use Rattle.be_archive.specs.Reading.{views_from}
 use Rattle.be_archive.specs.Rows.{seen_row}
-use Rattle.be_archive.proofs.Depths.{length_more}
 use Rattle.be_archive.proofs.Read.{can, goes_on, left}
 use Rattle.be_message.specs.Views.{seen_fields}
+use Rattle.be_views.proofs.TreeLemmas.{length_more}
 use Rattle.be_archive.proofs.reading.build.Goals as goal
 
 pub add-requires-clause-follows : goal.add-requires-clause-follows

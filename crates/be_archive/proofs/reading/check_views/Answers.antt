@@ -5,11 +5,11 @@ use Rattle.std.proofs.lemmas.List.{length-set}
 use Rattle.be_archive.specs.Reading.{views_from}
 use Rattle.std.specs.Prelude.{slice_set, unwrap_or}
 use Rattle.be_archive.specs.Rows.{DepthsAre, seen_row}
-use Rattle.be_archive.proofs.Depths.{depth_of_root, depths_more, length_more}
+use Rattle.be_archive.proofs.Depths.{depth_of_root, depths_more}
 use Rattle.be_archive.proofs.Read.{ends, follows, goes_on, left, read_view}
 use Rattle.be_message.specs.Views.{seen_fields}
 use Rattle.be_views.specs.Whole.{depth_of, root_view}
-use Rattle.be_views.proofs.TreeLemmas.{tree_of_one, tree_of_push}
+use Rattle.be_views.proofs.TreeLemmas.{tree_of_one, tree_of_push, length_more}
 use Rattle.be_archive.proofs.reading.check_views.Goals as goal
 
 ones : List ℕ

@@ -7,8 +7,8 @@ use Rattle.be_message.specs.Messages.{Field, Message}
 use Rattle.be_message.specs.Sound.{kind_of}
 use Rattle.be_message.specs.Views.{seen_value}
 use Rattle.be_views.specs.Trees.{View}
+use Rattle.be_views.proofs.TreeLemmas.{view_there}
 use Rattle.be_archive.proofs.Written.{all_further, grown, kind_is, one_further, same_message}
-use Rattle.be_archive.proofs.Written.{view_there}
 use Rattle.be_archive.proofs.writing.add_column.Goals as goal
 
 pub value-requires : goal.value-requires

@@ -2,10 +2,9 @@ use Rattle.std.proofs.Common.{◌≡◌, true, Some, sym, ap, subst, ◌∙◌}
 use Rattle.std.specs.Prelude.{◌==◌, length}
 use Rattle.std.proofs.lemmas.Result.{IfOk-weaker, err_from_is_err_and}
 use Rattle.std.specs.List.{list_all, range_with_len}
+use Rattle.be_facts.proofs.Numbers.{eq_false, eq_self}
 use Rattle.be_machine.specs.Closing.{all_quiet}
 use Rattle.be_machine.specs.Program.{has_ended}
-use Rattle.be_machine.proofs.Lists.{is_same_number}
-use Rattle.be_machine.proofs.ProgressPlaces.{other_place}
 use Rattle.be_machine.specs.Touched as part
 use Rattle.be_parts.specs.declared.part.Part.TheVariants as kinds
 use Rattle.be_script.specs.Script.{declared_by}
@@ -32,7 +31,7 @@ pub returns-then-used-len-clause-told : goal.returns-then-used-len-clause-told
 returns-then-used-len-clause-told c =
     let long : c.len.result ≡ length (declared_by c.args.script.now).input = c.len.ensures ∙ c.args.script.now.input.ok.0 in
     not_used (declared_by c.args.script.now) c.args.held.now.parts (kinds.Input c.in_ok-input.input.now) c.in_ok-input.ensures.there c.used.result c.used.ensures
-    (other_place c.used.result (length (declared_by c.args.script.now).input) (λ same. c.if-used-len.true (same ∙ sym long)))
+    (eq_false c.used.result (length (declared_by c.args.script.now).input) (λ same. c.if-used-len.true (same ∙ sym long)))
 
 pub returns-then-not-branch-clause-told : goal.returns-then-not-branch-clause-told
 returns-then-not-branch-clause-told c =
@@ -42,7 +41,7 @@ returns-then-not-branch-clause-told c =
 pub returns-clause-told : goal.returns-clause-told
 returns-clause-told c =
     let long : c.len.result ≡ length (declared_by c.args.script.now).input = c.len.ensures ∙ c.args.script.now.input.ok.0 in
-    let used : (c.used.result == length (declared_by c.args.script.now).input) ≡ true = ap (λ k. k == length (declared_by c.args.script.now).input) (c.if-used-len.false ∙ long) ∙ is_same_number (length (declared_by c.args.script.now).input) in
+    let used : (c.used.result == length (declared_by c.args.script.now).input) ≡ true = ap (λ k. k == length (declared_by c.args.script.now).input) (c.if-used-len.false ∙ long) ∙ eq_self (length (declared_by c.args.script.now).input) in
     IfOk-weaker c.all_quiet.result (Tells (declared_by c.args.script.now) c.args.held.now.parts all_quiet) (Tells (declared_by c.args.script.now) c.args.held.now.parts (can_stop (declared_by c.args.script.now)))
     (λ quiet told. all_told (declared_by c.args.script.now) c.args.held.now.parts (kinds.Input c.in_ok-input.input.now) c.in_ok-input.ensures.there c.used.result c.used.ensures (c.has_stopped.ensures ∙ ap Some c.if-has_stopped.false) used true quiet
     (subst (Tells (declared_by c.args.script.now) c.args.held.now.parts (λ s. list_all (has_ended (declared_by c.args.script.now) s) (range_with_len 0 (length s.apps)))) c.if-not-branch.false c.in_ok-all_ended.ensures.told) told)

@@ -2,12 +2,13 @@ use Rattle.std.proofs.Common.{◌≡◌, ℤ, ◌+ℤ◌, ◌-ℤ◌, ◌≤ℤ�
 use Rattle.std.proofs.Common.{sym, ◌∙◌, rules, arith}
 use Rattle.std.specs.Int.{int_min}
 use Rattle.std.proofs.lemmas.Int.{to_z-of_z, ints, clamps}
+use Rattle.be_facts.proofs.Numbers.{fits_16}
 use Rattle.be_geom.specs.Points.{between}
 use Rattle.be_shape.specs.Rows.{row_has}
 use Rattle.be_shape.proofs.BetweenLemmas.{not_above, not_below}
 use Rattle.be_descent.specs.Drawing.{may_draw}
 use Rattle.be_descent.specs.Inks.{shape_has}
-use Rattle.be_descent.proofs.FitLemmas.{IsRowFrom, fits_16, fits_32}
+use Rattle.be_descent.proofs.FitLemmas.{IsRowFrom, fits_32}
 use Rattle.be_descent.proofs.PaintLemmas.{same_painted}
 use Rattle.be_descent.proofs.RegionLemmas.{in_band}
 use Rattle.be_descent.proofs.bands.paint_band.Given.{Over}

@@ -2,7 +2,8 @@ use Rattle.std.proofs.Common.{◌≡◌, pos, ◌+ℤ◌, ◌≤ℤ◌, SFits, w
 use Rattle.std.proofs.Common.{rules, arith}
 use Rattle.std.specs.Int.{int_min}
 use Rattle.std.proofs.lemmas.Int.{to_z-of_z, ints, clamps}
-use Rattle.be_descent.proofs.FitLemmas.{IsRowFrom, fits_16, fits_32}
+use Rattle.be_facts.proofs.Numbers.{fits_16}
+use Rattle.be_descent.proofs.FitLemmas.{IsRowFrom, fits_32}
 use Rattle.be_descent.proofs.line.paint_part.Given.{Over}
 use Rattle.be_descent.proofs.line.paint_part.Goals as goal
 use Rattle.be_descent.proofs.line.paint_part.Goals.{After-min-end}

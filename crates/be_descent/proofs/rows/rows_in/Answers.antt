@@ -1,7 +1,8 @@
 use Rattle.std.proofs.Common.{◌≡◌, ◌+ℤ◌, ◌≤ℤ◌, ◌<ℤ◌, SFits, w16, w32, rules, arith}
 use Rattle.std.specs.Int.{int_max, int_min}
 use Rattle.std.proofs.lemmas.Int.{to_z-of_z, ints, clamps}
-use Rattle.be_descent.proofs.FitLemmas.{fits_16, fits_32}
+use Rattle.be_facts.proofs.Numbers.{fits_16}
+use Rattle.be_descent.proofs.FitLemmas.{fits_32}
 use Rattle.be_descent.proofs.RowLemmas.{no_rows, rows_are}
 use Rattle.be_descent.proofs.rows.rows_in.Goals as goal
 use Rattle.be_descent.proofs.rows.rows_in.Goals.{After-min-bottom}

@@ -1,8 +1,9 @@
 -- The run of the tree, on the screen.
 use Rattle.std.proofs.Common.{◌≡◌, ◌-ℤ◌, rules, SFits, w16, w32}
 use Rattle.std.proofs.lemmas.Int.{to_z-of_z}
+use Rattle.be_geom.proofs.StretchLemmas.{less_fits}
 use Rattle.be_views.specs.Pixels.{view_at}
-use Rattle.be_desk.proofs.StretchLemmas.{less_fits, moved_run}
+use Rattle.be_desk.proofs.StretchLemmas.{moved_run}
 use Rattle.be_desk.proofs.kept.view_run.Goals as goal
 
 pub returns-clause-answer : goal.returns-clause-answer

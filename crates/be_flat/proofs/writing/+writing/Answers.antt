@@ -5,10 +5,11 @@ use Rattle.be_message.specs.Depths.{values_depth}
 use Rattle.be_message.specs.Messages as messages
 use Rattle.be_message.specs.Messages.{all_values}
 use Rattle.be_message.specs.Views.{seen_value, seen_field}
+use Rattle.be_message.proofs.SoundLemmas.{count_is, values_are}
 use Rattle.be_flat.specs.Codes.{code_of}
 use Rattle.be_flat.specs.Grammar.{SpellsValues}
 use Rattle.be_flat.specs.Writing.{Appends}
-use Rattle.be_flat.proofs.Spelling.{field_count-all, value_count-all, value_left, next_value, every_value, field_left, alone, next_field, every_field, whole_field, whole_message}
+use Rattle.be_flat.proofs.Spelling.{value_left, next_value, every_value, field_left, alone, next_field, every_field, whole_field, whole_message}
 use Rattle.be_flat.proofs.writing.+writing.Goals as goal
 
 -- ---- a message
@@ -16,7 +17,7 @@ use Rattle.be_flat.proofs.writing.+writing.Goals as goal
 pub append_message-overflow_cast-field_count : goal.append_message-overflow_cast-field_count
 append_message-overflow_cast-field_count t c =
     let m = c.args.message.now in
-    omega (arith, c.what.ensures.limits.sound.1, field_count-all m.fields, c.field_count.ensures)
+    omega (arith, c.what.ensures.limits.sound.1, count_is m.fields, c.field_count.ensures)
 
 pub append_message-returns : goal.append_message-returns
 append_message-returns t c =
@@ -45,7 +46,7 @@ append_fields-returns t c =
 pub append_field-overflow_cast-values : goal.append_field-overflow_cast-values
 append_field-overflow_cast-values t c =
     let f = seen_field c.args.field.now in
-    omega (arith, c.requires.3, value_count-all f.values, ap length c.values.ensures, length-map c.values.result.now seen_value)
+    omega (arith, c.requires.3, values_are f.values, ap length c.values.ensures, length-map c.values.result.now seen_value)
 
 pub append_field-returns : goal.append_field-returns
 append_field-returns t c =

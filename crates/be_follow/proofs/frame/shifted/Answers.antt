@@ -1,8 +1,8 @@
 use Rattle.std.proofs.Common.{arith, ◌≡◌, false, true, ◌+ℤ◌}
 use Rattle.std.proofs.lemmas.Int.{ints, to_z-of_z}
 use Rattle.be_geom.specs.Points.{in_range}
-use Rattle.be_geom.proofs.RectLemmas.{none_fails}
-use Rattle.be_follow.proofs.FrameLemmas.{same_rects, right_leaves, bottom_leaves}
+use Rattle.be_geom.proofs.RectLemmas.{none_fails, same_rects}
+use Rattle.be_follow.proofs.FrameLemmas.{right_leaves, bottom_leaves}
 use Rattle.be_follow.proofs.frame.shifted.Goals as goal
 
 pub returns-in_err-moved-3-clause-out : goal.returns-in_err-moved-3-clause-out

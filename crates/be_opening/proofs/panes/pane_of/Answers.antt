@@ -3,7 +3,8 @@ use Rattle.std.proofs.Common.{length, List, ap, sym, ◌∙◌}
 use Rattle.be_color.specs.declared.colors.Color.{Color}
 use Rattle.be_script.specs.Script.{declared_by}
 use Rattle.be_views.specs.Trees.{Tree}
-use Rattle.be_opening.proofs.Colored.{as_many, line_framed}
+use Rattle.be_script.proofs.FrameLemmas.{line_framed}
+use Rattle.be_machine.proofs.FittedSteps.{as_many}
 use Rattle.be_opening.proofs.Shown.{new_shows}
 use Rattle.be_opening.proofs.panes.pane_of.Goals as goal
 

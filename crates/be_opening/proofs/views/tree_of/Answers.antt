@@ -6,7 +6,8 @@ use Rattle.std.proofs.lemmas.Int.{to_z-of_z}
 use Rattle.std.proofs.lemmas.List.{take_all}
 use Rattle.be_script.specs.Windows.{declared_view, root_view, tree_of}
 use Rattle.be_script.specs.declared.ViewLine.{ViewLine}
-use Rattle.be_opening.proofs.Colored.{frame_sized, other_more, own_more}
+use Rattle.be_script.proofs.FrameLemmas.{frame_sized}
+use Rattle.be_opening.proofs.Colored.{other_more, own_more}
 use Rattle.be_opening.proofs.views.tree_of.Goals as goal
 use Rattle.be_opening.proofs.views.tree_of.Goals.{then-view-w+in-Ok, else-view-w}
 

@@ -1,7 +1,8 @@
 use Rattle.std.proofs.Common.{◌≡◌, rules, arith, SFits, w32}
 use Rattle.std.specs.Int.{int_max, int_min}
 use Rattle.std.proofs.lemmas.Int.{to_z-of_z, ints, clamps}
-use Rattle.be_paint.proofs.AreaLemmas.{inner_is, inner_none, between_fits}
+use Rattle.be_facts.proofs.Numbers.{fits_between}
+use Rattle.be_paint.proofs.AreaLemmas.{inner_is, inner_none}
 use Rattle.be_paint.proofs.area.span_within.Goals as goal
 
 pub overflow_cast-result : goal.overflow_cast-result
@@ -19,8 +20,8 @@ overflow_cast-result c =
     let start : c.max-first.result ≡ int_max c.args.first c.args.low = simp to_z-of_z at (rw low at c.max-first.ensures.value) in
     let end : c.min-last.result ≡ int_min c.args.last c.args.high = simp to_z-of_z at (rw high at c.min-last.ensures.value) in
     let test = simp to_z-of_z at c.if-first-last.true in
-    let start_fits = between_fits c.max-first.result c.args.low c.args.high b h (omega (arith, ints, clamps)) (omega (arith, ints, clamps)) in
-    let end_fits = between_fits c.min-last.result c.args.low c.args.high b h (omega (arith, ints, clamps)) (omega (arith, ints, clamps)) in
+    let start_fits = fits_between c.max-first.result c.args.low c.args.high b h (omega (arith, ints, clamps)) (omega (arith, ints, clamps)) in
+    let end_fits = fits_between c.min-last.result c.args.low c.args.high b h (omega (arith, ints, clamps)) (omega (arith, ints, clamps)) in
     simp to_z-of_z start_fits
 
 pub overflow_cast-result-then-first-last : goal.overflow_cast-result-then-first-last
@@ -38,8 +39,8 @@ overflow_cast-result-then-first-last c =
     let start : c.max-first.result ≡ int_max c.args.first c.args.low = simp to_z-of_z at (rw low at c.max-first.ensures.value) in
     let end : c.min-last.result ≡ int_min c.args.last c.args.high = simp to_z-of_z at (rw high at c.min-last.ensures.value) in
     let test = simp to_z-of_z at c.if-first-last.true in
-    let start_fits = between_fits c.max-first.result c.args.low c.args.high b h (omega (arith, ints, clamps)) (omega (arith, ints, clamps)) in
-    let end_fits = between_fits c.min-last.result c.args.low c.args.high b h (omega (arith, ints, clamps)) (omega (arith, ints, clamps)) in
+    let start_fits = fits_between c.max-first.result c.args.low c.args.high b h (omega (arith, ints, clamps)) (omega (arith, ints, clamps)) in
+    let end_fits = fits_between c.min-last.result c.args.low c.args.high b h (omega (arith, ints, clamps)) (omega (arith, ints, clamps)) in
     simp to_z-of_z end_fits
 
 pub returns-then-first-last-clause-both : goal.returns-then-first-last-clause-both
@@ -57,8 +58,8 @@ returns-then-first-last-clause-both c =
     let start : c.max-first.result ≡ int_max c.args.first c.args.low = simp to_z-of_z at (rw low at c.max-first.ensures.value) in
     let end : c.min-last.result ≡ int_min c.args.last c.args.high = simp to_z-of_z at (rw high at c.min-last.ensures.value) in
     let test = simp to_z-of_z at c.if-first-last.true in
-    let start_fits = between_fits c.max-first.result c.args.low c.args.high b h (omega (arith, ints, clamps)) (omega (arith, ints, clamps)) in
-    let end_fits = between_fits c.min-last.result c.args.low c.args.high b h (omega (arith, ints, clamps)) (omega (arith, ints, clamps)) in
+    let start_fits = fits_between c.max-first.result c.args.low c.args.high b h (omega (arith, ints, clamps)) (omega (arith, ints, clamps)) in
+    let end_fits = fits_between c.min-last.result c.args.low c.args.high b h (omega (arith, ints, clamps)) (omega (arith, ints, clamps)) in
     simp to_z-of_z (inner_is c.args.first c.args.last c.args.low c.args.high c.max-first.result c.min-last.result start end)
 
 pub returns-then-first-last-clause-some : goal.returns-then-first-last-clause-some
@@ -76,8 +77,8 @@ returns-then-first-last-clause-some c =
     let start : c.max-first.result ≡ int_max c.args.first c.args.low = simp to_z-of_z at (rw low at c.max-first.ensures.value) in
     let end : c.min-last.result ≡ int_min c.args.last c.args.high = simp to_z-of_z at (rw high at c.min-last.ensures.value) in
     let test = simp to_z-of_z at c.if-first-last.true in
-    let start_fits = between_fits c.max-first.result c.args.low c.args.high b h (omega (arith, ints, clamps)) (omega (arith, ints, clamps)) in
-    let end_fits = between_fits c.min-last.result c.args.low c.args.high b h (omega (arith, ints, clamps)) (omega (arith, ints, clamps)) in
+    let start_fits = fits_between c.max-first.result c.args.low c.args.high b h (omega (arith, ints, clamps)) (omega (arith, ints, clamps)) in
+    let end_fits = fits_between c.min-last.result c.args.low c.args.high b h (omega (arith, ints, clamps)) (omega (arith, ints, clamps)) in
     simp to_z-of_z (omega (arith, ints))
 
 pub returns-else-first-last-clause-none : goal.returns-else-first-last-clause-none

@@ -1,10 +1,10 @@
 use Rattle.std.proofs.Common.{◌≡◌, ℤ, pos, ◌+ℤ◌, ◌-ℤ◌, rules, arith, SFits, w32, to_z, List, refl, sym, ap, subst, ◌∙◌}
 use Rattle.std.proofs.lemmas.Int.{to_z-of_z, ints}
+use Rattle.be_facts.proofs.Numbers.{unsigned_abs_less}
 use Rattle.be_geom.specs.declared.rect.Rect.{Rect}
 use Rattle.be_paint.specs.Moving.{change_at}
 use Rattle.be_geom.specs.Stretches.{IsStretch}
 use Rattle.be_paint.proofs.MovingLemmas.{copied_owned, moved_run, left_first, right_first}
-use Rattle.be_paint.proofs.RowLemmas.{abs_less}
 use Rattle.be_paint.proofs.copies.+copy_part.Goals as goal
 
 -- ---- a run up to the end
@@ -53,7 +53,7 @@ copy_part-requires t c =
     let low = c.requires.left.0 in
     let high = c.requires.right.1 in
     let next : SFits w32 (middle +ℤ pos 1) = search rules in
-    let less = abs_less (c.args.end -ℤ (middle +ℤ pos 1)) (c.args.end -ℤ c.args.x) (omega (arith, ints)) (omega (arith, ints)) in
+    let less = unsigned_abs_less (c.args.end -ℤ (middle +ℤ pos 1)) (c.args.end -ℤ c.args.x) (omega (arith, ints)) (omega (arith, ints)) in
     simp to_z-of_z (omega (arith, less, c.decreases), (c.requires.movable, (c.requires.row, ((omega (arith, ints), omega (arith, ints)), (omega (arith, ints), c.requires.right)))))
 
 pub copy_part-requires-then-copying-gt0 : goal.copy_part-requires-then-copying-gt0
@@ -69,7 +69,7 @@ copy_part-requires-then-copying-gt0 t c =
     let low = c.requires.left.0 in
     let high = c.requires.right.1 in
     let next : SFits w32 (middle +ℤ pos 1) = search rules in
-    let less = abs_less (middle -ℤ c.args.x) (c.args.end -ℤ c.args.x) (omega (arith, ints)) (omega (arith, ints)) in
+    let less = unsigned_abs_less (middle -ℤ c.args.x) (c.args.end -ℤ c.args.x) (omega (arith, ints)) (omega (arith, ints)) in
     simp to_z-of_z (omega (arith, less, c.decreases), (c.requires.movable, (c.requires.row, (c.requires.left, (from, (omega (arith, ints), omega (arith, ints)))))))
 
 pub returns-then-copying-gt0-clause-cells : goal.returns-then-copying-gt0-clause-cells
@@ -105,7 +105,7 @@ copy_part-requires-else-copying-gt0 t c =
     let low = c.requires.left.0 in
     let high = c.requires.right.1 in
     let next : SFits w32 (middle +ℤ pos 1) = search rules in
-    let less = abs_less (middle -ℤ c.args.x) (c.args.end -ℤ c.args.x) (omega (arith, ints)) (omega (arith, ints)) in
+    let less = unsigned_abs_less (middle -ℤ c.args.x) (c.args.end -ℤ c.args.x) (omega (arith, ints)) (omega (arith, ints)) in
     simp to_z-of_z (omega (arith, less, c.decreases), (c.requires.movable, (c.requires.row, (c.requires.left, (from, (omega (arith, ints), omega (arith, ints)))))))
 
 pub copy_part-requires-else-copying-gt0-2 : goal.copy_part-requires-else-copying-gt0-2
@@ -121,7 +121,7 @@ copy_part-requires-else-copying-gt0-2 t c =
     let low = c.requires.left.0 in
     let high = c.requires.right.1 in
     let next : SFits w32 (middle +ℤ pos 1) = search rules in
-    let less = abs_less (c.args.end -ℤ (middle +ℤ pos 1)) (c.args.end -ℤ c.args.x) (omega (arith, ints)) (omega (arith, ints)) in
+    let less = unsigned_abs_less (c.args.end -ℤ (middle +ℤ pos 1)) (c.args.end -ℤ c.args.x) (omega (arith, ints)) (omega (arith, ints)) in
     simp to_z-of_z (omega (arith, less, c.decreases), (c.requires.movable, (c.requires.row, ((omega (arith, ints), omega (arith, ints)), (omega (arith, ints), c.requires.right)))))
 
 pub returns-else-copying-gt0-clause-cells : goal.returns-else-copying-gt0-clause-cells

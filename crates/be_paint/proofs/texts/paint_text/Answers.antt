@@ -9,9 +9,9 @@ use Rattle.be_descent.proofs.RegionLemmas.{none_in_region, region_painted, whole
 use Rattle.be_geom.specs.Points.{between}
 use Rattle.be_geom.specs.Rects.{rect_has}
 use Rattle.be_geom.specs.declared.rect.Rect.{Rect}
+use Rattle.be_geom.proofs.Between.{is_between}
 use Rattle.be_region.specs.Frames.{IsFrame}
 use Rattle.be_region.specs.Regions.{region_has}
-use Rattle.be_shape.proofs.BetweenLemmas.{is_between}
 use Rattle.be_span.specs.Slices.{painted}
 use Rattle.be_paint.specs.Laying.{text_at}
 use Rattle.be_paint.proofs.texts.paint_text.Goals as goal

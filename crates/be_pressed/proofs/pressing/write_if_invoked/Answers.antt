@@ -1,6 +1,7 @@
 -- The letter's window hears it, if there is one.
 use Rattle.std.proofs.Common.{◌≤◌, ℕ, length, subst, arith}
-use Rattle.be_pressed.proofs.Windows.{heard_at, line_at, mapped, no_line_at, none_heard}
+use Rattle.be_facts.proofs.Lists.{on_ok_map}
+use Rattle.be_pressed.proofs.Windows.{heard_at, line_at, no_line_at, none_heard}
 use Rattle.be_pressed.proofs.Windows.{nothing_written, on_any}
 use Rattle.be_pressed.proofs.pressing.write_if_invoked.Goals as goal
 use Rattle.be_script.specs.Script.{declared_by}
@@ -39,7 +40,7 @@ returns-then-invoked-clause-heard c =
 
 pub returns-then-invoked-clause-text : goal.returns-then-invoked-clause-text
 returns-then-invoked-clause-text c =
-    mapped c.write_invoked.result _ _ c.write_invoked.ensures (λ added. λ before was.
+    on_ok_map c.write_invoked.result _ _ c.write_invoked.ensures (λ added. λ before was.
     line_at (declared_by c.args.script.now) before c.args.letter.now c.args.windows.now was
     c.from-window.result c.from-window.ensures c.index-windows-window.result (omega arith)
     c.hear-invoked.result c.hear-invoked.ensures.invoked c.in-View.view c.in-View.is

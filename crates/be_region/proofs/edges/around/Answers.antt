@@ -1,6 +1,6 @@
 use Rattle.std.proofs.Common.{arith}
 use Rattle.std.proofs.lemmas.Int.{ints, clamps}
-use Rattle.be_region.proofs.FrameLemmas.{same_rects}
+use Rattle.be_geom.proofs.RectLemmas.{same_rects}
 use Rattle.be_region.proofs.edges.around.Goals as goal
 
 pub returns : goal.returns

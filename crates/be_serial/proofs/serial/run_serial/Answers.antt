@@ -1,6 +1,7 @@
 use Rattle.std.proofs.Common.{rules, ℕ, suc, ◌≡◌, ◌+◌, ◌<◌, ◌≤◌, true, List, [], ◌∷◌, ◌++◌, All, Some, length, map, vec_capacity, slice_index_or, refl, sym, ap, subst, ◌∙◌, arith}
 use Rattle.std.proofs.lemmas.List.Elements.{All-get_or}
 use Rattle.std.proofs.Math.ListN.{get_or}
+use Rattle.be_facts.proofs.Lists.{map_length, map_map}
 use Rattle.be_hall.specs.Numbers.{total}
 use Rattle.be_hall.specs.Hands.{up_from, numbered}
 use Rattle.be_hall.specs.Machine.{leads}
@@ -8,7 +9,7 @@ use Rattle.be_turns.specs.Turning.{IsFinished, is_some}
 use Rattle.be_serial.specs.Scheduled.{next_draw, draws, place_of, ready_below, Picked}
 use Rattle.be_serial.specs.Running.{Runs}
 use Rattle.be_serial.specs.Known.{AllStale}
-use Rattle.be_serial.proofs.Going.{knows_none, numbered_fits, numbered_places, numbered_fit, numbered_logs, whole, leads_snoc, more_long, closes, draws_next, picked_snoc, all_ready, none_ready, long_map, map_map, no_items}
+use Rattle.be_serial.proofs.Going.{knows_none, numbered_fits, numbered_places, numbered_fit, numbered_logs, whole, leads_snoc, more_long, closes, draws_next, picked_snoc, all_ready, none_ready, no_items}
 use Rattle.be_serial.proofs.serial.run_serial.Goals as goal
 
 pub loop-listed-init : goal.loop-listed-init
@@ -21,7 +22,7 @@ loop-listed-init g c =
     let is : c.of-opening.result.value.items ≡ xs = search rules in
     let held : c.whole.result.parts ≡ numbered 0 xs = search rules in
     let none : c.new-2.result.items ≡ [] = search rules in
-    let many : length xs ≡ x.places = sym (long_map meaning xs) ∙ (g.met.W.Parts.lawful c.args.rules).as_many o c.requires.sound in
+    let many : length xs ≡ x.places = sym (map_length meaning xs) ∙ (g.met.W.Parts.lawful c.args.rules).as_many o c.requires.sound in
     let budgets = c.requires.budgets in
     let runs : Runs x meaning log o c.args.limit (numbered 0 xs) [] = record {
       legal = tt;

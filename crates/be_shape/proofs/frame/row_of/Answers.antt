@@ -1,7 +1,9 @@
 use Rattle.std.proofs.Common.{◌≡◌, true, ◌||◌, pos, ◌-◌, ◌/◌, ◌+ℤ◌, ◌-ℤ◌, ◌≤ℤ◌, SFits, w16, w32, sym, ◌∙◌, rules}
 use Rattle.std.proofs.lemmas.Int.{to_z-of_z}
+use Rattle.std.proofs.lemmas.Bool.{or_left, or_right}
+use Rattle.be_facts.proofs.Truths.{or_same}
 use Rattle.be_shape.specs.Rows.{swept_has}
-use Rattle.be_shape.proofs.FrameLemmas.{frame_outside, frame_across, frame_two, frame_joined, first_of_two, second_of_two, or_same, ends_near, less_of_test, not_less_of_test, fits_behind}
+use Rattle.be_shape.proofs.FrameLemmas.{frame_outside, frame_across, frame_two, frame_joined, ends_near, less_of_test, not_less_of_test, fits_behind}
 use Rattle.be_shape.proofs.frame.row_of.Goals as goal
 use Rattle.be_shape.proofs.frame.row_of.Goals.{then-has-via-then-has, then-has-via-else-has+then-has-2}
 
@@ -27,8 +29,8 @@ returns-then-has-clause-pixels c =
     let top_has = simp to_z-of_z at c.has-2.ensures in
     let side : (swept_has size c.args.rect.top c.args.rect.top y || swept_has size c.args.rect.bottom c.args.rect.bottom y) ≡ true =
     elim c.then-has.branch [
-      | then-has-via-then-has w ↦ first_of_two (swept_has size c.args.rect.top c.args.rect.top y) (swept_has size c.args.rect.bottom c.args.rect.bottom y) (sym (top y) ∙ sym top_has ∙ w.if-has.true)
-      | then-has-via-else-has+then-has-2 w ↦ second_of_two (swept_has size c.args.rect.top c.args.rect.top y) (swept_has size c.args.rect.bottom c.args.rect.bottom y) (sym ((simp to_z-of_z at w.swept-else-has.ensures.all) y) ∙ sym (simp to_z-of_z at w.has-else-has.ensures) ∙ w.if-has-2.true)
+      | then-has-via-then-has w ↦ or_left (swept_has size c.args.rect.top c.args.rect.top y) (swept_has size c.args.rect.bottom c.args.rect.bottom y) (sym (top y) ∙ sym top_has ∙ w.if-has.true)
+      | then-has-via-else-has+then-has-2 w ↦ or_right (swept_has size c.args.rect.top c.args.rect.top y) (swept_has size c.args.rect.bottom c.args.rect.bottom y) (sym ((simp to_z-of_z at w.swept-else-has.ensures.all) y) ∙ sym (simp to_z-of_z at w.has-else-has.ensures) ∙ w.if-has-2.true)
     ]
     in
     λ x. whole x ∙ frame_across c.args.rect size y rows.across rows.down side x

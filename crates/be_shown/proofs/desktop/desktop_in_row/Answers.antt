@@ -1,6 +1,6 @@
 use Rattle.std.proofs.Common.{◌≤◌, ◌+◌, length, map, pos, arith, sym, ap, ◌∙◌}
+use Rattle.be_facts.proofs.Lists.{get_map}
 use Rattle.be_parts.specs.Parts.{meaning_of}
-use Rattle.be_rules.proofs.ListLemmas.{get_map}
 use Rattle.be_script.specs.Script.{declared_by}
 use Rattle.be_shown.specs.Pixels.{pixel_in}
 use Rattle.be_shown.proofs.DesktopLemmas.{free_run, owned_run}

@@ -1,4 +1,5 @@
 use Rattle.std.proofs.Common.{◌≡◌, ℕ, List, All, length, map, sym, ap, subst, ◌∙◌}
+use Rattle.be_facts.proofs.Lists.{whole_again}
 use Rattle.be_hall.specs.Words.{opened}
 use Rattle.be_machine.specs.declared.Entry.{Entry}
 use Rattle.be_noted.specs.Noting.{noted_of, noting_machine}
@@ -12,7 +13,6 @@ use Rattle.be_script.specs.Script.{Declared}
 use Rattle.be_turns.specs.Turning as turning
 use Rattle.be_workers.specs.Workers.{IsDone}
 use Rattle.be_world.specs.Turns.{is_last}
-use Rattle.be_threads.proofs.Slices.{whole_again}
 use Rattle.be_threads.proofs.run.run.Goals as goal
 
 pub finish-requires-clause-sound : goal.finish-requires-clause-sound

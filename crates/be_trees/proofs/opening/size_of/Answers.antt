@@ -1,7 +1,7 @@
 -- The edges are as far apart as they may be.
 use Rattle.std.proofs.Common.{SFits, w16, rules}
 use Rattle.std.proofs.lemmas.Int.{to_z-of_z}
-use Rattle.be_trees.proofs.Openings.{frame_sized}
+use Rattle.be_script.proofs.FrameLemmas.{frame_sized}
 use Rattle.be_trees.proofs.opening.size_of.Goals as goal
 
 pub length_of-requires-clause-low : goal.length_of-requires-clause-low

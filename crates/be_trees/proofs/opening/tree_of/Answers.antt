@@ -2,7 +2,8 @@ use Rattle.std.proofs.Common.{SFits, w16, rules, refl, ◌≡◌, [], ◌∷◌,
 use Rattle.std.proofs.lemmas.Int.{to_z-of_z}
 use Rattle.be_script.specs.Windows.{root_view, tree_of}
 use Rattle.be_views.specs.Trees.{Tree}
-use Rattle.be_trees.proofs.Openings.{declared_in, frame_sized, none_left, other_view, own_view}
+use Rattle.be_script.proofs.FrameLemmas.{frame_sized}
+use Rattle.be_trees.proofs.Openings.{declared_in, none_left, other_view, own_view}
 use Rattle.be_trees.proofs.opening.tree_of.Goals as goal
 use Rattle.be_trees.proofs.opening.tree_of.Goals.{then-view-window+in-Ok, else-view-window}
 

@@ -1,7 +1,7 @@
 use Rattle.std.proofs.Common.{◌≡◌, to_z, of_z, rules}
 use Rattle.std.specs.Fmt.{signed_decimal}
 use Rattle.std.specs.Int.{w16}
-use Rattle.be_written.proofs.WriteLemmas.{mapped}
+use Rattle.be_facts.proofs.Lists.{on_ok_map}
 use Rattle.be_trees.proofs.TreeLines.{edges_written}
 use Rattle.be_trees.proofs.text.write_edges.Goals as goal
 
@@ -16,6 +16,6 @@ returns c =
     let second = simp top at c.in_ok-write_edge-2.ensures in
     let third = simp right at c.in_ok-write_edge-3.ensures in
     let fourth = simp bottom at c.write_edge-4.ensures in
-    mapped c.write_edge-4.result _ _ fourth
+    on_ok_map c.write_edge-4.result _ _ fourth
     (edges_written c.args.text.now.items _ _ _ _ (signed_decimal r.left) (signed_decimal r.top)
     (signed_decimal r.right) (signed_decimal r.bottom) first second third)

@@ -3,13 +3,14 @@ use Rattle.be_region.specs.Regions.{region_has}
 use Rattle.be_geom.specs.declared.rect.Rect.{Rect}
 use Rattle.std.proofs.Common.{List}
 use Rattle.std.specs.Prelude.{slice_get}
-use Rattle.be_update.proofs.RowLemmas.{all_more, all_of, is_inside}
+use Rattle.be_span.proofs.LaidLemmas.{rect_inside}
+use Rattle.be_update.proofs.RowLemmas.{all_more, all_of}
 use Rattle.be_update.proofs.dirty.dirty_rects.Goals as goal
 
 pub add_rect-requires-clause-inside : goal.add_rect-requires-clause-inside
 add_rect-requires-clause-inside c x y h =
     ap (λ rs. region_has rs x y) (sym c.region-in-loop-place.ensures.region)
-    ∙ is_inside c.region-in-loop-place.result.now c.loop-place.place c.unwrap-rect.result x y (sym c.rect_at.ensures.at_place ∙ c.unwrap-rect.ensures) h
+    ∙ rect_inside c.region-in-loop-place.result.now c.loop-place.place c.unwrap-rect.result x y (sym c.rect_at.ensures.at_place ∙ c.unwrap-rect.ensures) h
 
 pub loop-place-preserved : goal.loop-place-preserved
 loop-place-preserved c =

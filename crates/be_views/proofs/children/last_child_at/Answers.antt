@@ -1,7 +1,7 @@
 use Rattle.std.proofs.Common.{SFits, w32, get_or, ◌-◌, ◌≤◌, ◌<◌, length, true, sym, ap, ◌∙◌, arith}
-use Rattle.std.proofs.lemmas.Bool.{and_right}
+use Rattle.std.proofs.lemmas.Bool.{and_right, and_left}
 use Rattle.std.proofs.lemmas.Int.{to_z-of_z}
-use Rattle.be_views.proofs.ChildLemmas.{passes_child, meets_child, both_are, first_is_not}
+use Rattle.be_views.proofs.ChildLemmas.{passes_child, meets_child, both_are}
 use Rattle.be_views.proofs.children.last_child_at.Goals as goal
 use Rattle.be_views.proofs.children.last_child_at.Goals.{else-has_pixel-via-then-has_pixel+else-lies_in, else-has_pixel-via-else-has_pixel}
 
@@ -25,6 +25,6 @@ loop-k-preserved c =
     let within : k ≤ length c.args.views.now = c.loop-k.auto.k in
     let so_far = simp to_z-of_z at c.loop-k.invariant in
     elim c.else-has_pixel.branch [
-      | else-has_pixel-via-then-has_pixel+else-lies_in w ↦ simp to_z-of_z (passes_child c.args.views.now k c.args.v c.args.x c.args.y _ some within read (first_is_not _ _ (sym w.lies_in.ensures ∙ w.if-lies_in.false)) so_far)
+      | else-has_pixel-via-then-has_pixel+else-lies_in w ↦ simp to_z-of_z (passes_child c.args.views.now k c.args.v c.args.x c.args.y _ some within read (and_left _ _ (sym w.lies_in.ensures ∙ w.if-lies_in.false)) so_far)
       | else-has_pixel-via-else-has_pixel w ↦ simp to_z-of_z (passes_child c.args.views.now k c.args.v c.args.x c.args.y _ some within read (and_right _ _ (sym (simp to_z-of_z at c.has_pixel.ensures) ∙ w.if-has_pixel.false)) so_far)
     ]

@@ -3,13 +3,13 @@ use Rattle.std.proofs.Common.{◌∙◌, arith}
 use Rattle.std.proofs.lemmas.List.{map-append}
 use Rattle.std.proofs.lemmas.Option.{none-some}
 use Rattle.std.proofs.lemmas.List.Elements.{All-push}
+use Rattle.be_facts.proofs.Lists.{length_push}
 use Rattle.be_hall.proofs.UpFrom.{up_snoc}
 use Rattle.be_hall.specs.Words.{rules_of}
 use Rattle.be_workers.specs.declared.worker.Worker.{Worker}
 use Rattle.be_workers.specs.Turned.{IsFresh}
 use Rattle.be_workers.specs.Wanted.{Suits}
 use Rattle.be_workers.specs.Workers.{IsWorker, whose}
-use Rattle.be_workers.proofs.Wanted.{longer}
 use Rattle.be_workers.proofs.crew.hire.Goals as goal
 
 pub loop-who-preserved : goal.loop-who-preserved
@@ -40,7 +40,7 @@ loop-who-preserved g c =
       ap whose more
           ∙ (map-append _ items _
           ∙ (ap (λ l. l ++ c.loop-who.who ∷ []) i.5 ∙ sym (up_snoc c.loop-who.who))),
-      (let l = longer items _ in let h = i.6 in subst (λ n. n ≤ c.loop-who.who + 1)
+      (let l = length_push items _ in let h = i.6 in subst (λ n. n ≤ c.loop-who.who + 1)
           (sym (ap length more ∙ l)) (omega arith)),
       subst (λ n. c.activities-many.result ≤ n) (sym c.push_reserved.ensures.capacity) i.7,
     )

@@ -1,11 +1,11 @@
 use Rattle.std.proofs.Common.{◌≡◌, ◌∷◌, [], ◌++◌}
+use Rattle.be_facts.proofs.Lists.{on_ok_map}
 use Rattle.be_looper.specs.Duties.{Hand}
 use Rattle.be_message.specs.Messages.{Message}
 use Rattle.be_script.specs.Script.{declared_by}
 use Rattle.be_written.specs.Lines.{line_of}
 use Rattle.be_written.specs.Takings.{runner_of, Tells}
 use Rattle.be_written.specs.TraceText.{taken_words}
-use Rattle.be_written.proofs.WriteLemmas.{mapped}
 use Rattle.be_written.proofs.TakenLemmas.{taken_line}
 use Rattle.be_written.proofs.taken.write_taken.Goals as goal
 
@@ -13,7 +13,7 @@ pub returns : goal.returns
 returns c =
     let d = declared_by c.args.script.now in
     let who = runner_of c.args.runner in
-    mapped c.end_line.result (c.end_line.new.self ≡ c.write_said_fields.new.page ++ 10 ∷ [])
+    on_ok_map c.end_line.result (c.end_line.new.self ≡ c.write_said_fields.new.page ++ 10 ∷ [])
     ((hand : Hand Message) → Tells c.args.taken.now hand → c.end_line.new.self ≡ c.args.page.now ++ line_of (taken_words d who c.args.number hand))
     c.end_line.ensures
     (taken_line d who c.args.number c.from.result c.said_word.result c.handler_name.result.now c.route_name.result.now c.args.taken.now

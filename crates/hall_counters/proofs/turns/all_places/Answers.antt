@@ -1,14 +1,14 @@
 use Rattle.std.proofs.Common.{◌<◌, ◌≤◌, ◌+◌, ◌++◌, ◌∷◌, [], All, length, ◌∙◌, ap, subst, sym, arith}
+use Rattle.be_facts.proofs.Lists.{length_push}
 use Rattle.be_hall.specs.Hands.{rises_from}
 use Rattle.be_hall.proofs.UpFrom.{up_snoc, up_rises, up_below}
-use Rattle.hall_counters.proofs.Starting.{more_long}
 use Rattle.hall_counters.proofs.turns.all_places.Goals as goal
 
 pub loop-place-preserved : goal.loop-place-preserved
 loop-place-preserved c =
     let i = c.loop-place.invariant in (
       c.push_reserved.ensures.items ∙ (ap (λ l. l ++ c.loop-place.place ∷ []) i.0 ∙ sym (up_snoc c.loop-place.place)),
-      ap length c.push_reserved.ensures.items ∙ (more_long c.loop-place.all.items c.loop-place.place ∙ ap (λ n. n + 1) i.1),
+      ap length c.push_reserved.ensures.items ∙ (length_push c.loop-place.all.items c.loop-place.place ∙ ap (λ n. n + 1) i.1),
       subst (λ n. c.args.places ≤ n) (sym c.push_reserved.ensures.capacity) i.2,
     )
 

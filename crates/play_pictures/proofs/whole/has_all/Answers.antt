@@ -1,6 +1,6 @@
 use Rattle.std.proofs.Common.{SFits, w16, rules}
 use Rattle.std.proofs.lemmas.Int.{to_z-of_z}
-use Rattle.play_pictures.proofs.WholeLemmas.{both_hold}
+use Rattle.be_facts.proofs.Truths.{and_map}
 use Rattle.play_pictures.proofs.whole.has_all.Goals as goal
 
 pub returns-then-lies_between : goal.returns-then-lies_between
@@ -17,4 +17,4 @@ returns-then-lies_between c =
     let down : SFits w16 c.args.place.y = search rules in
     let columns = simp to_z-of_z at c.lies_between.ensures in
     let rows = simp to_z-of_z at c.lies_between-then-lies_between.ensures in
-    λ e x y. both_hold _ _ _ _ (columns c.if-lies_between.true x) (rows e y)
+    λ e x y. and_map _ _ _ _ (columns c.if-lies_between.true x) (rows e y)

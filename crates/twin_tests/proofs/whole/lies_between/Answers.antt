@@ -1,6 +1,6 @@
 use Rattle.std.proofs.Common.{SFits, w16, w32, ◌+ℤ◌, rules, arith}
 use Rattle.std.proofs.lemmas.Int.{ints, to_z-of_z}
-use Rattle.twin_tests.proofs.WholeLemmas.{still_between}
+use Rattle.be_geom.proofs.Between.{still_between}
 use Rattle.twin_tests.proofs.whole.lies_between.Goals as goal
 
 pub returns-then-moved-from : goal.returns-then-moved-from

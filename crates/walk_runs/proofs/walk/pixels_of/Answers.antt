@@ -1,6 +1,6 @@
 use Rattle.std.proofs.Common.{pos, ◌+ℤ◌, ◌-ℤ◌, w32, to_z, of_z, arith}
 use Rattle.std.proofs.lemmas.Int.{ints}
-use Rattle.walk_runs.proofs.SmallerLemmas.{smaller_distance}
+use Rattle.be_facts.proofs.Numbers.{unsigned_abs_less}
 use Rattle.walk_runs.proofs.walk.pixels_of.Goals as goal
 
 pub loop-left-smaller : goal.loop-left-smaller
@@ -8,4 +8,4 @@ loop-left-smaller c =
     let range = c.in-Some-next_run.ensures.range in
     let ahead = c.in-Some-next_run.ensures.run.ahead in
     let next = to_z w32 (of_z w32 (to_z w32 (of_z w32 c.in-Some-next_run.right) +ℤ pos 2)) in
-    smaller_distance (pos 32785 -ℤ next) (pos 32785 -ℤ to_z w32 c.loop-left.from-bits) (omega (arith, ints)) (omega (arith, ints))
+    unsigned_abs_less (pos 32785 -ℤ next) (pos 32785 -ℤ to_z w32 c.loop-left.from-bits) (omega (arith, ints)) (omega (arith, ints))

@@ -2,13 +2,14 @@ use Rattle.std.proofs.Common.{◌≡◌, ℤ, pos, ◌+ℤ◌, ◌-ℤ◌, Bool,
 use Rattle.std.proofs.Common.{subst, sym, ap, ◌∙◌, rules}
 use Rattle.std.specs.Option.{option_map}
 use Rattle.std.proofs.lemmas.Int.{to_z-of_z}
+use Rattle.be_facts.proofs.Truths.{and_spread}
 use Rattle.be_shape.specs.Rows.{row_has, span_has, IsPair, IsRow}
 use Rattle.be_shape.specs.declared.row.Row.{Row}
 use Rattle.be_span.specs.Painting.{changed}
 use Rattle.be_descent.specs.Inks.{shape_has}
 use Rattle.be_descent.proofs.CellLemmas.{both_changed, not_changed, same_changed}
 use Rattle.be_descent.proofs.HullLemmas.{pair_apart}
-use Rattle.be_descent.proofs.RegionLemmas.{and_none, spread}
+use Rattle.be_descent.proofs.RegionLemmas.{and_none}
 use Rattle.be_descent.proofs.held.HeldPaint.paint.Given.{Over}
 use Rattle.be_descent.proofs.held.HeldPaint.paint.Goals as goal
 use Rattle.be_descent.proofs.held.HeldPaint.paint.Goals.{After-row}
@@ -76,6 +77,6 @@ returns-in-Two-clause-cells g c k =
     (span_has c.in-Two.right (x -ℤ s.way.right)) (more x y)
     (pair_apart c.in-Two.left c.in-Two.right (x -ℤ s.way.right) pair))
     ∙ same_changed rule (λ z w. p z w || q z w) at x y (slice_get c.args.cells.now k)
-    (spread (span_has c.in-Two.left (x -ℤ s.way.right))
+    (and_spread (span_has c.in-Two.left (x -ℤ s.way.right))
     (span_has c.in-Two.right (x -ℤ s.way.right)) (more x y)
     ∙ ap (λ b. b && more x y) has)

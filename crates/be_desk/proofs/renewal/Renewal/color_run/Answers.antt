@@ -2,8 +2,8 @@
 use Rattle.std.proofs.Common.{ℕ, ℤ, Option, slice_get, rules, SFits, w32, ◌∙◌, ap}
 use Rattle.std.specs.Prelude.{option_and_then}
 use Rattle.std.proofs.lemmas.Int.{to_z-of_z}
+use Rattle.be_geom.proofs.StretchLemmas.{mapped}
 use Rattle.be_desk.specs.Renewals.{view_from}
-use Rattle.be_desk.proofs.StretchLemmas.{mapped}
 use Rattle.be_desk.proofs.renewal.Renewal.color_run.Goals as goal
 
 pub returns-clause-answer : goal.returns-clause-answer

@@ -1,8 +1,8 @@
 -- Owned, then the same spot.
 use Rattle.std.proofs.Common.{ℤ, Bool, rules, SFits, w32, ◌∙◌, sym}
 use Rattle.std.proofs.lemmas.Int.{to_z-of_z}
+use Rattle.be_geom.proofs.StretchLemmas.{no_stretch, yes_stretch}
 use Rattle.be_desk.specs.Renewals.{owned, shows_same_spot}
-use Rattle.be_desk.proofs.StretchLemmas.{no_stretch, yes_stretch}
 use Rattle.be_desk.proofs.renewal.Renewal.resized_run.Goals as goal
 
 pub returns-then-not-owned-clause-run : goal.returns-then-not-owned-clause-run

@@ -1,11 +1,12 @@
 use Rattle.std.proofs.Common.{true, ℕ, ◌<◌, ◌≤◌, ◌≡◌, List, [], ◌∷◌, ◌++◌, length, Option, Some, None, min, sym, ap, ◌∙◌, subst}
 use Rattle.atomic_table.specs.Table.{rest}
+use Rattle.be_facts.proofs.Numbers.{nat_lt_from}
 use Rattle.be_hall.specs.Hands.{places_of, rises_from, all_below}
 use Rattle.be_hall.specs.Views.{mark, gathered}
 use Rattle.be_hall.specs.Passes.{emptied, marks_of}
 use Rattle.be_hall.specs.Views.{HasPlace}
 use Rattle.be_hall.proofs.InHand.{last_apart, emptied_snoc, places_snoc, places_many, marks_snoc, room_left}
-use Rattle.be_hall.proofs.Rising.{rising_short, below_snoc, less_than}
+use Rattle.be_hall.proofs.Rising.{rising_short, below_snoc}
 use Rattle.be_hall.proofs.hall.Hall.try_one.Goals as goal
 
 pub mark-requires-clause-apart : goal.mark-requires-clause-apart
@@ -45,7 +46,7 @@ invariant_of-pass-2 g c =
           ∙ (sym (marks_snoc g.P.Parts.meaning g.P.Parts.log old p y) ∙ ap (marks_of g.P.Parts.meaning g.P.Parts.log) (sym c.push.ensures.parts)));
       out = ap (λ z. z.1) c.exchange.ensures.3 ∙ (ap (λ l. (p, None) ∷ rest l) m.1 ∙ (ap (λ l. (p, None) ∷ l) it.out ∙ (sym (emptied_snoc (places_of old) p) ∙ ap emptied (sym places))));
       rising = ap (rises_from 0) places ∙ c.requires.above;
-      within = ap (all_below c.exchange.new.seat.table_id.slots) places ∙ below_snoc c.exchange.new.seat.table_id.slots (places_of old) p (subst (λ n. all_below n (places_of old) ≡ true) (λ i. (sym table i).slots) it.within) (less_than p _ (subst (λ n. p < n) (sym ((λ i. ((table ∙ c.requires.hall.0) i).slots) ∙ (c.args.self.now.sized.0 ∙ c.args.self.now.book.counted))) c.requires.place));
+      within = ap (all_below c.exchange.new.seat.table_id.slots) places ∙ below_snoc c.exchange.new.seat.table_id.slots (places_of old) p (subst (λ n. all_below n (places_of old) ≡ true) (λ i. (sym table i).slots) it.within) (nat_lt_from p _ (subst (λ n. p < n) (sym ((λ i. ((table ∙ c.requires.hall.0) i).slots) ∙ (c.args.self.now.sized.0 ∙ c.args.self.now.book.counted))) c.requires.place));
       room = subst (λ (z : ℕ × ℕ). z.0 ≤ z.1) (λ i. ((sym table i).slots, sym c.push.ensures.room i)) it.room;
       real = subst (λ v. 0 < length v.branches) (sym view) it.real;
       counts = it.counts ∙ ap (λ v. min (gathered v) 18446744073709551615) (sym view);

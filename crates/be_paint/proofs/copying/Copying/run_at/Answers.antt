@@ -1,10 +1,11 @@
 use Rattle.std.specs.Prelude.{if◌then◌else◌}
 use Rattle.std.proofs.Common.{ℤ, ◌-ℤ◌, Bool, rules, SFits, w32, sym, ◌∙◌}
 use Rattle.std.proofs.lemmas.Int.{to_z-of_z}
+use Rattle.be_geom.proofs.StretchLemmas.{mapped}
 use Rattle.be_paint.specs.Seen.{is_own, may_draw}
 use Rattle.be_paint.specs.declared.copying.Change.{Change}
 use Rattle.be_paint.specs.declared.copying.Change.TheVariants.{Stay, Expose, Copy}
-use Rattle.be_paint.proofs.StretchLemmas.{mapped, no_answer, yes_answer}
+use Rattle.be_paint.proofs.StretchLemmas.{no_answer, yes_answer}
 use Rattle.be_paint.proofs.copying.Copying.run_at.Goals as goal
 
 pub returns-then-not-free-clause-run : goal.returns-then-not-free-clause-run

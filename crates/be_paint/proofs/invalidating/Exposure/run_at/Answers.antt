@@ -1,10 +1,11 @@
 use Rattle.std.proofs.Common.{ℕ, ℤ, Bool, Option, None, rules, arith, SFits, w32, sym, ◌∙◌}
 use Rattle.std.proofs.lemmas.Int.{to_z-of_z, ints, clamps}
+use Rattle.be_geom.proofs.StretchLemmas.{mapped}
 use Rattle.be_color.specs.declared.colors.Color.{Color}
 use Rattle.be_region.specs.Regions.{region_has}
 use Rattle.be_paint.specs.Exposing.{color_below}
 use Rattle.be_paint.specs.Seen.{view_on}
-use Rattle.be_paint.proofs.StretchLemmas.{cut_run, mapped, no_answer, yes_answer}
+use Rattle.be_paint.proofs.StretchLemmas.{cut_run, no_answer, yes_answer}
 use Rattle.be_paint.proofs.invalidating.Exposure.run_at.Goals as goal
 
 pub returns-then-not-has-clause-run : goal.returns-then-not-has-clause-run

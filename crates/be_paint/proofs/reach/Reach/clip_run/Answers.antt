@@ -1,7 +1,8 @@
 use Rattle.std.proofs.Common.{◌≡◌, ◌-ℤ◌, ◌+ℤ◌, ◌≤ℤ◌, rules, arith, SFits, w16, w32}
 use Rattle.std.proofs.lemmas.Int.{to_z-of_z, ints}
+use Rattle.be_geom.proofs.StretchLemmas.{less_fits}
 use Rattle.be_state.specs.Stacks.{allows}
-use Rattle.be_paint.proofs.StretchLemmas.{less_fits, within_fits, offset_fits, moved_run}
+use Rattle.be_paint.proofs.StretchLemmas.{within_fits, offset_fits, moved_run}
 use Rattle.be_paint.proofs.reach.Reach.clip_run.Goals as goal
 
 pub last_column-requires-clause-low : goal.last_column-requires-clause-low

@@ -1,9 +1,12 @@
 use Rattle.std.proofs.Common.{ℤ, Bool, rules, arith, SFits, w32, sym, ap, ◌∙◌}
 use Rattle.std.proofs.lemmas.Int.{to_z-of_z, ints, clamps}
+use Rattle.std.proofs.lemmas.Bool.{and_left}
+use Rattle.be_facts.proofs.Truths.{and_is_second}
 use Rattle.be_geom.specs.Numbers.{is_number}
+use Rattle.be_geom.proofs.StretchLemmas.{mapped, no_stretch, yes_stretch}
 use Rattle.be_region.specs.Regions.{region_has}
 use Rattle.be_paint.specs.Seen.{view_on}
-use Rattle.be_paint.proofs.StretchLemmas.{both_false, both_true, cut_run, mapped, no_stretch, yes_stretch}
+use Rattle.be_paint.proofs.StretchLemmas.{cut_run}
 use Rattle.be_paint.proofs.reach.Reach.own_run.Goals as goal
 
 pub returns-then-not-has-clause-answer : goal.returns-then-not-has-clause-answer
@@ -11,7 +14,7 @@ returns-then-not-has-clause-answer c =
     let x = c.ranges.x in
     let y = c.ranges.y in
     let has = simp to_z-of_z at c.run_at-has.ensures.answer in
-    sym (both_false (region_has c.args.owned.now c.args.x c.args.y) _ (sym has ∙ c.if-not-has.true))
+    sym (and_left (region_has c.args.owned.now c.args.x c.args.y) _ (sym has ∙ c.if-not-has.true))
 
 pub returns-then-not-has-clause-run : goal.returns-then-not-has-clause-run
 returns-then-not-has-clause-run c =
@@ -46,7 +49,7 @@ returns-clause-answer c =
     let y = c.ranges.y in
     let has = simp to_z-of_z at c.run_at-has.ensures.answer in
     let view = simp to_z-of_z at c.view_run-view.ensures.answer in
-    c.is_number.ensures ∙ ap (is_number c.args.self.now.view) view ∙ sym (both_true (region_has c.args.owned.now c.args.x c.args.y) _ (sym has ∙ c.if-not-has.false))
+    c.is_number.ensures ∙ ap (is_number c.args.self.now.view) view ∙ sym (and_is_second (region_has c.args.owned.now c.args.x c.args.y) _ (sym has ∙ c.if-not-has.false))
 
 pub returns-clause-run : goal.returns-clause-run
 returns-clause-run c =

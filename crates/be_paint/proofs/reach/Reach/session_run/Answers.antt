@@ -1,7 +1,8 @@
 use Rattle.std.proofs.Common.{◌≡◌, ◌-ℤ◌, rules, SFits, w16, w32, refl}
 use Rattle.std.proofs.lemmas.Int.{to_z-of_z}
+use Rattle.be_geom.proofs.StretchLemmas.{less_fits}
 use Rattle.be_region.specs.Regions.{region_has}
-use Rattle.be_paint.proofs.StretchLemmas.{less_fits, moved_run}
+use Rattle.be_paint.proofs.StretchLemmas.{moved_run}
 use Rattle.be_paint.proofs.reach.Reach.session_run.Goals as goal
 
 pub returns-clause-answer : goal.returns-clause-answer

@@ -1,11 +1,11 @@
 use Rattle.std.proofs.Common.{◌<◌, ◌++◌, ◌∷◌, [], length, map, sym, ap, ◌∙◌, subst, arith}
+use Rattle.be_facts.proofs.Lists.{map_length}
 use Rattle.be_said.specs.Everywhere.{with_window}
 use Rattle.be_said.specs.Fits.{Fits}
 use Rattle.be_said.specs.Deeds.{adds_window}
 use Rattle.be_said.specs.Inside.{IsOpened}
 use Rattle.be_said.specs.Said.{seen_said}
 use Rattle.be_said.specs.SoFar.{bitmap_names, window_names}
-use Rattle.be_said.proofs.ListLemmas.{count_as}
 use Rattle.be_said.proofs.OpeningLemmas.{taken_and_more, window-done, window-kept, window-many, window_name_fits}
 use Rattle.be_said.proofs.said.SoFar.add_window.Goals as goal
 
@@ -29,7 +29,7 @@ invariant_of-self c =
     c.in_ok-inside.ensures.opened) in
     rw (c.in_ok-push.ensures.items, c.in_ok-push-2.ensures.items)
     (taken_and_more _ _ _ _ _ _ made
-    (omega (arith, count_as (with_window c.args.line.name) c.self.inside.inside.items, c.deref_mut.ensures.len, ap length c.deref_mut.ensures.value))
+    (omega (arith, map_length (with_window c.args.line.name) c.self.inside.inside.items, c.deref_mut.ensures.len, ap length c.deref_mut.ensures.value))
     (window-kept _ _ c.args.line _ c.self.invariant fits.0 few fits.1 opened))
 
 pub returns : goal.returns

@@ -1,9 +1,10 @@
 use Rattle.std.proofs.Common.{rules, List, Bool, take, drop, ℕ, ◌≡◌, ◌+◌, ◌<◌, ◌≤◌, [], ◌∷◌, ◌++◌, length, map, sym, ap, subst, ◌∙◌, arith}
+use Rattle.be_facts.proofs.Lists.{whole_again}
 use Rattle.be_hall.specs.Hands.{meant}
 use Rattle.be_hall.specs.Machine.{Fits, IsHeld, HeldFit, leads}
 use Rattle.be_hall.specs.Logs.{IsAbove, appended}
 use Rattle.be_hall.proofs.Holding.{fit_after}
-use Rattle.be_serial.proofs.Going.{knows_after, leads_snoc, mended, all_in, is_above, is_entry, an_entry, a_ready, entry_is, goes_on, same_firsts}
+use Rattle.be_serial.proofs.Going.{knows_after, leads_snoc, all_in, is_above, is_entry, an_entry, a_ready, entry_is, goes_on, same_firsts}
 use Rattle.be_serial.specs.Running.{Runs}
 use Rattle.be_serial.specs.Known.{Knows, Stirs}
 use Rattle.be_serial.proofs.serial.Run.step.Goals as goal
@@ -108,7 +109,7 @@ returns-clause-knows g c =
     let many_old = c.as_mut_slice.ensures.len in
     let stirs = subst (λ (l : List Bool). Stirs x legal many e l new) c.as_mut_slice.ensures.value c.stir.ensures in
     let known = knows_after x legal many now e can old new r.sound permits long stirs c.requires.knows in
-    let kept = mended c.args.answers.now.stale.len new old long (omega arith) in
+    let kept = whole_again c.args.answers.now.stale.len new old long (omega arith) in
     let history : c.push.new.self.items ≡ h ++ e ∷ [] = search rules in
     subst (λ z. Knows legal many (leads x o z) can (take c.args.answers.now.stale.len (new ++ drop (length new) old))) (sym history)
     (subst (λ z. Knows legal many z can (take c.args.answers.now.stale.len (new ++ drop (length new) old))) (sym (leads_snoc x meaning g.W.Parts.log o self.limit o h e))

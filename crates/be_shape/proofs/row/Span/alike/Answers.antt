@@ -1,6 +1,6 @@
 use Rattle.std.proofs.Common.{pos, ◌-ℤ◌, ◌≤ℤ◌, ◌<ℤ◌, SFits, w32, sym, ◌∙◌, arith, rules}
 use Rattle.std.proofs.lemmas.Int.{to_z-of_z, ints}
-use Rattle.be_shape.proofs.BetweenLemmas.{is_between, is_below, is_above}
+use Rattle.be_geom.proofs.Between.{is_between, is_below, is_above}
 use Rattle.be_shape.proofs.FrameLemmas.{less_of_test, not_less_of_test, more_of_test, not_more_of_test}
 use Rattle.be_shape.proofs.row.Span.alike.Goals as goal
 

@@ -1,5 +1,6 @@
 use Rattle.std.proofs.Common.{◌≤◌, [], ◌∙◌, sym, subst}
-use Rattle.be_workers.proofs.Wanted.{chosen, or_none, pushed_long}
+use Rattle.be_facts.proofs.Truths.{or_false}
+use Rattle.be_workers.proofs.Wanted.{chosen, pushed_long}
 use Rattle.be_workers.proofs.wants.Wants.list_own.Goals as goal
 
 pub loop-place-preserved : goal.loop-place-preserved
@@ -15,6 +16,6 @@ loop-place-preserved g c =
       ),
       pushed_long _ n c.loop-place.self.own.items _ c.put.ensures.places i.1,
       chosen owns [] _ n c.loop-place.self.own.items _ c.put.ensures.places
-          (c.is_own.ensures ∙ sym (or_none (owns n))) i.2,
+          (c.is_own.ensures ∙ sym (or_false (owns n))) i.2,
       i.3,
     )

@@ -1,10 +1,11 @@
 use Rattle.std.proofs.Common.{◌<◌, ◌-◌, ℕ, inl, inr, sym, refl, ap, ◌∙◌, subst, arith, deque_len, deque_capacity}
 use mathlib.Core.Option.{some-injective}
+use Rattle.be_facts.proofs.Lists.{some_part, no_part}
 use Rattle.be_hall.specs.Hands.{meant, part_at}
 use Rattle.hall_counters.specs.declared.transfer.Count.{Count}
 use Rattle.be_hall.proofs.Holding.{not_held, fits_at, meant_with, with_here, with_other, has_spare}
 use Rattle.hall_counters.specs.Laws.{inside}
-use Rattle.hall_counters.proofs.Moving.{some_part, no_part, positive, ready, counted_as}
+use Rattle.hall_counters.proofs.Moving.{positive, ready, counted_as}
 use Rattle.hall_counters.proofs.counters.CountersParts.prepare.Goals.{then-source-target-via-then-source-target, then-source-target-via-else-source-target+then-source-self, then-source-target-via-else-source-target+else-source-self+then-target-self, then-count-eq0-via-then-count-eq0, then-count-eq0-via-else-count-eq0+then-count-eq0-2}
 use Rattle.hall_counters.proofs.counters.CountersParts.prepare.Goals as goal
 

@@ -1,5 +1,6 @@
 use Rattle.std.proofs.Common.{◌≡◌, ◌≤◌, ◌+◌, ◌++◌, ◌∷◌, [], false, length, map, All, sym, ap, ◌∙◌, subst, arith}
 use Rattle.std.proofs.lemmas.List.Elements.{All-push}
+use Rattle.be_facts.proofs.Lists.{map_push, length_push}
 use Rattle.be_hall.specs.Machine.{AllFit}
 use Rattle.be_hall.specs.Numbers.{total}
 use Rattle.small_world.specs.declared.counter.Counter.{Counter}
@@ -7,7 +8,7 @@ use Rattle.small_world.specs.Changing.{Fit}
 use Rattle.small_world.specs.Counting.{closing_place, is_closed, IsSound, passing}
 use Rattle.small_world.specs.Counters.{count_of, log_of}
 use Rattle.small_world.specs.Opening.{opening_below, opening_counts}
-use Rattle.small_world.proofs.Starting.{map_snoc, more_long, opening_next, sound_at_start, open_at_start, fit_at_start, cost_at_start}
+use Rattle.small_world.proofs.Starting.{opening_next, sound_at_start, open_at_start, fit_at_start, cost_at_start}
 use Rattle.small_world.proofs.world.World.opening.Goals as goal
 use Rattle.small_world.proofs.world.World.opening.Goals.{After-loop-activity}
 
@@ -27,9 +28,9 @@ loop-activity-preserved c =
     let grown = c.push_reserved.ensures.items in
     let next = opening_next w c.args.each c.args.stored c.loop-activity.activity in
     let count = c.new.ensures.count ∙ c.opening_count.ensures in (
-      ap (map count_of) grown ∙ (map_snoc count_of items new
+      ap (map count_of) grown ∙ (map_push count_of items new
           ∙ ((λ k. i.0 k ++ count k ∷ []) ∙ sym next)),
-      ap length grown ∙ (more_long items new ∙ ap (λ n. n + 1) i.1),
+      ap length grown ∙ (length_push items new ∙ ap (λ n. n + 1) i.1),
       subst (λ n. c.closing-places.result + 1 ≤ n) (sym c.push_reserved.ensures.capacity) i.2,
       subst (All (λ (x : Counter). log_of x ≡ [])) (sym grown)
           (All-push (λ (x : Counter). log_of x ≡ []) items new i.3 c.new.ensures.log),

@@ -1,26 +1,24 @@
--- The name of a field is text.
-use Rattle.std.proofs.Common.{◌≡◌, ℕ, zero, suc, ◌<◌, true, ◌&&◌, List, [], ◌∷◌, length, arith}
-use Rattle.std.specs.Char.{is_ascii_lowercase}
+-- The bytes of names are ASCII, so a name is text.
+use Rattle.std.proofs.Common.{◌≡◌, ℕ, ◌<◌, true, arith, zero, suc, List, [], ◌∷◌, ◌&&◌, length}
+use Rattle.std.proofs.lemmas.Bool.Decides.{nat_tests}
 use Rattle.std.specs.List.{list_all}
-use Rattle.std.specs.Prelude.{nat_le}
 use Rattle.std.specs.Str.{IsAscii, IsUtf8}
 use Rattle.std.proofs.lemmas.Bool.{and_parts}
-use Rattle.std.proofs.lemmas.Bool.Decides.{nat_tests}
+use Rattle.std.specs.Char.{is_ascii_lowercase}
+use Rattle.std.specs.Prelude.{nat_le}
 use Rattle.std.proofs.lemmas.Str.{IsUtf8-from_ascii}
-use Rattle.be_message.specs.Names.{is_name, is_name_byte}
+use Rattle.be_facts.proofs.Bytes.{letter_is_ascii}
+use Rattle.be_message.specs.Names.{is_name_byte, is_name}
 
-letter_is_ascii : (b : ℕ) → is_ascii_lowercase b ≡ true → b < 128
-letter_is_ascii b h = grind (arith, nat_tests)
-
-byte_is_ascii : (b : ℕ) → is_name_byte b ≡ true → b < 128
+pub byte_is_ascii : (b : ℕ) → is_name_byte b ≡ true → b < 128
 byte_is_ascii b h = grind (arith, nat_tests)
 
-bytes_are_ascii : (bytes : List ℕ) → list_all is_name_byte bytes ≡ true → IsAscii bytes
+pub bytes_are_ascii : (bytes : List ℕ) → list_all is_name_byte bytes ≡ true → IsAscii bytes
 bytes_are_ascii [] h i = omega arith
 bytes_are_ascii (b ∷ bytes) h zero = byte_is_ascii b (and_parts (is_name_byte b) (list_all is_name_byte bytes) h).0
 bytes_are_ascii (b ∷ bytes) h (suc i) = bytes_are_ascii bytes (and_parts (is_name_byte b) (list_all is_name_byte bytes) h).1 i
 
-name_is_ascii : (name : List ℕ) → is_name name ≡ true → IsAscii name
+pub name_is_ascii : (name : List ℕ) → is_name name ≡ true → IsAscii name
 unfolding is_name
 name_is_ascii [] h i = absurd (cc)
 name_is_ascii (b ∷ bytes) h zero =
