@@ -138,7 +138,7 @@ fn seed_of(word: &[u8]) -> Option<u32>
     Some(seed as u32)
 }
 
-/// The same, up to the most.
+/// A number from 0 to `most`.
 fn number_of(word: &[u8], most: u16) -> Option<u16>
     ensures number { result ≡ number_up_to most word.now }
     ensures within { IfSome result (λ number. number ≤ most) }
@@ -147,7 +147,7 @@ fn number_of(word: &[u8], most: u16) -> Option<u16>
     Some(number as u16)
 }
 
-/// The same, from 1 to 256.
+/// A number from 1 to 256.
 fn side_of(word: &[u8]) -> Option<u16>
     ensures side { result ≡ side_of word.now }
     ensures within { IfSome result IsSide }

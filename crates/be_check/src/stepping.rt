@@ -31,7 +31,7 @@ pub(crate) fn make_if_legal(
     }
 }
 
-/// The same, and what its maker notes of it is kept.
+/// As `make_if_legal`, and what its maker notes of the entry is kept.
 pub(crate) fn note_if_legal(
     noting: &Noting,
     held: &mut Held<Part>,

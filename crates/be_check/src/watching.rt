@@ -23,8 +23,8 @@ pub(crate) struct Seen {
     pub(crate) last: u64,
 }
 
-/// The same behind the entry of this number, which has this act. The pixel is looked at where an
-/// act of its kind may change a colour.
+/// What is known behind the entry of this number, which has this act. The pixel is looked at where
+/// an act of its kind may change a colour.
 pub(crate) fn seen_behind(
     script: &Script,
     held: &Held<Part>,

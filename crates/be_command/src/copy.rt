@@ -7,7 +7,7 @@ use be_geom::NoMemory;
 use std::alloc::Global;
 
 impl Command {
-    /// The same command. Only a text and the rectangles of a clip take memory.
+    /// An equal command. Only a text and the rectangles of a clip take memory.
     pub fn copy(&self, alloc: Global) -> Result<Command, NoMemory>
         ensures same { IfOk result (λ command. command ≡ self.now) }
         ensures memory { OnErr result (keeps_a_list self.now ≡ true) }

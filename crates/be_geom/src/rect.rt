@@ -55,7 +55,7 @@ impl Rect {
         }
     }
 
-    /// The same pixels, each `dx` further right and `dy` further down: `BRect::OffsetByCopy`.
+    /// Its pixels, each `dx` further right and `dy` further down: `BRect::OffsetByCopy`.
     pub fn offset(self, dx: i32, dy: i32) -> Result<Rect, OutOfRange>
         ensures moved { IfOk result (λ r. r ≡ moved_rect self dx dy) }
         ensures out { IsErr result ↔ (rect_fits (moved_rect self dx dy) ≡ false) }

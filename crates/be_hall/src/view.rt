@@ -14,7 +14,7 @@ pub struct About<P, M> {
     pub limit: u64,
 }
 
-/// The same, where a hall is made.
+/// The rules, the parts and the limit with which a hall is made.
 #[derive(Drop)]
 pub struct Key<P, T> {
     pub rules: Snapshot<P>,

@@ -160,7 +160,7 @@ pub fn note(word: Option<&[u8]>) -> Result<&[u8], Reason>
     }
 }
 
-/// The same within 0 and more.
+/// A number from `low` to `high`, without a sign.
 pub fn natural(word: Option<&[u8]>, low: u16, high: u16) -> Result<u16, Reason>
     ensures { result ≡ said_as unsigned_abs
         (judged (numbered (pos low) (pos high)) (option_map (λ w. w.now) word.entry)) }

@@ -86,7 +86,7 @@ impl Statement {
         }
     }
 
-    /// The same in a body, where `bitmap` is a command.
+    /// The statement as a body reads it: there `bitmap` is a command.
     pub fn as_command(self) -> Statement
         ensures { result ≡ as_command self }
     {

@@ -120,7 +120,7 @@ impl Field {
         Ok(mem::replace(&mut self.values[index], value))
     }
 
-    /// The same name, type and values.
+    /// A field with this name, type and values, in memory of its own.
     #[cycle(copy)]
     pub(crate) fn copy(&self) -> Result<Field, NoMemory>
         ensures { IfOk result (λ field. seen_field field ≡ seen_field self.now) }

@@ -83,7 +83,7 @@ impl Value {
         }
     }
 
-    /// The same value, in memory of its own.
+    /// An equal value, in memory of its own.
     #[cycle(copy)]
     pub fn copy(&self, alloc: Global) -> Result<Value, NoMemory>
         ensures { IfOk result (λ value. seen_value value ≡ seen_value self.now) }

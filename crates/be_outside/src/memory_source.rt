@@ -51,7 +51,7 @@ impl MemorySource {
         }
     }
 
-    /// The same, and call k gives at most `sizes[k]` bytes. Calls behind the end of `sizes` give as
+    /// As `new`, but call k gives at most `sizes[k]` bytes. Calls behind the end of `sizes` give as
     /// many as fit.
     pub fn cut(bytes: Vec<u8>, failing: Vec<u64>, sizes: Vec<usize>) -> MemorySource
         requires { All (λ size. 0 < size) sizes.items }

@@ -103,7 +103,7 @@ impl Reach<'_> {
         (is_number(view, self.view), last)
     }
 
-    /// The same of the number of the view that is at the pixel.
+    /// The number of the view that is at the pixel, and up to which column it is that.
     pub(crate) fn view_run(&self, x: i32, y: i32, end: i32) -> (Option<u16>, i32)
         requires row { IsNear 3 y }
         requires left { IsNear 3 x }

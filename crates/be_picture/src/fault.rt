@@ -42,7 +42,7 @@ pub(crate) enum LineFault {
 }
 
 impl LineFault {
-    /// The same fault, as that of the line with this number.
+    /// This fault as that of the line with this number.
     pub(crate) fn at(self, line: u64) -> PictureFault
         ensures { result ≡ fault_at line self }
     {

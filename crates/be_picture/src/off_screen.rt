@@ -115,7 +115,7 @@ impl OffScreen {
         Some(cell.rgb)
     }
 
-    /// The same pixels as a bitmap.
+    /// Its pixels as a bitmap.
     pub fn into_bitmap(self) -> Result<Bitmap, IntoFault>
         ensures bitmap { IfOk result (λ bitmap. bitmap ≡ bitmap_of self) }
         ensures fault { IfErr result (λ fault. fault ≡ IntoFault.NoMemory self) }

@@ -15,7 +15,7 @@ pub enum ScriptFault {
     NoMemory,
 }
 
-/// The same fault as that of the line with this number.
+/// This fault as that of the line with this number.
 pub(crate) fn fault_at(line: u64, fault: LineFault) -> ScriptFault
     ensures { result ≡ fault_at line fault }
 {

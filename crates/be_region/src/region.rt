@@ -86,7 +86,7 @@ impl Region {
         Ok(())
     }
 
-    /// The same set, on the same allocator.
+    /// A region of these pixels, on the same allocator.
     pub fn copy(&self) -> Result<Region, NoMemory>
         ensures { IfOk result (λ region. SamePixels region self.now) }
     {

@@ -54,7 +54,7 @@ painted brush source c =
 abbrev pub plain : Brush
 plain = record { mode = Copy; high = Clear; low = Clear }
 
--- the mode gives a pixel a colour whatever it had
+-- what is painted takes the place of what a pixel had
 abbrev pub replaces : Mode → Bool
 replaces Copy = true
 replaces Over = true

@@ -19,7 +19,7 @@ impl Brush {
         low: Color::Clear,
     };
 
-    /// Whether its mode gives a pixel a colour whatever it had.
+    /// Whether the painted colour takes the place of the pixel's, whatever that is.
     pub fn replaces(self) -> bool
         ensures { result ≡ replaces self.mode }
     {

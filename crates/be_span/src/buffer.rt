@@ -195,7 +195,7 @@ impl SpanBuf {
         self.put_counted(x, y, cells, dirty_among(cells));
     }
 
-    /// The same, where it is known how many of these cells are dirty.
+    /// As `put`, where it is known how many of these cells are dirty.
     pub(crate) fn put_counted(&mut self, x: i32, y: i32, cells: &[Cell], more: usize)
         requires run { HasRun self.old.rects x y (length cells.now) }
         requires more { more ≡ count_by (λ c. c.dirty) cells.now }

@@ -180,7 +180,7 @@ impl Stack {
         Ok(region)
     }
 
-    /// The same windows, on the same allocator.
+    /// A stack of these windows, on the same allocator.
     pub fn copy(&self) -> Result<Stack, NoMemory>
         ensures { IfOk result (λ stack. stack ≡ self.now) }
     {

@@ -29,7 +29,7 @@ pub fn run_on_threads<R: Threads + Wait + Sync, G: Gate + Sync>(
     run(rt, alloc, world, gate, Spread::Apart)
 }
 
-/// The same run on this thread alone: one worker begins where the one before it has ended. Each
+/// A run on this thread alone: one worker begins where the one before it has ended. Each
 /// stands in for those that haven't begun.
 pub fn run_on_one_thread<R: Threads + Wait + Sync, G: Gate + Sync>(
     rt: &R,

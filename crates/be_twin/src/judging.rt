@@ -30,7 +30,7 @@ pub fn judge(pane: &Pane, command: &Command, bitmaps: &[Bitmap]) -> Outcome
     judged(pane, command, bitmaps)
 }
 
-/// The same, told by the pane alone.
+/// What comes of a command, told by the pane alone.
 pub(crate) fn judged(pane: &Pane, command: &Command, bitmaps: &[Bitmap]) -> Outcome
     requires whole { IsWhole pane.now }
     requires no_change { IsNoChange (effect_of command.now) }

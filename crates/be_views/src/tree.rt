@@ -201,7 +201,7 @@ impl ViewTree {
         Ok(())
     }
 
-    /// The same views, on the same allocator.
+    /// A tree of these views, on the same allocator.
     pub fn copy(&self) -> Result<ViewTree, NoMemory>
         ensures { IfOk result (λ tree. tree ≡ self.now) }
     {

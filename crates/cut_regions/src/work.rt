@@ -11,7 +11,7 @@ pub enum Kind {
     Build,
     /// The union, the difference and the intersection of two stacks of random windows.
     Stacks,
-    /// The same of columns and rows.
+    /// The union, the difference and the intersection of two grids: columns and rows.
     Grid,
     /// A window is dragged so often in front of a stack of random windows.
     Drags,

@@ -21,7 +21,7 @@ pub enum Kind {
     Image,
     /// A picture none of whose pixels has the colour of the next.
     Photo,
-    /// The same picture, which then goes a row up and a row down again.
+    /// Such a picture, which then goes a row up and a row down again.
     Scroll,
     /// Nothing: the square is invalidated.
     Invalidate,

@@ -31,7 +31,7 @@ pub fn one_window()
     ensures { one_window_example.Holds }
 {}
 
-/// The same script, with the turns that seed 7 chooses.
+/// The script of `one_window`, with the turns that seed 7 chooses.
 pub fn one_window_by_seed_7()
     ensures { one_window_by_seed_7_example.Holds }
 {}

@@ -230,7 +230,8 @@ pub(crate) fn assert_shows(
     Ok(())
 }
 
-/// The same on a new board, in an update of these pixels where there are some.
+/// Asserts what each of some lines shows on a new board, in an update of these pixels where there
+/// are some.
 pub(crate) fn assert_draws(
     rt: &impl Abort,
     alloc: Global,
