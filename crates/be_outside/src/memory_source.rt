@@ -28,7 +28,8 @@ impl Model for MemorySource {
       faults = s.calls.faults;
     } };
 
-    ghost invariant = { λ s. (s.taken ≤ vec_len s.bytes) × All (λ size. 0 < size) (listed s.sizes) };
+    ghost invariant = { λ s.
+        (s.taken ≤ vec_len s.bytes) × All (λ size. 0 < size) (listed s.sizes) };
 }
 
 impl MemorySource {
