@@ -25,7 +25,6 @@ use Rattle.be_check.proofs.Whole.{each_appended, fits_from, held_at, is_above}
 use Rattle.be_check.proofs.Whole.{numbered_means, same_firsts, whole}
 use Rattle.be_check.specs.Following.{Follows, now_of, state_in}
 use Rattle.be_noted.specs.Noting.{IsNotedVerdict, noted_entry, noted_of, noted_seen}
-use Rattle.be_noted.specs.Noting.{noting_machine, told_of}
 use Rattle.be_noted.specs.declared.parts.NotedEntry.{NotedEntry}
 use Rattle.be_noting.proofs.KeepLaws.{means_after}
 use Rattle.be_noting.proofs.NotedHistories.{legal_noted}
@@ -42,6 +41,7 @@ use Rattle.be_script.specs.Script.{Declared}
 use Rattle.be_serial.specs.Running.{EachBefore}
 use Rattle.be_turns.specs.Turning as turning
 use Rattle.be_world.specs.Turns.{is_last}
+use Rattle.be_jotted.specs.Jotting.{noted_machine, told_of}
 
 pub means_now : (parts : List (ℕ × Part)) → meanings (noted_now parts) ≡ now_of parts
 means_now [] = refl
@@ -49,32 +49,32 @@ means_now (x ∷ xs) = ap (λ (l : List Slice). meaning_of x.1 ∷ l) (means_now
 
 fits_with_notes : (d : Declared) (n : ℕ) (parts : List (ℕ × Part))
     → HeldFit SliceFits n (meant meaning_of parts)
-    → HeldFit (noting_machine d).fits n (meant noted_of parts)
+    → HeldFit (noted_machine d).fits n (meant noted_of parts)
 fits_with_notes d n [] fits = tt
 fits_with_notes d n (x ∷ xs) fits = (fits.0, fits_with_notes d n xs fits.1)
 
 fits_without : (d : Declared) (n : ℕ) (parts : List (ℕ × Part))
-    → HeldFit (noting_machine d).fits n (meant noted_of parts)
+    → HeldFit (noted_machine d).fits n (meant noted_of parts)
     → HeldFit SliceFits n (meant meaning_of parts)
 fits_without d n [] fits = tt
 fits_without d n (x ∷ xs) fits = (fits.0, fits_without d n xs fits.1)
 
 pub fits_back : (d : Declared) (n : ℕ) (xs : List Part)
-    → AllFit (noting_machine d).fits n (map noted_of xs) → AllFit SliceFits n (map meaning_of xs)
+    → AllFit (noted_machine d).fits n (map noted_of xs) → AllFit SliceFits n (map meaning_of xs)
 fits_back d n [] fits = tt
 fits_back d n (x ∷ xs) fits = (fits.0, fits_back d n xs fits.1)
 
 module _ (d : Declared) (parts : List (ℕ × Part)) (n : ℕ) (f : Follows d parts n) where
-  sound_now : (noting_machine d).sound (noted_now parts)
+  sound_now : (noted_machine d).sound (noted_now parts)
   sound_now = subst (IsSound d) (sym (means_now parts)) f.sound
 
   fits_now : Fits (noted_now parts) (meant noted_of parts)
   fits_now = fits_from noted_of [] 0 (length (all_parts d)) parts refl f.places
 
-  pub some_now : SomeFits (noting_machine d) (meant noted_of parts)
+  pub some_now : SomeFits (noted_machine d) (meant noted_of parts)
   some_now = (noted_now parts, sound_now, fits_now)
 
-  pub fits_last_noted : HeldFit (noting_machine d).fits 4611686018427387904 (meant noted_of parts)
+  pub fits_last_noted : HeldFit (noted_machine d).fits 4611686018427387904 (meant noted_of parts)
   fits_last_noted = fits_with_notes d 4611686018427387904 parts (fits_last d parts n f)
 
   module _ (e : Entry) (mid : List (ℕ × Part)) (same : meant noted_of mid ≡ meant noted_of parts)
@@ -82,14 +82,14 @@ module _ (d : Declared) (parts : List (ℕ × Part)) (n : ℕ) (f : Follows d pa
       fits_mid : Fits (noted_now parts) (meant noted_of mid)
       fits_mid = subst (Fits (noted_now parts)) (sym same) fits_now
 
-      pub some_mid : SomeFits (noting_machine d) (meant noted_of mid)
+      pub some_mid : SomeFits (noted_machine d) (meant noted_of mid)
       some_mid = (noted_now parts, sound_now, fits_mid)
 
-      pub fits_before : HeldFit (noting_machine d).fits (n + 1 - 1) (meant noted_of mid)
+      pub fits_before : HeldFit (noted_machine d).fits (n + 1 - 1) (meant noted_of mid)
       fits_before =
           let back : n ≡ n + 1 - 1 = omega arith in
-          subst (λ h. HeldFit (noting_machine d).fits (n + 1 - 1) h) (sym same)
-          (subst (λ (k : ℕ). HeldFit (noting_machine d).fits k (meant noted_of parts)) back
+          subst (λ h. HeldFit (noted_machine d).fits (n + 1 - 1) h) (sym same)
+          (subst (λ (k : ℕ). HeldFit (noted_machine d).fits k (meant noted_of parts)) back
           (fits_with_notes d n parts f.fits))
 
       needs_none : (p : ℕ) → IsNotedVerdict d mid e (verdict.Needs p) → ⊥
@@ -133,10 +133,10 @@ module _ (d : Declared) (parts : List (ℕ × Part)) (n : ℕ) (f : Follows d pa
         pub is_legal : IsLegal d (state_in d parts) e
         is_legal = legal_as legal_there
 
-        pub permitted : IsReady (noting_machine d) (noted_seen r) (noted_entry r)
+        pub permitted : IsReady (noted_machine d) (noted_seen r) (noted_entry r)
         permitted =
-            subst (λ h. IsReady (noting_machine d) h (noted_entry r)) (sym ready.1)
-            (subst (λ (x : Entry). IsReady (noting_machine d) (meant noted_of mid) x)
+            subst (λ h. IsReady (noted_machine d) h (noted_entry r)) (sym ready.1)
+            (subst (λ (x : Entry). IsReady (noted_machine d) (meant noted_of mid) x)
             (sym entry_is) ready.2)
 
         pub above : meant log_of mid ≡ meant log_of parts
@@ -150,19 +150,19 @@ module _ (d : Declared) (parts : List (ℕ × Part)) (n : ℕ) (f : Follows d pa
         number_is = one_more d parts n f e is_legal
 
         module _ (new : List (ℕ × Part)) (places : places_of new ≡ places_of mid)
-            (after : (all : List (Noted Slice ℕ)) → (noting_machine d).sound all
+            (after : (all : List (Noted Slice ℕ)) → (noted_machine d).sound all
             → Fits all (meant noted_of mid)
-            → Fits ((noting_machine d).after all (noted_entry r)) (meant noted_of new)) where
+            → Fits ((noted_machine d).after all (noted_entry r)) (meant noted_of new)) where
           places_now : places_of new ≡ up_from 0 (length (all_parts d))
           places_now = places ∙ same_firsts noted_of mid parts same ∙ f.places
 
           abbrev next : List (Noted Slice ℕ)
-          next = (noting_machine d).after (noted_now parts) e
+          next = (noted_machine d).after (noted_now parts) e
 
           gives : Fits next (meant noted_of new)
           gives =
               subst
-              (λ (x : Entry). Fits ((noting_machine d).after (noted_now parts) x) (meant noted_of new))
+              (λ (x : Entry). Fits ((noted_machine d).after (noted_now parts) x) (meant noted_of new))
               entry_is (after (noted_now parts) sound_now fits_mid)
 
           long : length next ≡ length (all_parts d)
@@ -206,7 +206,7 @@ module _ (d : Declared) (parts : List (ℕ × Part)) (n : ℕ) (f : Follows d pa
                     (noted_entry r) (meant log_of parts) f.logs);
               }
 
-          pub is_made_noted : HeldFit (noting_machine d).fits (n + 1) (meant noted_of new)
+          pub is_made_noted : HeldFit (noted_machine d).fits (n + 1) (meant noted_of new)
               → meant log_of new
               ≡ appended (kept_at d (activity_of d (noted_entry r).actor)) (n + 1, noted_entry r)
               (meant log_of mid)
@@ -232,7 +232,7 @@ pub record IsLed (d : Declared) (h : List Entry) (n : ℕ) (parts : List (ℕ ×
   pub opening : List Part
   pub opens : map meaning_of opening ≡ slices d (opening_state d)
   pub blank : All (λ (x : Part). notes_of x ≡ []) opening
-  pub led : noted_now parts ≡ leads (noting_machine d) (map noted_of opening) (take n h)
+  pub led : noted_now parts ≡ leads (noted_machine d) (map noted_of opening) (take n h)
 
 module _ (d : Declared) (h : List Entry) where
   pub led_first : (xs : List Part) → map meaning_of xs ≡ slices d (opening_state d)
@@ -247,7 +247,7 @@ module _ (d : Declared) (h : List Entry) where
 
   pub led_further : (n : ℕ) (e : Entry) → n < length h → e ≡ get_or h n e
       → (old new : List (ℕ × Part)) → IsLed d h n old
-      → noted_now new ≡ (noting_machine d).after (noted_now old) e → IsLed d h (n + 1) new
+      → noted_now new ≡ (noted_machine d).after (noted_now old) e → IsLed d h (n + 1) new
   led_further n e within is old new led made =
       let opening = map noted_of led.opening in
       let longer : take (n + 1) h ≡ take n h ++ e ∷ [] =
@@ -257,9 +257,9 @@ module _ (d : Declared) (h : List Entry) where
         opens = led.opens;
         blank = led.blank;
         led =
-            made ∙ ap (λ all. (noting_machine d).after all e) led.led
-            ∙ sym (leads_more (noting_machine d) opening (take n h) e)
-            ∙ ap (leads (noting_machine d) opening) (sym longer);
+            made ∙ ap (λ all. (noted_machine d).after all e) led.led
+            ∙ sym (leads_more (noted_machine d) opening (take n h) e)
+            ∙ ap (leads (noted_machine d) opening) (sym longer);
       }
 
   -- behind the last entry
@@ -282,7 +282,7 @@ module _ (d : Declared) (h : List Entry) where
     seconds (x ∷ xs) = ap (λ (l : List (Noted Slice ℕ)). noted_of x.1 ∷ l) (seconds xs)
 
     pub ran : (left : List Part) → left ≡ map (λ x. x.1) parts
-        → turning.IsFinished (noting_machine d) (λ (e : Entry). is_last e.act)
+        → turning.IsFinished (noted_machine d) (λ (e : Entry). is_last e.act)
         (map noted_of led.opening) h (map noted_of left)
     ran left is = record {
       legal =
@@ -291,6 +291,6 @@ module _ (d : Declared) (h : List Entry) where
       ends = (ends.before, ends.last, ends.split, ap is_last ends.stop);
       leads_to =
           ap (map noted_of) is ∙ seconds parts ∙ led.led
-          ∙ ap (leads (noting_machine d) (map noted_of led.opening))
+          ∙ ap (leads (noted_machine d) (map noted_of led.opening))
           (take_all n h (omega (arith, whole_length)));
     }

@@ -5,12 +5,13 @@ use Rattle.be_machine.specs.Legal.{IsLegal}
 use Rattle.be_machine.specs.Step.{step}
 use Rattle.be_machine.specs.declared.Entry.{Entry}
 use Rattle.be_check.specs.Following.{Follows, now_of, state_in}
-use Rattle.be_noted.specs.Noting.{noted_of, noting_machine}
+use Rattle.be_noted.specs.Noting.{noted_of}
 use Rattle.be_noting.specs.Noting.{Noted}
 use Rattle.be_parts.specs.declared.part.Part.{Part}
 use Rattle.be_rules.specs.Rules.{IsSound}
 use Rattle.be_rules.specs.Slices.{Slice, all_parts}
 use Rattle.be_script.specs.Script.{Declared}
+use Rattle.be_jotted.specs.Jotting.{noted_machine}
 
 -- all parts are in hand, as some legal history leaves them
 pub record HasAll (d : Declared) (parts : List (ℕ × Part)) : Type 0 where
@@ -30,7 +31,7 @@ noted_now parts = map (λ x. noted_of x.1) parts
 -- and what its maker notes was kept
 pub record IsMadeNoted (d : Declared) (e : Entry) (n : ℕ) (old new : List (ℕ × Part)) : Type 0 where
   pub made : IsMade d e n old new
-  pub noted : noted_now new ≡ (noting_machine d).after (noted_now old) e
+  pub noted : noted_now new ≡ (noted_machine d).after (noted_now old) e
 
 -- it was made where it is legal, and is said not to be where it isn't
 abbrev pub IsTried : Declared → Entry → ℕ → List (ℕ × Part) → List (ℕ × Part) → Bool → Type 0

@@ -17,7 +17,8 @@ use Rattle.be_span.specs.Spans.{Spans, cell_in}
 use Rattle.be_span.proofs.GridLemmas.{IsIn, in_from}
 use Rattle.be_span.proofs.LaidLemmas.{has_more}
 use Rattle.be_span.proofs.CellLemmas.{same_map}
-use Rattle.be_desk.specs.Exposing.{Rule, IsRuledRow, IsRuledAbove}
+use Rattle.be_span.specs.Painting.{Rule}
+use Rattle.be_desk.specs.Exposing.{IsRuledRow, IsRuledAbove}
 
 -- ---- what is left to do
 

@@ -2,12 +2,8 @@
 use Rattle.std.specs.Prelude.{◌≡◌, ℤ, ◌≤ℤ◌, ◌<ℤ◌, ◌⊎◌}
 use Rattle.std.specs.Option.{option_map}
 use Rattle.be_geom.specs.declared.rect.Rect.{Rect}
-use Rattle.be_span.specs.declared.Cell.{Cell}
 use Rattle.be_span.specs.Spans.{Spans, cell_in}
-
--- what a rule makes of each pixel's cell
-abbrev pub Rule : Type 0
-Rule = ℤ → ℤ → Cell → Cell
+use Rattle.be_span.specs.Painting.{Rule}
 
 -- each pixel of row y from column x up to before column `end` has what the rule makes of its cell,
 -- and all others stay

@@ -9,9 +9,10 @@ use Rattle.std.proofs.lemmas.List.{append-nil}
 use Rattle.std.proofs.lemmas.Str.{IsUtf8-from_ascii}
 use Rattle.be_facts.proofs.Bytes.{letter_is_ascii}
 use Rattle.be_facts.proofs.Truths.{and_first, and_second}
+use Rattle.be_lex.specs.Names.{is_name_byte}
 use Rattle.be_message.specs.Fields.{has_name}
 use Rattle.be_message.specs.Messages.{Message}
-use Rattle.be_message.specs.Names.{is_name, is_name_byte}
+use Rattle.be_message.specs.Names.{is_name}
 use Rattle.be_message.proofs.NameLemmas.{byte_is_ascii}
 use Rattle.be_flat.specs.declared.fault.FlatError.TheVariants.{BadByte}
 use Rattle.be_flat.specs.Reading.{Rest, ◌>>=◌, byte_at, byte_that, bytes_that, goes_on_name, unless_taken, name_at}

@@ -4,12 +4,13 @@ use Rattle.std.specs.Prelude.{if◌then◌else◌, List, [], ◌∷◌, ◌++◌
 use Rattle.std.specs.List.{list_any}
 use Rattle.std.specs.Char.{is_ascii_lowercase}
 use Rattle.std.specs.Int.{w16, w32, from_le_bytes, cast_signed}
+use Rattle.be_lex.specs.Names.{is_name_byte}
 use Rattle.be_message.specs.declared.kind.Kind.{Kind}
 use Rattle.be_message.specs.declared.kind.Kind.TheVariants as kind
 use Rattle.be_message.specs.Fields.{has_name, with_value}
 use Rattle.be_message.specs.Limits.{most_name_bytes, most_text_bytes, most_depth}
 use Rattle.be_message.specs.Messages.{Datum, bool, int, text, point, rect, Message, packed}
-use Rattle.be_message.specs.Names.{is_name_byte, is_text_byte}
+use Rattle.be_message.specs.Names.{is_text_byte}
 use Rattle.be_flat.specs.declared.fault.FlatError.{FlatError}
 use Rattle.be_flat.specs.declared.fault.FlatError.TheVariants.{Truncated, BadByte, Extra, NoMemory}
 use Rattle.be_flat.specs.Codes.{begin_code, kind_spelt}

@@ -1,13 +1,10 @@
 -- Which bytes are a field's name, and which are a text that a message can hold (this project's
 -- own).
-use Rattle.std.specs.Prelude.{ℕ, Bool, false, ◌==◌, ◌&&◌, ◌||◌, nat_le, List, [], ◌∷◌, length}
+use Rattle.std.specs.Prelude.{ℕ, Bool, false, ◌&&◌, nat_le, List, [], ◌∷◌, length}
 use Rattle.std.specs.List.{list_all}
-use Rattle.std.specs.Char.{is_ascii_digit, is_ascii_lowercase}
+use Rattle.std.specs.Char.{is_ascii_lowercase}
+use Rattle.be_lex.specs.Names.{is_name_byte}
 use Rattle.be_message.specs.Limits.{most_name_bytes, most_text_bytes}
-
--- a to z, 0 to 9 and the low line
-abbrev pub is_name_byte : ℕ → Bool
-is_name_byte b = is_ascii_lowercase b || is_ascii_digit b || (b == 95)
 
 -- a name: 1 to 32 of those, a letter first
 unfoldable pub is_name : List ℕ → Bool

@@ -11,7 +11,8 @@ use Rattle.be_parts.specs.declared.part.Part.{Part}
 use Rattle.be_rules.specs.Rules.{SliceFits, world_machine}
 use Rattle.be_rules.specs.Slices.{Slice}
 use Rattle.be_script.specs.Script.{Declared}
-use Rattle.be_noted.specs.Noting.{noted_of, noting_machine, told_of}
+use Rattle.be_jotted.specs.Jotting.{noted_machine, told_of}
+use Rattle.be_noted.specs.Noting.{noted_of}
 
 pub seen_is : (parts : List (ℕ × Part)) → seen (meant noted_of parts) ≡ meant meaning_of parts
 seen_is parts = meant_twice (λ (y : Noted Slice ℕ). y.means) noted_of parts
@@ -46,20 +47,20 @@ module _ (d : Declared) (parts : List (ℕ × Part)) where
       subst (Fits (meanings all)) (seen_is parts)
       (fits_seen (world_machine d) (told_of d) (meant noted_of parts) all fits)
 
-  pub some_alone : SomeFits (noting_machine d) (meant noted_of parts)
+  pub some_alone : SomeFits (noted_machine d) (meant noted_of parts)
       → SomeFits (world_machine d) (meant meaning_of parts)
   some_alone some =
       subst (SomeFits (world_machine d)) (seen_is parts)
       (some_seen (world_machine d) (told_of d) (meant noted_of parts) some)
 
-  pub fit_alone : (n : ℕ) → HeldFit (noting_machine d).fits n (meant noted_of parts)
+  pub fit_alone : (n : ℕ) → HeldFit (noted_machine d).fits n (meant noted_of parts)
       → HeldFit SliceFits n (meant meaning_of parts)
   fit_alone n fit =
       subst (HeldFit SliceFits n) (seen_is parts)
       (held_fit_seen (world_machine d) (told_of d) (meant noted_of parts) n fit)
 
   pub fit_noted : (n : ℕ) → HeldFit SliceFits n (meant meaning_of parts)
-      → HeldFit (noting_machine d).fits n (meant noted_of parts)
+      → HeldFit (noted_machine d).fits n (meant noted_of parts)
   fit_noted n fit =
       held_fit_noted (world_machine d) (told_of d) (meant noted_of parts) n
       (subst (HeldFit SliceFits n) (sym (seen_is parts)) fit)
@@ -75,13 +76,13 @@ module _ (d : Declared) (parts : List (ℕ × Part)) where
       (subst (λ h. IsHeld h p) (sym (seen_is parts)) held)
 
   pub ready_with : (e : Entry) → IsReady (world_machine d) (meant meaning_of parts) e
-      → IsReady (noting_machine d) (meant noted_of parts) e
+      → IsReady (noted_machine d) (meant noted_of parts) e
   ready_with e ready =
       ready_noted (world_machine d) (told_of d) (meant noted_of parts) e
       (subst (λ h. IsReady (world_machine d) h e) (sym (seen_is parts)) ready)
 
-  pub ready_alone : SomeFits (noting_machine d) (meant noted_of parts) → (e : Entry)
-      → IsReady (noting_machine d) (meant noted_of parts) e
+  pub ready_alone : SomeFits (noted_machine d) (meant noted_of parts) → (e : Entry)
+      → IsReady (noted_machine d) (meant noted_of parts) e
       → IsReady (world_machine d) (meant meaning_of parts) e
   ready_alone some e ready =
       subst (λ h. IsReady (world_machine d) h e) (seen_is parts)

@@ -21,9 +21,10 @@ use Rattle.be_world.specs.Performing.{HasPerformed}
 use Rattle.be_world.specs.Preparing.{IsVerdict, entry_in, work_in}
 use Rattle.be_world.specs.Suits.{IsPrepared, MayStep}
 use Rattle.be_world.specs.declared.preparing.ReadyEntry.{ReadyEntry}
+use Rattle.be_jotted.specs.Jotting.{noted_machine, told_of}
 use Rattle.be_noted.proofs.Both.{fits_alone, fits_back, held_alone, notes_are, seen_is}
 use Rattle.be_noted.specs.Noted.{IsNoted, IsNotedBy}
-use Rattle.be_noted.specs.Noting.{IsNotedVerdict, noted_of, noting_machine, told_of}
+use Rattle.be_noted.specs.Noting.{IsNotedVerdict, noted_of}
 
 -- ---- made ready
 
@@ -94,8 +95,8 @@ module _ (d : Declared) (e : Entry) (text : List ℕ) (n : ℕ) (old new : Hand 
       (done.after all sound (fits_back d old.parts all fits))
 
   pub after_is : IsNotedBy d old.parts e.actor text → (all : List (Noted Slice ℕ))
-      → (noting_machine d).sound all → Fits all (meant noted_of old.parts)
-      → Fits ((noting_machine d).after all e) (meant noted_of new.parts)
+      → (noted_machine d).sound all → Fits all (meant noted_of old.parts)
+      → Fits ((noted_machine d).after all e) (meant noted_of new.parts)
   after_is noted =
       after_noted (world_machine d) (told_of d) (meant noted_of old.parts) e text
       (meant noted_of new.parts) seen_after

@@ -2,28 +2,19 @@
 use Rattle.std.specs.Prelude.{ℕ, Bool, List, Option}
 use Rattle.be_hall.specs.Answers.{Answers}
 use Rattle.be_hall.specs.Hands.{meant}
-use Rattle.be_hall.specs.Machine.{Machine}
 use Rattle.be_hall.specs.declared.parts.Verdict.{Verdict}
 use Rattle.be_machine.specs.declared.Entry.{Entry}
-use Rattle.be_noting.specs.Noting.{Noted, meanings, noting}
+use Rattle.be_noting.specs.Noting.{Noted, meanings}
 use Rattle.be_parts.specs.Kept.{note_in}
 use Rattle.be_parts.specs.Parts.{meaning_of, notes_of, spare_of}
 use Rattle.be_parts.specs.declared.part.Part.{Part}
-use Rattle.be_rules.specs.Rules.{world_machine}
-use Rattle.be_rules.specs.Slices.{Slice, state_of}
+use Rattle.be_rules.specs.Slices.{Slice}
 use Rattle.be_script.specs.Script.{Declared}
 use Rattle.be_world.specs.Preparing.{IsPreparedEntry, entry_in}
 use Rattle.be_world.specs.Turns.{has_stopped, legal_entry}
-use Rattle.be_written.specs.Notings.{entry_text}
+use Rattle.be_jotted.specs.Jotting.{noted_machine}
 use Rattle.be_noted.specs.Noted.{IsNotedBy}
 use Rattle.be_noted.specs.declared.parts.NotedEntry.{NotedEntry}
-
--- what is noted of an entry in the state for which the slices stand
-abbrev pub told_of : Declared → List Slice → Entry → List ℕ
-told_of d all e = entry_text d (state_of d all) e
-
-abbrev pub noting_machine : Declared → Machine (Noted Slice ℕ) Entry
-noting_machine d = noting (world_machine d) (told_of d)
 
 abbrev pub noted_of : Part → Noted Slice ℕ
 noted_of part = record { means = meaning_of part; notes = notes_of part }
@@ -52,5 +43,5 @@ IsNotedEntry d parts it =
 -- this holds of the entry, whatever the other parts are
 abbrev pub IsNotedVerdict : Declared → List (ℕ × Part) → Entry → Verdict NotedEntry → Type 0
 IsNotedVerdict d parts e =
-    Answers (noting_machine d) (meant noted_of parts) (meant spare_of parts) noted_entry noted_seen
+    Answers (noted_machine d) (meant noted_of parts) (meant spare_of parts) noted_entry noted_seen
     (IsNotedEntry d parts) e

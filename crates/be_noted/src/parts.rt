@@ -5,6 +5,7 @@ ghost use Rattle.be_hall.specs.Machine.{IsAskable};
 ghost use Rattle.be_noted.specs.Noting.{IsNotedVerdict, noted_of};
 ghost use Rattle.be_parts.specs.Parts.{log_of, meaning_of};
 ghost use Rattle.be_rules.specs.Rules.{world_machine};
+ghost use Rattle.be_jotted.specs.Jotting.{noted_machine};
 
 use crate::noting::{NotedMeaning, Noting};
 use crate::wanting::note_entry;
@@ -60,7 +61,7 @@ impl Noting {
 impl Parts for Noting {
     ghost use Rattle.be_noted.specs.NotingLaws.{noting_is_lawful};
     ghost use Rattle.be_noted.specs.Noting.{IsNotedEntry, noted_entry, noted_of};
-    ghost use Rattle.be_noted.specs.Noting.{noted_seen, noting_machine};
+    ghost use Rattle.be_noted.specs.Noting.{noted_seen};
     ghost use Rattle.be_parts.specs.Parts.{log_of, spare_of};
 
     type Part = Part;
@@ -71,7 +72,7 @@ impl Parts for Noting {
 
     type Meaning = NotedMeaning;
 
-    ghost machine = { λ it. noting_machine it };
+    ghost machine = { λ it. noted_machine it };
 
     ghost meaning = { λ part. noted_of part };
 

@@ -6,12 +6,13 @@ use Rattle.std.proofs.lemmas.Bool.{and_parts, and_from}
 use Rattle.std.proofs.lemmas.Bool.Decides.{nat_tests}
 use Rattle.std.proofs.lemmas.List.Folds.{list_all-append}
 use Rattle.be_lex.proofs.Spelling.{list_all_weaker}
+use Rattle.be_lex.specs.Names.{is_name_byte}
 use Rattle.be_port.specs.declared.Posted.{Posted}
 use Rattle.be_port.specs.declared.Posted.TheVariants.{Accepted, WouldBlock, BadPort, TooDeep}
 use Rattle.be_twin.specs.declared.Outcome.{Outcome}
 use Rattle.be_twin.specs.declared.Outcome.TheVariants as outcome
 use Rattle.be_script.specs.Limits.{IsWithinLimits}
-use Rattle.be_script.specs.Names.{is_name_byte, is_reserved_name, is_declared_name, are_different, are_names}
+use Rattle.be_script.specs.Names.{is_reserved_name, is_declared_name, are_different, are_names}
 use Rattle.be_script.specs.Programs.{is_note}
 use Rattle.be_script.specs.Script.{Declared}
 use Rattle.be_script.specs.declared.WindowLine.{WindowLine}

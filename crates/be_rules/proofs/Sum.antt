@@ -9,6 +9,7 @@ use Rattle.be_script.specs.Script.{Declared}
 use Rattle.be_script.specs.Work.{update_cost, updates_cost}
 use Rattle.be_span.specs.declared.Cell.{Cell}
 use Rattle.be_update.specs.Sessions.{is_any, dirty_from, dirty_pixels}
+use Rattle.be_span.specs.Spans.{is_dirty as is_dirty_cell}
 use Rattle.be_machine.specs.Program.{app_program}
 use Rattle.be_machine.specs.State.{State}
 use Rattle.be_machine.specs.Touched.{Part}
@@ -17,7 +18,7 @@ use Rattle.be_machine.specs.Windows.{width_of, owned}
 use Rattle.be_machine.proofs.HasParts.{HasParts}
 use Rattle.be_machine.specs.Shares.{left, app_cost, looper_share, letter_share, in_buffer, in_link, dirt, is_dirty, apps_share, loopers_share, ports_share, buffers_share, links_share, dirt_share, potential}
 use Rattle.be_machine.proofs.WaitingSums.{total_append}
-use Rattle.be_rules.specs.Shares.{share, app_part, looper_part, buffer_part, port_part, link_part, pane_part, is_dirty_cell, any_dirty}
+use Rattle.be_rules.specs.Shares.{share, app_part, looper_part, buffer_part, port_part, link_part, pane_part, any_dirty}
 use Rattle.be_rules.specs.Slices.{own_from, slice_of, slices}
 use Rattle.be_rules.proofs.ListLemmas.{total_ranged, total_map, total_two}
 

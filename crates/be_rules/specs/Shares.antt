@@ -8,6 +8,7 @@ use Rattle.be_port.specs.Ports.{Port, queue_of}
 use Rattle.be_script.specs.Script.{Declared}
 use Rattle.be_script.specs.Work.{update_cost, updates_cost}
 use Rattle.be_span.specs.declared.Cell.{Cell}
+use Rattle.be_span.specs.Spans.{is_dirty}
 use Rattle.be_machine.specs.Program.{app_program}
 use Rattle.be_machine.specs.State.{App, Looper}
 use Rattle.be_machine.specs.Shares.{left, app_cost, looper_share, letter_share, in_buffer, in_link}
@@ -34,13 +35,9 @@ abbrev pub link_part : Declared → Option (List Numbered) → ℕ
 link_part d (Some l) = sum_by (in_link (updates_cost d)) l
 link_part d None = 0
 
-abbrev pub is_dirty_cell : Option Cell → Bool
-is_dirty_cell (Some c) = c.dirty
-is_dirty_cell None = false
-
 abbrev pub any_dirty : List (Option Cell) → Bool
 any_dirty [] = false
-any_dirty (o ∷ os) = if is_dirty_cell o then true else any_dirty os
+any_dirty (o ∷ os) = if is_dirty o then true else any_dirty os
 
 abbrev pub pane_part : Declared → ℕ → Option Pane → Bool → ℕ
 pane_part d w (Some p) dirty = dirt (update_cost d w) dirty p

@@ -13,7 +13,7 @@ use Rattle.be_machine.specs.Activities.{Runner, app, looper, runner}
 use Rattle.be_machine.specs.History.{IsFinished, state_after}
 use Rattle.be_machine.specs.State.{opening_state}
 use Rattle.be_machine.specs.declared.Entry.{Entry}
-use Rattle.be_noted.specs.Noting.{noted_of, noting_machine, told_of}
+use Rattle.be_noted.specs.Noting.{noted_of}
 use Rattle.be_noting.proofs.NotedRuns.{run_finished, run_notes}
 use Rattle.be_noting.specs.Noting.{noted_from}
 use Rattle.be_parts.specs.Parts.{meaning_of, notes_of}
@@ -31,6 +31,7 @@ use Rattle.be_turns.specs.Turning as turning
 use Rattle.be_world.specs.Turns.{is_last}
 use Rattle.be_written.specs.Notings.{AreTold}
 use Rattle.be_written.specs.Runners.{IsRunner}
+use Rattle.be_jotted.specs.Jotting.{noted_machine, told_of}
 
 -- ---- lists of parts
 
@@ -59,7 +60,7 @@ in_range_of d (looper w) there = there
 module _ (d : Declared) (limits : IsWithinLimits d) (xs : List Part)
     (opens : map meaning_of xs ≡ slices d (opening_state d))
     (blank : All (λ (x : Part). notes_of x ≡ []) xs) (h : List Entry) (ys : List Part)
-    (ran : turning.IsFinished (noting_machine d) (λ (e : Entry). is_last e.act) (map noted_of xs) h
+    (ran : turning.IsFinished (noted_machine d) (λ (e : Entry). is_last e.act) (map noted_of xs) h
     (map noted_of ys)) where
   -- without the notes
   pub ended : turning.IsFinished (world_machine d) (λ (e : Entry). is_last e.act)

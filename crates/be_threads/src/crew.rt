@@ -1,9 +1,10 @@
 //! All workers at once.
 ghost use Rattle.std.specs.Prelude.{All};
 ghost use Rattle.be_machine.specs.Activities.{activities};
-ghost use Rattle.be_noted.specs.Noting.{noted_of, noting_machine};
+ghost use Rattle.be_noted.specs.Noting.{noted_of};
 ghost use Rattle.be_workers.specs.Workers.{AreWorkers, IsDone};
 ghost use Rattle.be_world.specs.Turns.{is_last, is_own};
+ghost use Rattle.be_jotted.specs.Jotting.{noted_machine};
 
 use be_bells::Bells;
 use be_hall::Hall;
@@ -22,7 +23,7 @@ pub(crate) fn work_all<R: Threads + Wait + Sync, G: Gate + Sync>(
     workers: &mut [Worker<Noting>],
     spread: Spread,
 )
-    requires { AreWorkers (λ it. noting_machine it) (λ part. noted_of part)
+    requires { AreWorkers (λ it. noted_machine it) (λ part. noted_of part)
         (λ it activity place. is_own it activity place) (λ it. activities it)
         hall.now workers.old }
     ensures { All (IsDone (λ part. noted_of part) (λ entry. is_last entry.act) hall.now)

@@ -14,11 +14,12 @@ use Rattle.be_flat.specs.Codes.{code_of}
 use Rattle.be_flat.specs.Grammar.{Spells, SpellsCoordinate, SpellsDatum, SpellsFields, SpellsInt}
 use Rattle.be_flat.specs.Grammar.{SpellsPoint, SpellsValues}
 use Rattle.be_lex.proofs.HexSpelling.{are_bytes_each, bytes_cons}
+use Rattle.be_lex.specs.Names.{is_name_byte}
 use Rattle.be_message.specs.declared.kind.Kind.{Kind}
 use Rattle.be_message.specs.declared.kind.Kind.TheVariants as kind
 use Rattle.be_message.specs.Messages.{Datum, bool, int, text, point, rect, message, Fields, no_fields}
 use Rattle.be_message.specs.Messages.{field, Values, no_values, value, all_fields}
-use Rattle.be_message.specs.Names.{is_name, is_name_byte}
+use Rattle.be_message.specs.Names.{is_name}
 use Rattle.be_message.specs.Sound.{kind_of, field_count, value_count}
 use Rattle.be_views.specs.Trees.{Tree}
 

@@ -1,7 +1,7 @@
 use Rattle.std.proofs.Common.{length, map, refl, ap, subst, ◌∙◌}
 use Rattle.be_machine.specs.Activities.{activities}
 use Rattle.be_machine.specs.Schedule.{IsScheduled, entries_from}
-use Rattle.be_noted.specs.Noting.{noted_of, told_of}
+use Rattle.be_noted.specs.Noting.{noted_of}
 use Rattle.be_noting.proofs.NotedRuns.{run_picked}
 use Rattle.be_parts.specs.Parts.{meaning_of}
 use Rattle.be_rules.specs.Rules.{world_machine}
@@ -13,6 +13,7 @@ use Rattle.be_runs.specs.declared.finished.Finished.{Finished}
 use Rattle.be_script.specs.Limits.{IsWithinLimits}
 use Rattle.be_script.specs.Script.{Declared}
 use Rattle.be_world.specs.Turns.{legal_entry}
+use Rattle.be_jotted.specs.Jotting.{told_of}
 use Rattle.be_runs.proofs.alone.run_alone.Goals as goal
 
 pub returns-clause-leaves : goal.returns-clause-leaves

@@ -2,7 +2,7 @@ use Rattle.std.proofs.Common.{◌≡◌, ℕ, List, All, length, map, sym, ap, s
 use Rattle.be_facts.proofs.Lists.{whole_again}
 use Rattle.be_hall.specs.Words.{opened}
 use Rattle.be_machine.specs.declared.Entry.{Entry}
-use Rattle.be_noted.specs.Noting.{noted_of, noting_machine}
+use Rattle.be_noted.specs.Noting.{noted_of}
 use Rattle.be_noting.specs.Noting.{Noted}
 use Rattle.be_rules.specs.Slices.{Slice}
 use Rattle.be_runs.proofs.Left.{is_finished, parts_are, traces_are}
@@ -13,6 +13,7 @@ use Rattle.be_script.specs.Script.{Declared}
 use Rattle.be_turns.specs.Turning as turning
 use Rattle.be_workers.specs.Workers.{IsDone}
 use Rattle.be_world.specs.Turns.{is_last}
+use Rattle.be_jotted.specs.Jotting.{noted_machine}
 use Rattle.be_threads.proofs.run.run.Goals as goal
 
 pub finish-requires-clause-sound : goal.finish-requires-clause-sound
@@ -21,9 +22,9 @@ finish-requires-clause-sound g c =
     let all = map noted_of c.in_ok-parts.parts.items in
     let begun : (opened noted_of hall).opening ≡ all =
     ap (λ about. about.opening) c.in_ok-hall.ensures.opened in
-    subst (λ (w : Declared). (noting_machine w).sound (opened noted_of hall).opening)
+    subst (λ (w : Declared). (noted_machine w).sound (opened noted_of hall).opening)
     (sym c.in_ok-hall.ensures.rules)
-    (subst (noting_machine c.new-noting.result).sound (sym begun) c.in_ok-parts.ensures.sound)
+    (subst (noted_machine c.new-noting.result).sound (sym begun) c.in_ok-parts.ensures.sound)
 
 pub finish-requires-clause-workers : goal.finish-requires-clause-workers
 finish-requires-clause-workers g c =
@@ -52,13 +53,13 @@ returns g c =
     let left = map noted_of ys in
     let begun : (opened noted_of hall).opening ≡ all =
     ap (λ about. about.opening) c.in_ok-hall.ensures.opened in
-    let ends : turning.IsFinished (noting_machine d) (λ (e : Entry). is_last e.act) all h left =
+    let ends : turning.IsFinished (noted_machine d) (λ (e : Entry). is_last e.act) all h left =
     subst
-    (λ (l : List (Noted Slice ℕ)). turning.IsFinished (noting_machine d)
+    (λ (l : List (Noted Slice ℕ)). turning.IsFinished (noted_machine d)
     (λ (e : Entry). is_last e.act) l h left)
     begun
     (subst
-    (λ (w : Declared). turning.IsFinished (noting_machine w) (λ (e : Entry). is_last e.act)
+    (λ (w : Declared). turning.IsFinished (noted_machine w) (λ (e : Entry). is_last e.act)
     (opened noted_of hall).opening h left)
     c.in_ok-hall.ensures.rules c.in_ok-closed.ensures.finished) in
     let run : Finished =

@@ -3,9 +3,10 @@ use Rattle.be_hall.specs.Machine.{IsReady}
 use Rattle.be_parts.specs.Kept.{note_in}
 use Rattle.be_script.specs.Script.{Declared}
 use Rattle.be_world.specs.Performing.{HasPerformed, MayMake}
+use Rattle.be_jotted.specs.Jotting.{noted_machine}
 use Rattle.be_noted.proofs.Both.{fit_alone, fit_noted, ready_alone, some_alone}
 use Rattle.be_noted.proofs.Noted.{after_is}
-use Rattle.be_noted.specs.Noting.{noted_entry, noting_machine}
+use Rattle.be_noted.specs.Noting.{noted_entry}
 use Rattle.be_noted.proofs.parts.NotingParts.perform.Goals as goal
 
 pub make-requires : goal.make-requires
@@ -22,7 +23,7 @@ make-requires c =
       prepared = c.requires.prepared.0;
       ready =
           ready_alone d parts c.requires.fitting e
-          (subst (λ h. IsReady (noting_machine d) h e) c.requires.seen c.requires.permitted);
+          (subst (λ h. IsReady (noted_machine d) h e) c.requires.seen c.requires.permitted);
       spare = c.requires.spare;
     })
 

@@ -5,7 +5,7 @@ use Rattle.be_rules.specs.Rules.{world_machine}
 use Rattle.be_script.specs.Script.{Declared}
 use Rattle.be_serial.specs.Known.{Stirs}
 use Rattle.be_world.specs.Turns.{legal_entry}
-use Rattle.be_noted.specs.Noting.{told_of}
+use Rattle.be_jotted.specs.Jotting.{told_of}
 use Rattle.be_noted.proofs.turns.NotingClosing.stir.Goals as goal
 
 pub returns : goal.returns

@@ -6,8 +6,9 @@ use Rattle.be_parts.specs.Parts.{meaning_of}
 use Rattle.be_rules.specs.Rules.{world_machine}
 use Rattle.be_script.specs.Script.{Declared}
 use Rattle.be_world.specs.Turns.{HasEntry, legal_entry}
+use Rattle.be_jotted.specs.Jotting.{told_of}
 use Rattle.be_noted.proofs.Both.{fit_alone, fits_back, some_alone}
-use Rattle.be_noted.specs.Noting.{noted_of, told_of}
+use Rattle.be_noted.specs.Noting.{noted_of}
 use Rattle.be_noted.proofs.turns.NotingTurns.has_entry.Goals as goal
 
 pub has_entry-requires-clause-fitting : goal.has_entry-requires-clause-fitting

@@ -8,8 +8,9 @@ use Rattle.be_rules.specs.Rules.{world_machine}
 use Rattle.be_script.specs.Script.{Declared}
 use Rattle.be_turns.specs.Turning.{Tells}
 use Rattle.be_world.specs.Turns.{is_own, legal_entry}
+use Rattle.be_jotted.specs.Jotting.{noted_machine, told_of}
 use Rattle.be_noted.proofs.Both.{fit_alone, held_alone, seen_is, some_alone}
-use Rattle.be_noted.specs.Noting.{noted_legal, noted_of, noting_machine, told_of}
+use Rattle.be_noted.specs.Noting.{noted_legal, noted_of}
 use Rattle.be_noted.proofs.turns.NotingTurns.next.Goals as goal
 
 pub next-requires-clause-own : goal.next-requires-clause-own
@@ -37,7 +38,7 @@ returns c =
     let a = c.args.activity in
     IfOk-weaker c.next.result
     (Tells (world_machine d) (legal_entry d) a (meant meaning_of parts))
-    (Tells (noting_machine d) (noted_legal d) a (meant noted_of parts))
+    (Tells (noted_machine d) (noted_legal d) a (meant noted_of parts))
     (λ turn tells. tells_noted (world_machine d) (told_of d) (meant noted_of parts) (legal_entry d)
     a turn (subst (λ h. Tells (world_machine d) (legal_entry d) a h turn) (sym (seen_is parts))
     tells)) (subst (λ (x : Declared). IfOk c.next.result
