@@ -1,2 +1,5 @@
+pub mod AboveLemmas
 pub mod FilterLemmas
+pub mod FirstLemmas
+pub mod Pigeonhole
 pub mod RouteLemmas
