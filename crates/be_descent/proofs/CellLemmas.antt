@@ -95,7 +95,7 @@ color_at picture way colors column before row k x y far one down each =
     out h (inl none) = omega (arith, ints)
     out h (inr none) = absurd (omega arith)
 
--- pixel_over a picture it is the transparent one
+-- above a picture it is the transparent one
 pub none_above : (brush : Brush) (picture : Picture) (way : Way) (x y : ℤ) (o : Option Cell)
     → (y -ℤ way.down) <ℤ pos 0
     → o ≡ option_map (painted brush (picture_color picture way x y)) o

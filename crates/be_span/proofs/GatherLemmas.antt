@@ -219,7 +219,7 @@ upper_clean : (a d : Option Cell) → is_dirty a ≡ false → is_dirty d ≡ fa
 upper_clean (Some c) d e f = e
 upper_clean None d e f = f
 
--- where no cell of true_or_false buffer is dirty, none of theirs is
+-- where no cell of either buffer is dirty, none of theirs is
 pub gathered_clean : (under over : Spans) (rs : List Rect) (cells : List Cell) → AreBands rs → length cells ≡ pixels_of rs → ((x y : ℤ) (n : ℕ) → place_of rs x y ≡ Some n → slice_get cells n ≡ upper_in under over x y) → count_by (λ c. c.dirty) under.cells ≡ 0 → count_by (λ c. c.dirty) over.cells ≡ 0 → count_by (λ c. c.dirty) cells ≡ 0
 gathered_clean under over rs cells bands long h e f =
     all_clean cells (λ k less. at_pixel k (pixel_of rs k bands.none_empty bands.in_order (omega arith)))

@@ -95,7 +95,7 @@ other_row w y h =
       | inr b ↦ b
     ]
 
--- the cells that wait suc_more to the end of a run are those before it, and the run's rectangle
+-- the cells that wait up to the end of a run are those before it, and the run's rectangle
 row_waits : (cells : List Cell) (at start end : ℕ) (r : Rect) (left y x w : ℤ) → IsRun cells at start end → IsRunAt r left start end → r.top ≡ y → r.bottom ≡ y → waits_in (take end cells) left y x w ≡ (waits_in (take at cells) left y x w || rect_has r x w)
 row_waits cells at start end r left y x w run place top bottom =
     elim (true_or_false (int_eq w y)) [

@@ -416,7 +416,7 @@ module _ {T M : Type 0} (f : T → M) where
   same_places held other is =
       sym (places_meant held) ∙ (ap (map (λ x. x.0)) is ∙ places_meant other)
 
-  -- a place that isn't in hand, where all that were wanted are, makes what is wanted length_push
+  -- a place that isn't in hand, where all that were wanted are, makes what is wanted longer
   pub grown : (owns : ℕ → Bool) (more : List ℕ) (held : List (ℕ × T)) (ps : List ℕ) (n p : ℕ)
       → places_of held ≡ ps → ps ≡ wanted_below owns more n
       → (p < n) × (IsHeld (meant f held) p → ⊥) → length more ≤ length ps
