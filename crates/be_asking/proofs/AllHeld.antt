@@ -49,7 +49,7 @@ use Rattle.be_asking.proofs.InHand.{not_held}
 
 module _ (d : Declared) (a : ℕ) (who : Activity) (number : activity_of d a ≡ Some who) where
   -- what an entry of the activity touches is one of the script's parts
-  touched_below : (t : State) (e : Entry) (p : ℕ) → e.actor ≡ a → TouchesAt d t e p → p < length (all_parts d)
+  pub touched_below : (t : State) (e : Entry) (p : ℕ) → e.actor ≡ a → TouchesAt d t e p → p < length (all_parts d)
   touched_below t e p by (inl is) =
       let at : p ≡ kept_at d (Some who) = is ∙ ap (λ (n : ℕ). kept_at d (activity_of d n)) by ∙ ap (kept_at d) number in
       subst (λ (k : ℕ). k < length (all_parts d)) (sym at) (there_in (all_parts d) (kept_at d (Some who)) (own_of who) (kept_there d who (in_range d a who number)))

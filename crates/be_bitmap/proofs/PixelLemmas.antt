@@ -1,23 +1,11 @@
 -- Rows of a bitmap, and what lies outside it.
-use Rattle.std.proofs.Common.{◌≡◌, ℕ, zero, suc, ℤ, pos, negsuc, ◌+◌, ◌-◌, ◌*◌, ◌<◌, ◌≤◌, ◌<ℤ◌, List, [], ◌∷◌, None, take, drop, slice_get, refl, ap, sym, ◌∙◌, ⊎_elim, arith, length-take}
+use Rattle.std.proofs.Common.{◌≡◌, ℕ, ℤ, pos, negsuc, ◌+◌, ◌-◌, ◌*◌, ◌<◌, ◌≤◌, ◌<ℤ◌, None, take, drop, slice_get, refl, sym, ◌∙◌, ⊎_elim, arith, length-take}
 use Rattle.std.proofs.Math.Bool.{and-false}
 use Rattle.std.proofs.lemmas.Bool.{cases_lt, le-ltb, lt-ltb}
 use Rattle.std.proofs.lemmas.Option.{slice_get_past}
 use Rattle.std.proofs.lemmas.Int.{ints}
+use Rattle.be_facts.proofs.Lists.{get_drop, get_take}
 use Rattle.be_bitmap.specs.Pictures.{Picture, bitmap_pixel}
-
-module _ {X : Type 0} where
-  pub slice_get-drop : (n : ℕ) (xs : List X) (k m : ℕ) → m ≡ n + k → slice_get (drop n xs) k ≡ slice_get xs m
-  slice_get-drop zero xs k m e = let same : k ≡ m = omega arith in ap (slice_get xs) same
-  slice_get-drop (suc n) [] k m e = refl
-  slice_get-drop (suc n) (x ∷ xs) k zero e = absurd (omega arith)
-  slice_get-drop (suc n) (x ∷ xs) k (suc m) e = slice_get-drop n xs k m (omega arith)
-
-  pub slice_get-take : (n : ℕ) (xs : List X) (k : ℕ) → k < n → slice_get (take n xs) k ≡ slice_get xs k
-  slice_get-take zero xs k h = absurd (omega arith)
-  slice_get-take (suc n) [] k h = refl
-  slice_get-take (suc n) (x ∷ xs) zero h = refl
-  slice_get-take (suc n) (x ∷ xs) (suc k) h = slice_get-take n xs k (omega arith)
 
 pub pixel_inside : (p : Picture) (column row : ℕ) → column < p.width → row < p.height → bitmap_pixel p (pos column) (pos row) ≡ slice_get p.colors (row * p.width + column)
 unfolding bitmap_pixel
@@ -47,8 +35,8 @@ pub row_pixels : (p : Picture) (row column k : ℕ) → row < p.height → colum
 row_pixels p row column k in_column in_row =
     ⊎_elim
     (λ inside.
-    slice_get-take (row * p.width + p.width - (row * p.width + column)) (drop (row * p.width + column) p.colors) k (omega arith)
-    ∙ slice_get-drop (row * p.width + column) p.colors k (row * p.width + (column + k)) (omega arith)
+    get_take (row * p.width + p.width - (row * p.width + column)) (drop (row * p.width + column) p.colors) k (omega arith)
+    ∙ get_drop (row * p.width + column) p.colors k (row * p.width + (column + k)) (omega arith)
     ∙ sym (pixel_inside p (column + k) row inside in_column))
     (λ (past : p.width ≤ column + k).
     slice_get_past (take (row * p.width + p.width - (row * p.width + column)) (drop (row * p.width + column) p.colors)) k

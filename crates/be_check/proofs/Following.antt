@@ -11,6 +11,7 @@ use Rattle.be_hall.specs.Machine.{AllFit, Fits, HeldFit, IsHeld, IsReady, SomeFi
 use Rattle.be_hall.specs.Numbers.{total}
 use Rattle.be_hall.specs.declared.parts.Verdict.{Verdict}
 use Rattle.be_hall.specs.declared.parts.Verdict.TheVariants as verdict
+use Rattle.be_hall.proofs.Gathered.{fits_from, held_at, numbered_fit, numbered_means, numbered_places, same_firsts, same_seconds, whole}
 use Rattle.be_machine.specs.Activities.{activity_of}
 use Rattle.be_machine.specs.History.{AreLegalFrom, state_from}
 use Rattle.be_machine.specs.Legal.{IsLegal}
@@ -32,7 +33,7 @@ use Rattle.be_world.specs.Preparing.{IsPreparedEntry, entry_in, seen_in}
 use Rattle.be_world.specs.Suits.{MayStep}
 use Rattle.be_world.specs.declared.preparing.ReadyEntry.{ReadyEntry}
 use Rattle.be_check.specs.Following.{Follows, SameHand, now_of, state_in}
-use Rattle.be_check.proofs.Whole.{each_appended, fits_from, held_at, is_above, numbered_fit, numbered_logs, numbered_means, numbered_places, same_firsts, same_seconds, whole}
+use Rattle.be_serial.proofs.Going.{each_appended, is_above, numbered_logs}
 
 module _ (d : Declared) (parts : List (ℕ × Part)) (n : ℕ) (f : Follows d parts n) where
   abbrev pub held : List (ℕ × Slice)

@@ -1,4 +1,3 @@
-pub mod Whole
 pub mod Following
 pub mod Trying
 pub mod Coming

@@ -13,12 +13,12 @@ use Rattle.be_desk.specs.Desks.{desk_of}
 use Rattle.be_desk.specs.declared.desk.Desk as code
 use Rattle.be_hall.specs.Hands.{meant, part_at}
 use Rattle.be_hall.specs.Machine.{Fits, SomeFits}
+use Rattle.be_hall.proofs.Gathered.{fits_from, held_at}
 use Rattle.be_machine.proofs.ReadsDirt.{is_owned}
 use Rattle.be_machine.specs.Pixels.{color_at, owner_in, pixel_at}
 use Rattle.be_machine.specs.State.{State}
 use Rattle.be_machine.specs.Touched as part
 use Rattle.be_machine.specs.Windows.{owned, width_of}
-use Rattle.be_check.proofs.Whole.{fits_from, held_at}
 use Rattle.be_check.specs.Following.{now_of, state_in}
 use Rattle.be_pane.specs.declared.pane.Pane.{Pane}
 use Rattle.be_parts.specs.Kept.{Kept}

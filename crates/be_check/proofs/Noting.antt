@@ -11,6 +11,7 @@ use Rattle.be_hall.specs.Machine.{SomeFits, leads}
 use Rattle.be_hall.specs.Numbers.{total}
 use Rattle.be_hall.specs.declared.parts.Verdict.{Verdict}
 use Rattle.be_hall.specs.declared.parts.Verdict.TheVariants as verdict
+use Rattle.be_hall.proofs.Gathered.{fits_from, held_at, numbered_means, same_firsts, whole}
 use Rattle.be_machine.specs.Activities.{activity_of}
 use Rattle.be_machine.specs.History.{AreLegalFrom, IsFinished}
 use Rattle.be_machine.specs.Legal.{IsLegal}
@@ -21,8 +22,7 @@ use Rattle.be_machine.specs.declared.Entry.{Entry}
 use Rattle.be_check.proofs.Following.{fits_last, one_more, state_then}
 use Rattle.be_noted.proofs.Lawful.{means_of}
 use Rattle.be_noted.specs.NotingLaws.{noting_is_lawful}
-use Rattle.be_check.proofs.Whole.{each_appended, fits_from, held_at, is_above}
-use Rattle.be_check.proofs.Whole.{numbered_means, same_firsts, whole}
+use Rattle.be_serial.proofs.Going.{each_appended, is_above}
 use Rattle.be_check.specs.Following.{Follows, now_of, state_in}
 use Rattle.be_noted.specs.Noting.{IsNotedVerdict, noted_entry, noted_of, noted_seen}
 use Rattle.be_noted.specs.declared.parts.NotedEntry.{NotedEntry}

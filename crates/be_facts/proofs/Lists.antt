@@ -3,7 +3,7 @@ use Rattle.std.proofs.Common.{◌≡◌, ℕ, ◌<◌, zero, suc, List, [], ◌�
 use Rattle.std.proofs.Common.{◌++◌, length-append, append_assoc, ◌≤◌, None, ap, ◌∙◌, map, sym, Bool}
 use Rattle.std.proofs.Common.{true, set, Result, Ok, Err, OnOk, take, drop, append-nil, take_all}
 use Rattle.std.proofs.Common.{drop_of_length-le, Option}
-use Rattle.std.specs.Prelude.{slice_get, slice_set, option_map}
+use Rattle.std.specs.Prelude.{slice_get, slice_set, option_map, option_and_then}
 use Rattle.std.specs.List.{range_with_len, list_all}
 use Rattle.std.proofs.lemmas.List.{map-append, get_or-set_same, length-set}
 use Rattle.std.proofs.lemmas.Option.{same_Some, slice_get-map, slice_get-get_or}
@@ -81,6 +81,20 @@ whole_again n new old long many =
     ap (λ l. take n (new ++ l)) (drop_of_length-le old (omega arith))
     ∙ (ap (take n) (append-nil new) ∙ take_all n new (omega arith))
 
+-- ---- parts
+
+pub get_take : {X : Type 0} (n : ℕ) (xs : List X) (k : ℕ) → k < n → slice_get (take n xs) k ≡ slice_get xs k
+get_take zero xs k h = absurd (omega arith)
+get_take (suc n) [] k h = refl
+get_take (suc n) (x ∷ xs) zero h = refl
+get_take (suc n) (x ∷ xs) (suc k) h = get_take n xs k (omega arith)
+
+pub get_drop : {X : Type 0} (n : ℕ) (xs : List X) (k m : ℕ) → m ≡ n + k → slice_get (drop n xs) k ≡ slice_get xs m
+get_drop zero xs k m e = let same : k ≡ m = omega arith in ap (slice_get xs) same
+get_drop (suc n) [] k m e = refl
+get_drop (suc n) (x ∷ xs) k zero e = absurd (omega arith)
+get_drop (suc n) (x ∷ xs) k (suc m) e = get_drop n xs k m (omega arith)
+
 -- ---- each element
 
 pub map_length : {X Y : Type 0} (f : X → Y) (xs : List X) → length (map f xs) ≡ length xs
@@ -146,6 +160,10 @@ get_range j (suc n) (suc k) h = let same : j + 1 + k ≡ j + suc k = omega arith
 pub some_part : {A B : Type 0} (f : A → B) (o : Option A) (k : B) → option_map f o ≡ Some k → (x : A) × (o ≡ Some x) × (f x ≡ k)
 some_part f None k e = absurd (cc)
 some_part f (Some x) k e = (x, refl, (cc))
+
+pub some_inner : {X Y : Type 0} (f : X → Option Y) (o : Option X) (y : Y) → option_and_then f o ≡ Some y → (x : X) × (o ≡ Some x) × (f x ≡ Some y)
+some_inner f None y e = absurd (cc)
+some_inner f (Some x) y e = (x, refl, e)
 
 pub no_part : {A B : Type 0} (f : A → B) (o : Option A) → option_map f o ≡ None → o ≡ None
 no_part f None e = refl

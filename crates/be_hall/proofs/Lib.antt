@@ -18,3 +18,4 @@ mod Full
 mod Closing
 mod Unlogging
 pub mod Holding
+pub mod Gathered

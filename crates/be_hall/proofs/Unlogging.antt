@@ -1,5 +1,6 @@
 -- Pairs that are taken out of logs, part by part.
 use Rattle.std.proofs.Common.{◌≡◌, ℕ, ◌+◌, ◌<◌, ◌≤◌, List, [], ◌∷◌, ◌++◌, map, length, length-append, sym, refl, ap, ◌∙◌, arith}
+use Rattle.be_facts.proofs.Lists.{append_none}
 use Rattle.be_hall.specs.Logs.{flat}
 use Rattle.be_hall.proofs.Growth.{assoc}
 
@@ -7,10 +8,6 @@ module _ {A : Type 0} where
   flat_append : (xs ys : List (List A)) → flat (xs ++ ys) ≡ flat xs ++ flat ys
   flat_append [] ys = refl
   flat_append (x ∷ xs) ys = ap (λ (l : List A). x ++ l) (flat_append xs ys) ∙ sym (assoc x (flat xs) (flat ys))
-
-  ends : (xs : List A) → xs ++ [] ≡ xs
-  ends [] = refl
-  ends (x ∷ xs) = ap (λ (l : List A). x ∷ l) (ends xs)
 
   pub one_more : (many room room' many' : ℕ) (old now log rest log' : List A) (x : A) → many ≡ length now → many' ≡ length old → now ++ log' ≡ old ++ log → log' ≡ x ∷ rest → room ≡ room' → many' + length log ≤ room' → many < room
   one_more many room room' many' old now log rest log' x a b e is same fits =
@@ -37,7 +34,7 @@ module _ {A B : Type 0} (f : A → B) where
 module _ {A B : Type 0} (log : A → List B) where
   pub flat_next : (now init : List B) (seen : List A) (x : A) → now ≡ init ++ flat (map log seen) → now ++ log x ≡ init ++ flat (map log (seen ++ x ∷ []))
   flat_next now init seen x e = ap (λ (l : List B). l ++ log x) e ∙ (assoc init (flat (map log seen)) (log x)
-      ∙ ap (λ (l : List B). init ++ l) (ap (λ (l : List B). flat (map log seen) ++ l) (sym (ends (log x))) ∙ (sym (flat_append (map log seen) (log x ∷ [])) ∙ ap flat (sym (mapped_append log seen (x ∷ []))))))
+      ∙ ap (λ (l : List B). init ++ l) (ap (λ (l : List B). flat (map log seen) ++ l) (sym (append_none (log x))) ∙ (sym (flat_append (map log seen) (log x ∷ [])) ∙ ap flat (sym (mapped_append log seen (x ∷ []))))))
 
   -- there is room for the log of one part more
   pub log_fits : (many room room' many' : ℕ) (now init : List B) (seen rest old left : List A) (x : A) → many ≡ length now → many' ≡ length init → now ≡ init ++ flat (map log seen) → seen ++ left ≡ old → left ≡ x ∷ rest → room ≡ room' → many' + length (flat (map log old)) ≤ room' → many + length (log x) ≤ room

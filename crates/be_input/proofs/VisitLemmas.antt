@@ -3,6 +3,7 @@ use Rattle.std.specs.Prelude.{filter, map, option_to_list, slice_get}
 use Rattle.std.proofs.Common.{◌≡◌, ℕ, ◌<◌, ◌==◌, zero, suc, ℤ, Bool, true, false, ◌&&◌, if◌then◌else◌, inl, inr, List, [], ◌∷◌, ◌++◌, length, append_assoc, Option, Some, None, option_map, option_and_then, arith, refl, sym, ap, subst, ◌∙◌}
 use Rattle.std.proofs.lemmas.Bool.{and_parts, eqb-true, eq-eqb, false≢true}
 use Rattle.std.proofs.lemmas.Option.{none-some, same_Some, slice_get_within}
+use Rattle.be_facts.proofs.Lists.{some_inner}
 use Rattle.be_geom.specs.declared.point.Point.{Point}
 use Rattle.be_geom.specs.declared.rect.Rect.{Rect}
 use Rattle.be_geom.specs.Places.{at_pixel, less, sum_of}
@@ -20,10 +21,6 @@ use Rattle.be_input.specs.Pointing.{corner_of, view_in, view_under, with_window_
 use Rattle.be_input.specs.Laws.{is_for, told_to, heard_by, HasTransit, AreVisits, ended, entered, inside, exited, is_over, under_last, IsThere, AreAllParentsFirst, HearsOfVisits}
 
 -- ---- a view that is under the pointer is there
-
-option_inner : {A B : Type 0} (f : A → Option B) (o : Option A) (b : B) → option_and_then f o ≡ Some b → (a : A) × (o ≡ Some a) × (f a ≡ Some b)
-option_inner f None b is = absurd (none-some b is)
-option_inner f (Some a) b is = (a, refl, is)
 
 abbrev HasCorner : Option Point → Type 0
 HasCorner o = (q : Point) × (o ≡ Some q)
@@ -58,7 +55,7 @@ lies_there n tree v u there lies =
     elim (within_cases n tree v u lies) [
       | inl same ↦ omega arith
       | inr above ↦
-          let view = option_inner (λ (w : View). w.parent) (slice_get tree u) above.1.0 above.1.1.0 in
+          let view = some_inner (λ (w : View). w.parent) (slice_get tree u) above.1.0 above.1.1.0 in
           slice_get_within tree u view.0 view.1
     ]
 
@@ -72,15 +69,15 @@ seen_by root tree x y v false is at = absurd (none-some v at)
 seen_there : (tree : Tree) (x y : ℤ) (v : ℕ) → view_at tree x y ≡ Some v → v < length tree
 unfolding view_at
 seen_there tree x y v at =
-    let root = option_inner (λ (root : View). if rect_has root.frame x y then Some (view_below (length tree) tree 0 x y) else None) (slice_get tree 0) v at in
+    let root = some_inner (λ (root : View). if rect_has root.frame x y then Some (view_below (length tree) tree 0 x y) else None) (slice_get tree 0) v at in
     seen_by root.0 tree x y v (rect_has root.0.frame x y) root.1 root.2
 
 there_in : (windows : Windows) (trees : List Tree) (w : ℕ) (x y : ℤ) (v : ℕ) → AreAllParentsFirst trees → view_under windows trees w x y ≡ Some v → IsThere windows trees (w, v)
 unfolding view_under
 there_in windows trees w x y v first at =
-    let corner = option_inner (λ (corner : Point). view_in trees w (less (at_pixel x y) corner)) (corner_of windows w) v at in
+    let corner = some_inner (λ (corner : Point). view_in trees w (less (at_pixel x y) corner)) (corner_of windows w) v at in
     let seen = less (at_pixel x y) corner.0 in
-    let tree = option_inner (λ (tree : Tree). view_at tree seen.x seen.y) (slice_get trees w) v corner.2 in
+    let tree = some_inner (λ (tree : Tree). view_at tree seen.x seen.y) (slice_get trees w) v corner.2 in
     let place = has_place tree.0 v (first w tree.0 tree.1) (seen_there tree.0 seen.x seen.y v tree.2) in
     record {
       corner = corner.0;
@@ -97,7 +94,7 @@ there_with windows trees w x y at (Some v) first is numbered =
 there_under : (windows : Windows) (trees : List Tree) (p : Point) (at : ℕ × ℕ) → AreAllParentsFirst trees → under_pointer windows trees p ≡ Some at → IsThere windows trees at
 unfolding under_pointer
 there_under windows trees p at first is =
-    let owner = option_inner (λ (w : ℕ). with_window_number w (view_under windows trees w p.x p.y)) (owner_at windows p.x p.y) at is in
+    let owner = some_inner (λ (w : ℕ). with_window_number w (view_under windows trees w p.x p.y)) (owner_at windows p.x p.y) at is in
     there_with windows trees owner.0 p.x p.y at (view_under windows trees owner.0 p.x p.y) first refl owner.2
 
 -- ---- the view under the pointer, by its numbers

@@ -16,10 +16,10 @@ use Rattle.be_lex.specs.Numbers.{is_natural, is_signed, signed, is_number, numbe
 use Rattle.be_lex.proofs.Digits.{digit_at, digits_value_positive}
 use Rattle.be_lex.proofs.Spelling.{list_all_weaker}
 
-abbrev are_digits : List ℕ → Bool
+abbrev pub are_digits : List ℕ → Bool
 are_digits ds = list_all is_ascii_digit ds
 
-own : IsNumeralModel (λ ds. are_digits ds ≡ true) (digits_value 10)
+pub own : IsNumeralModel (λ ds. are_digits ds ≡ true) (digits_value 10)
 own = numerals_by_value _ (search rules)
 
 -- ---- the digits of a natural number

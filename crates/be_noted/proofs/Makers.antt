@@ -3,11 +3,10 @@ use Rattle.std.proofs.Common.{◌≡◌, ℕ, true, List, [], Option, Some, None
 use Rattle.std.specs.Borrow.{Bor}
 use Rattle.std.specs.Prelude.{option_map, option_and_then, option_to_list, if◌then◌else◌}
 use Rattle.std.specs.Option.{option_map_or}
-use Rattle.std.proofs.lemmas.Option.{same_Some}
 use Rattle.be_facts.proofs.Numbers.{eq_self}
 use Rattle.be_actor.specs.Drafts.{DraftWords}
 use Rattle.be_actor.specs.declared.Wish.{Wish}
-use Rattle.be_asking.proofs.Makers.{asked_by, made_by}
+use Rattle.be_asking.proofs.Makers.{made_by}
 use Rattle.be_asking.specs.Wants.{activity_in, message_of, runner_in, want_in, wish_in}
 use Rattle.be_asking.specs.declared.activity.Activity.{Activity}
 use Rattle.be_asking.specs.declared.activity.Activity.TheVariants as who
@@ -22,7 +21,7 @@ use Rattle.be_hall.specs.Machine.{Fits}
 use Rattle.be_machine.specs.Activities as machine
 use Rattle.be_machine.specs.Activities.{activity_of}
 use Rattle.be_machine.specs.State.{State}
-use Rattle.be_machine.specs.Traces.{Trace, got, noted, replied, same_runner, trace_of, wish_trace}
+use Rattle.be_machine.specs.Traces.{Trace, got, replied, same_runner, trace_of, wish_trace}
 use Rattle.be_machine.specs.Wants as wants
 use Rattle.be_machine.specs.Wants.{want_of}
 use Rattle.be_machine.specs.declared.Entry.{Entry}
@@ -40,6 +39,7 @@ use Rattle.be_written.specs.TraceText.{noted_text}
 use Rattle.be_written.specs.declared.note.Note.{Note}
 use Rattle.be_written.specs.declared.note.Note.TheVariants as note
 use Rattle.be_written.specs.declared.said.Said.TheVariants as spoken
+use Rattle.be_world.proofs.Allowed.{same_maker}
 use Rattle.be_noted.specs.Noted.{IsNoted}
 use Rattle.be_noted.proofs.Claims.{IsClaimed, IsReplied}
 use Rattle.be_noted.proofs.Texts.{no_text, text_by_runner}
@@ -107,12 +107,9 @@ module _ (d : Declared) (parts : List (ℕ × Part)) (it : Activity) (asks : Wan
       maker_by d (state_of d all) e (activity_in it) (want_in (message_of (state_of d all) (activity_in it)) asks) number (allowed.asked.wanted all sound fits).0
 
   module _ (other : Want) (is : asks ≡ other) where
-    maker : activity_in it ≡ activity_in (made_by other)
-    maker = same_Some (activity_in it) (activity_in (made_by other)) (sym allowed.asked.number ∙ (asked_by d parts allowed.number it asks allowed.asked other is).number)
-
     -- its maker's is that of the activity
     pub noted_back : (text : List ℕ) → IsNoted d parts (made_by other) text → IsNoted d parts it text
-    noted_back text told e number = told e (number ∙ ap (λ (x : machine.Activity). Some x) maker)
+    noted_back text told e number = told e (number ∙ ap (λ (x : machine.Activity). Some x) (same_maker d parts it asks allowed other is))
 
 -- what an instruction asks for
 module _ (d : Declared) (parts : List (ℕ × Part)) (r : Runner) (q : Request) (allowed : IsAllowed d parts (who.Runner r) (want.Asks r q)) where

@@ -7,8 +7,9 @@ use native.Mathlib.Decide.{dec_le}
 use lib.ListN.{get_elem?}
 use Rattle.be_hall.specs.Machine.{Machine, Lawful, AllFit}
 use Rattle.be_hall.specs.Numbers.{total}
+use Rattle.be_hall.proofs.Growth.{there}
 use Rattle.be_noting.specs.Noting.{Noted, meanings, all_notes, noted_at, noting}
-use Rattle.be_noting.proofs.NoteLists.{at_map, total_map, all_fit, all_fit_back, there, past, meanings_with, with_at, noted_else}
+use Rattle.be_noting.proofs.NoteLists.{at_map, total_map, all_fit, all_fit_back, past, meanings_with, with_at, noted_else}
 
 -- what is noted doesn't count in what the parts mean
 pub means_after : {M N E : Type 0} (x : Machine M E) (told : List M → E → List N) (all : List (Noted M N)) (e : E) → meanings ((noting x told).after all e) ≡ x.after (meanings all) e

@@ -7,6 +7,7 @@ use lib.ListN.{get_elem?}
 use Rattle.be_hall.specs.Hands.{meant}
 use Rattle.be_hall.specs.Machine.{AllFit, Fits, HeldFit, IsHeld}
 use Rattle.be_hall.specs.Numbers.{total}
+use Rattle.be_hall.proofs.Growth.{there}
 use Rattle.be_noting.specs.Noting.{Noted, meanings, all_notes, seen, notes_in, with_notes, noted_at, noted_in}
 
 -- ---- elements
@@ -53,16 +54,6 @@ module _ {A B : Type 0} (f : A → B) where
   held_map_back (x ∷ xs) p (inr h) = inr (held_map_back xs p h)
 
 module _ {A : Type 0} where
-  pub there : (xs : List A) (p : ℕ) → p < length xs → (x : A) × (get_elem? xs p ≡ some x)
-  there [] p lt = absurd (omega arith)
-  there (x ∷ xs) zero lt = (x, refl)
-  there (x ∷ xs) (suc p) lt = there xs p (omega arith)
-
-  pub inside : (xs : List A) (p : ℕ) (x : A) → get_elem? xs p ≡ some x → p < length xs
-  inside [] p x e = absurd (some-ne-none x (sym e))
-  inside (z ∷ zs) zero x e = omega arith
-  inside (z ∷ zs) (suc p) x e = let h = inside zs p x e in omega arith
-
   pub past : (xs : List A) (p : ℕ) → length xs ≤ p → get_elem? xs p ≡ none
   past [] p le = refl
   past (x ∷ xs) zero le = absurd (omega arith)

@@ -3,12 +3,13 @@ use Rattle.std.proofs.Common.{◌≡◌, ℕ, zero, suc, ◌<◌, Bool, true, fa
 use mathlib.Core.Option.{some, some-injective}
 use lib.ListN.{get_elem?}
 use Rattle.be_hall.specs.Machine.{Machine, Lawful, Legal, leads}
+use Rattle.be_hall.proofs.Growth.{inside, there}
 use Rattle.be_turns.specs.Turning.{IsFinished, is_some}
 use Rattle.be_serial.specs.Scheduled.{Picked, next_draw, picked_of, pushed_if, ready_below}
 use Rattle.be_noting.specs.Histories.{TellsAll}
 use Rattle.be_noting.specs.Noting.{Noted, meanings, all_notes, legal_of, noted_at, noted_from, noting}
 use Rattle.be_noting.proofs.KeepLaws.{as_long, means_after, sound_next}
-use Rattle.be_noting.proofs.NoteLists.{at_map, inside, noted_there, there, with_at}
+use Rattle.be_noting.proofs.NoteLists.{at_map, noted_there, with_at}
 
 module _ {M N E : Type 0} (x : Machine M E) (told : List M → E → List N) where
   -- ---- without the notes

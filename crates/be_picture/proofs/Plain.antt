@@ -1,23 +1,22 @@
 -- Bytes that a line may have, and so few of them that it isn't too long.
 use Rattle.std.proofs.Common.{◌≡◌, ℕ, zero, suc, ◌+◌, ◌*◌, ◌-◌, ◌<◌, ◌≤◌, ◌^◌, ℤ, pos, negsuc}
 use Rattle.std.proofs.Common.{Bool, true, false, not, ◌&&◌, ◌==◌, eqb, unsigned_abs, List, [], ◌∷◌}
-use Rattle.std.proofs.Common.{◌++◌, length, get_or, refl, ap, ◌∙◌, arith, rules}
+use Rattle.std.proofs.Common.{◌++◌, length, get_or, refl, ap, ◌∙◌, arith}
 use Rattle.std.proofs.Common.{length-append}
 use Rattle.std.specs.Prelude.{nat_le}
 use Rattle.std.specs.Char.{is_ascii_digit, is_ascii_lowercase}
 use Rattle.std.specs.Fmt.{decimal, signed_decimal}
 use Rattle.std.specs.List.{list_all}
-use Rattle.std.specs.Str.Parse.{digits_value}
 use Rattle.std.proofs.lemmas.Bool.{and_parts}
 use Rattle.std.proofs.lemmas.Bool.Decides.{nat_tests}
 use Rattle.std.proofs.lemmas.Fmt.{digits_decimal, length_signed_le}
 use Rattle.std.proofs.lemmas.List.Folds.{list_all-append}
-use Rattle.std.proofs.lemmas.Str.Parse.{IsNumeralModel, numerals_by_value}
 use Rattle.be_lex.specs.Hex.{is_hex_digit, hex_text, are_bytes}
 use Rattle.be_lex.specs.Lines.{is_line, is_printable, text_of}
 use Rattle.be_lex.specs.Names.{is_name, is_name_byte, is_name_within}
 use Rattle.be_lex.proofs.HexSpelling.{are_bytes_each, hex_text_digits, length-hex_text}
 use Rattle.be_lex.proofs.Spelling.{list_all_weaker}
+use Rattle.be_lex.proofs.NumberSpelling.{own}
 
 abbrev is_plain_byte : ℕ → Bool
 is_plain_byte b = nat_le 32 b && nat_le b 126
@@ -43,12 +42,6 @@ pub behind_space : (m : ℕ) (xs : List ℕ) → IsPlain m xs → IsPlain (m + 1
 behind_space m xs plain = record { printable = plain.printable; short = omega (arith, plain.short) }
 
 -- ---- numbers
-
-abbrev are_digits : List ℕ → Bool
-are_digits ds = list_all is_ascii_digit ds
-
-own : IsNumeralModel (λ ds. are_digits ds ≡ true) (digits_value 10)
-own = numerals_by_value _ (search rules)
 
 digit_is_plain : (b : ℕ) → is_ascii_digit b ≡ true → is_plain_byte b ≡ true
 digit_is_plain b h = grind (arith, nat_tests)

@@ -1,31 +1,22 @@
 -- The words that numbers are written as, and which numbers are read.
-use Rattle.std.proofs.Common.{◌≡◌, ℕ, ◌-◌, ◌^◌, ◌<◌, ◌≤◌, ℤ, pos, negsuc, Bool, true, false, cond, not, ◌&&◌, eqb, List, [], ◌∷◌, get_or, Some, None, decimal, refl, sym, ap, subst, ◌∙◌, arith, rules}
+use Rattle.std.proofs.Common.{◌≡◌, ℕ, ◌-◌, ◌^◌, ◌<◌, ◌≤◌, ℤ, pos, negsuc, Bool, true, false, cond, not, ◌&&◌, eqb, List, [], ◌∷◌, get_or, Some, None, decimal, refl, sym, ap, subst, ◌∙◌, arith}
 use Rattle.std.specs.Prelude.{unsigned_abs, Option}
 use Rattle.std.specs.Char.{is_ascii_digit}
 use Rattle.std.specs.Fmt.{signed_decimal}
-use Rattle.std.specs.List.{list_all}
-use Rattle.std.specs.Str.Parse.{digits_value}
 use Rattle.std.proofs.lemmas.Bool.{and_parts, not-true}
 use Rattle.std.proofs.lemmas.Bool.Decides.{nat_tests}
 use Rattle.std.proofs.lemmas.Fmt.{digits_decimal, decimal_nonempty}
 use Rattle.std.proofs.lemmas.Int.{ints}
 use Rattle.std.proofs.lemmas.Option.{cond_some}
-use Rattle.std.proofs.lemmas.Str.Parse.{IsNumeralModel, numerals_by_value}
 use Rattle.be_geom.specs.Points.{between}
 use Rattle.be_geom.proofs.Between.{between_tells}
 use Rattle.be_lex.specs.Numbers.{is_number, number_of}
-use Rattle.be_lex.proofs.NumberSpelling.{is_number-signed_decimal, number_of-signed_decimal, signed_decimal-number_of}
+use Rattle.be_lex.proofs.NumberSpelling.{is_number-signed_decimal, number_of-signed_decimal, signed_decimal-number_of, own}
 use Rattle.be_lex.proofs.Ranges.{between_naturals, between_naturals_le}
 use Rattle.be_lex.proofs.Spelling.{list_all_at, list_all_weaker}
 use Rattle.be_report.specs.Lines.{is_plain}
 use Rattle.be_report.specs.Readers.{number_within, natural_of}
 use Rattle.be_report.proofs.Splits.{plain_byte}
-
-abbrev are_digits : List ℕ → Bool
-are_digits ds = list_all is_ascii_digit ds
-
-own : IsNumeralModel (λ ds. are_digits ds ≡ true) (digits_value 10)
-own = numerals_by_value _ (search rules)
 
 -- ---- digits
 

@@ -23,6 +23,10 @@ use Rattle.std.proofs.lemmas.List.{get_or-set_same, get_or-set_other}
 
 -- logs
 module _ {E : Type 0} where
+  pub numbered_logs : {T : Type 0} (log : T → List (ℕ × E)) (n k : ℕ) (xs : List T) → All (λ x. log x ≡ []) xs → EachBefore n (meant log (numbered k xs))
+  numbered_logs log n k [] a = tt
+  numbered_logs log n k (x ∷ xs) a = (subst (AllBefore n) (sym (All-head (λ x. log x ≡ []) x xs a)) tt, numbered_logs log n (suc k) xs (All-tail (λ x. log x ≡ []) x xs a))
+
   before_more : (n k : ℕ) (l : List (ℕ × E)) → n ≤ k → AllBefore n l → AllBefore k l
   before_more n k [] h a = tt
   before_more n k (x ∷ xs) h a = (let b = a.0 in omega arith, before_more n k xs h a.1)
@@ -31,7 +35,7 @@ module _ {E : Type 0} where
   before_snoc n [] y h a = (h, tt)
   before_snoc n (x ∷ xs) y h a = (a.0, before_snoc n xs y h a.1)
 
-  each_appended : (n k : ℕ) (e : E) (ls : List (ℕ × List (ℕ × E))) → EachBefore n ls → EachBefore (n + 1) (appended k (n, e) ls)
+  pub each_appended : (n k : ℕ) (e : E) (ls : List (ℕ × List (ℕ × E))) → EachBefore n ls → EachBefore (n + 1) (appended k (n, e) ls)
   each_appended n k e [] a = tt
   each_appended n k e (l ∷ ls) a = (by_test (l.0 == k), each_appended n k e ls a.1) where
     by_test : (b : Bool) → AllBefore (n + 1) (if b then l.1 ++ (n, e) ∷ [] else l.1)
@@ -41,95 +45,6 @@ module _ {E : Type 0} where
   pub is_above : (n k : ℕ) (ls : List (ℕ × List (ℕ × E))) → EachBefore n ls → IsAbove n k ls
   is_above n k [] a = tt
   is_above n k (l ∷ ls) a = (λ is. a.0, is_above n k ls a.1)
-
--- places in hand
-module _ {T M : Type 0} (meaning : T → M) where
-  pub all_held : (k n p : ℕ) (held : List (ℕ × T)) → places_of held ≡ up_from k n → k ≤ p → p < k + n → IsHeld (meant meaning held) p
-  all_held k zero p held e a b = absurd (omega arith)
-  all_held k (suc n) p [] e a b = absurd (no_list (up_from (suc k) n) k e) where
-    no_list : (ps : List ℕ) (q : ℕ) → [] ≡ q ∷ ps → ⊥
-    no_list ps q h = cc
-  all_held k (suc n) p (x ∷ xs) e a b =
-      let here : x.0 ≡ k = firsts x.0 k (places_of xs) (up_from (suc k) n) e in
-      let more : places_of xs ≡ up_from (suc k) n = rests x.0 k (places_of xs) (up_from (suc k) n) e in
-      dite (dec_le p k) (λ at. inl (let same : p ≡ k = omega arith in here ∙ sym same)) (λ past. inr (all_held (suc k) n p xs more (omega arith) (omega arith))) where
-        firsts : (a b : ℕ) (ps qs : List ℕ) → a ∷ ps ≡ b ∷ qs → a ≡ b
-        firsts a b ps qs h = cc
-
-        rests : (a b : ℕ) (ps qs : List ℕ) → a ∷ ps ≡ b ∷ qs → ps ≡ qs
-        rests a b ps qs h = cc
-
-  pub all_in : (n : ℕ) (held : List (ℕ × T)) → places_of held ≡ up_from 0 n → (p : ℕ) → p < n → IsHeld (meant meaning held) p
-  all_in n held e p b = all_held 0 n p held e (omega arith) (omega arith)
-
-  -- the parts of a list, each at its place
-  pub numbered_fits : (before : List M) (k : ℕ) (xs : List T) → length before ≡ k → Fits (before ++ map meaning xs) (meant meaning (numbered k xs))
-  numbered_fits before k [] e = tt
-  numbered_fits before k (x ∷ xs) e = (at_end before k (meaning x) (map meaning xs) e, subst (λ l. Fits l (meant meaning (numbered (suc k) xs))) (moved before (meaning x) (map meaning xs)) (numbered_fits (before ++ meaning x ∷ []) (suc k) xs (let l = long before (meaning x) in omega arith))) where
-    at_end : (ms : List M) (n : ℕ) (m : M) (rest : List M) → length ms ≡ n → get_elem? (ms ++ m ∷ rest) n ≡ some m
-    at_end [] zero m rest h = refl
-    at_end [] (suc n) m rest h = absurd (omega arith)
-    at_end (y ∷ ys) zero m rest h = absurd (omega arith)
-    at_end (y ∷ ys) (suc n) m rest h = at_end ys n m rest (omega arith)
-
-    moved : (ms : List M) (m : M) (rest : List M) → (ms ++ m ∷ []) ++ rest ≡ ms ++ m ∷ rest
-    moved [] m rest = refl
-    moved (y ∷ ys) m rest = ap (λ l. y ∷ l) (moved ys m rest)
-
-    long : (ms : List M) (m : M) → length (ms ++ m ∷ []) ≡ length ms + 1
-    long [] m = refl
-    long (y ∷ ys) m = let r = long ys m in omega arith
-
-  pub numbered_places : (k : ℕ) (xs : List T) → places_of (numbered k xs) ≡ up_from k (length xs)
-  numbered_places k [] = refl
-  numbered_places k (x ∷ xs) = ap (λ l. k ∷ l) (numbered_places (suc k) xs)
-
-  pub numbered_logs : {E : Type 0} (log : T → List (ℕ × E)) (n k : ℕ) (xs : List T) → All (λ x. log x ≡ []) xs → EachBefore n (meant log (numbered k xs))
-  numbered_logs log n k [] a = tt
-  numbered_logs log n k (x ∷ xs) a = (subst (AllBefore n) (sym (All-head (λ x. log x ≡ []) x xs a)) tt, numbered_logs log n (suc k) xs (All-tail (λ x. log x ≡ []) x xs a))
-
-  pub numbered_fit : (fits : ℕ → M → Type 0) (n k : ℕ) (xs : List T) → AllFit fits n (map meaning xs) → HeldFit fits n (meant meaning (numbered k xs))
-  numbered_fit fits n k [] a = tt
-  numbered_fit fits n k (x ∷ xs) a = (a.0, numbered_fit fits n (suc k) xs a.1)
-
-  -- all parts that a list gives are the list
-  pub whole : (k n : ℕ) (before all : List M) (held : List (ℕ × T)) → places_of held ≡ up_from k n → length before ≡ k → length all ≡ n → Fits (before ++ all) (meant meaning held) → map (λ y. meaning y.1) held ≡ all
-  whole k zero before [] [] e b l f = refl
-  whole k zero before (m ∷ ms) held e b l f = absurd (omega arith)
-  whole k zero before [] (y ∷ ys) e b l f = absurd (no_list (places_of ys) y.0 e) where
-    no_list : (ps : List ℕ) (q : ℕ) → q ∷ ps ≡ [] → ⊥
-    no_list ps q h = cc
-  whole k (suc n) before [] held e b l f = absurd (omega arith)
-  whole k (suc n) before (m ∷ ms) [] e b l f = absurd (no_list (up_from (suc k) n) k e) where
-    no_list : (ps : List ℕ) (q : ℕ) → [] ≡ q ∷ ps → ⊥
-    no_list ps q h = cc
-  whole k (suc n) before (m ∷ ms) (y ∷ ys) e b l f =
-      let here : y.0 ≡ k = firsts y.0 k (places_of ys) (up_from (suc k) n) e in
-      let same : meaning y.1 ≡ m = some_is (meaning y.1) m (sym (subst (λ p. get_elem? (before ++ m ∷ ms) p ≡ some (meaning y.1)) here f.0) ∙ at_end before k m ms b) in
-      let more = whole (suc k) n (before ++ m ∷ []) ms ys (rests y.0 k (places_of ys) (up_from (suc k) n) e) (let r = long before m in omega arith) (omega arith) (subst (λ z. Fits z (meant meaning ys)) (sym (moved before m ms)) f.1) in
-      λ i. same i ∷ more i where
-        firsts : (a b : ℕ) (ps qs : List ℕ) → a ∷ ps ≡ b ∷ qs → a ≡ b
-        firsts a b ps qs h = cc
-
-        rests : (a b : ℕ) (ps qs : List ℕ) → a ∷ ps ≡ b ∷ qs → ps ≡ qs
-        rests a b ps qs h = cc
-
-        some_is : (u v : M) → some u ≡ some v → u ≡ v
-        some_is u v h = some-injective u v h
-
-        at_end : (ms : List M) (n : ℕ) (m : M) (rest : List M) → length ms ≡ n → get_elem? (ms ++ m ∷ rest) n ≡ some m
-        at_end [] zero m rest h = refl
-        at_end [] (suc n) m rest h = absurd (omega arith)
-        at_end (y ∷ ys) zero m rest h = absurd (omega arith)
-        at_end (y ∷ ys) (suc n) m rest h = at_end ys n m rest (omega arith)
-
-        moved : (ms : List M) (m : M) (rest : List M) → (ms ++ m ∷ []) ++ rest ≡ ms ++ m ∷ rest
-        moved [] m rest = refl
-        moved (y ∷ ys) m rest = ap (λ l. y ∷ l) (moved ys m rest)
-
-        long : (ms : List M) (m : M) → length (ms ++ m ∷ []) ≡ length ms + 1
-        long [] m = refl
-        long (y ∷ ys) m = let r = long ys m in omega arith
 
 -- the entry that is made
 module _ {T M E : Type 0} (x : Machine M E) (meaning : T → M) (log : T → List (ℕ × E)) (o : List M) (limit : ℕ) where
@@ -247,13 +162,6 @@ module _ {M E : Type 0} (legal : List M → ℕ → Option E) (now : List M) whe
     by_test : (ready_below legal now k ≡ [] → who < k → legal now who ≡ None) → (b : Bool) → is_some (legal now k) ≡ b → pushed_if b (ready_below legal now k) k ≡ [] → legal now who ≡ None
     by_test more true h none = absurd (never (ready_below legal now k) k none)
     by_test more false h none = dite (dec_le k who) (λ at. let same : who ≡ k = omega arith in ap (legal now) same ∙ is_none (legal now k) h) (λ below. more none (omega arith))
-
--- parts that mean the same stand at the same places
-pub same_firsts : {T M : Type 0} (f : T → M) (xs ys : List (ℕ × T)) → meant f xs ≡ meant f ys → places_of xs ≡ places_of ys
-same_firsts {T} f xs ys e = sym (firsts xs) ∙ (ap (map (λ z. z.0)) e ∙ firsts ys) where
-  firsts : (zs : List (ℕ × T)) → map (λ z. z.0) (meant f zs) ≡ places_of zs
-  firsts [] = refl
-  firsts (z ∷ zs) = ap (λ l. z.0 ∷ l) (firsts zs)
 
 pub no_items : {A : Type 0} (xs : List A) → length xs ≡ 0 → xs ≡ []
 no_items [] h = refl

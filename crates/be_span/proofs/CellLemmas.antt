@@ -11,6 +11,7 @@ use Rattle.std.proofs.lemmas.Option.{slice_get-get_or}
 use borrow.Rule.Slice.PartMut.{put_mid}
 use Rattle.be_facts.proofs.Numbers.{plus_zero}
 use Rattle.be_facts.proofs.Truths.{true_or_false}
+use Rattle.be_facts.proofs.Lists.{get_drop, get_take}
 use Rattle.be_geom.specs.declared.rect.Rect.{Rect}
 use Rattle.be_color.specs.declared.colors.Rgb.{Rgb}
 use Rattle.be_region.specs.Regions.{region_has}
@@ -23,21 +24,6 @@ use Rattle.be_span.proofs.PlaceLemmas.{place_none, place_found, place_has, place
 -- ---- parts of lists
 
 module _ {X : Type 0} where
-  pub slice_get-take : (n : ℕ) (xs : List X) (k : ℕ) → k < n → slice_get (take n xs) k ≡ slice_get xs k
-  slice_get-take zero xs k h = absurd (omega arith)
-  slice_get-take (suc n) [] k h = refl
-  slice_get-take (suc n) (x ∷ xs) zero h = refl
-  slice_get-take (suc n) (x ∷ xs) (suc k) h = slice_get-take n xs k (omega arith)
-
-  pub slice_get-drop : (n : ℕ) (xs : List X) (k m : ℕ) → m ≡ n + k → slice_get (drop n xs) k ≡ slice_get xs m
-  slice_get-drop zero xs k m e = ap (slice_get xs) (same e)
-    where
-      same : m ≡ zero + k → k ≡ m
-      same e = omega arith
-  slice_get-drop (suc n) [] k m e = refl
-  slice_get-drop (suc n) (x ∷ xs) k zero e = absurd (omega arith)
-  slice_get-drop (suc n) (x ∷ xs) k (suc m) e = slice_get-drop n xs k m (omega arith)
-
   pub append_left : (xs ys : List X) (k : ℕ) → k < length xs → slice_get (xs ++ ys) k ≡ slice_get xs k
   append_left [] ys k h = absurd (omega arith)
   append_left (x ∷ xs) ys zero h = refl
@@ -53,7 +39,7 @@ module _ {X : Type 0} where
 
   put_before : (a n : ℕ) (xs ys : List X) (k : ℕ) → a ≤ length xs → k < a → slice_get (put_mid a n xs ys) k ≡ slice_get xs k
   put_before a n xs ys k within h =
-      append_left (take a xs) (ys ++ drop n (drop a xs)) k (let l = length-take a xs in omega arith) ∙ slice_get-take a xs k h
+      append_left (take a xs) (ys ++ drop n (drop a xs)) k (let l = length-take a xs in omega arith) ∙ get_take a xs k h
 
   pub put_inside : (a n : ℕ) (xs ys : List X) (k : ℕ) → a ≤ length xs → k < length ys → slice_get (put_mid a n xs ys) (a + k) ≡ slice_get ys k
   put_inside a n xs ys k within h =
@@ -63,8 +49,8 @@ module _ {X : Type 0} where
   put_behind a n xs ys k within long h =
       append_right (take a xs) (ys ++ drop n (drop a xs)) (k - a) k (let l = length-take a xs in omega arith)
       ∙ append_right ys (drop n (drop a xs)) (k - a - n) (k - a) (omega arith)
-      ∙ slice_get-drop n (drop a xs) (k - a - n) (k - a) (omega arith)
-      ∙ slice_get-drop a xs (k - a) k (omega arith)
+      ∙ get_drop n (drop a xs) (k - a - n) (k - a) (omega arith)
+      ∙ get_drop a xs (k - a) k (omega arith)
 
   pub put_sum : (f : X → ℕ) (a n : ℕ) (xs ys : List X) → sum_by f (put_mid a n xs ys) + sum_by f (take n (drop a xs)) ≡ sum_by f xs + sum_by f ys
   put_sum f a n xs ys =
@@ -85,7 +71,7 @@ module _ {X : Type 0} where
 -- a part from its first place to the one behind its last
 pub part_get : {X : Type 0} (xs part : List X) (start len k : ℕ) → part ≡ take (start + len - start) (drop start xs) → k < len → slice_get part k ≡ slice_get xs (start + k)
 part_get xs part start len k e h =
-    ap (λ l. slice_get l k) e ∙ slice_get-take (start + len - start) (drop start xs) k (omega arith) ∙ slice_get-drop start xs k (start + k) refl
+    ap (λ l. slice_get l k) e ∙ get_take (start + len - start) (drop start xs) k (omega arith) ∙ get_drop start xs k (start + k) refl
 
 pub part_length : {X : Type 0} (xs part : List X) (start len : ℕ) → part ≡ take (start + len - start) (drop start xs) → start + len ≤ length xs → length part ≡ len
 part_length xs part start len e h =

@@ -6,6 +6,7 @@ use Rattle.std.proofs.lemmas.Bool.{cases_lt, cond-true, cond-false}
 use Rattle.std.proofs.lemmas.List.{take_all}
 use Rattle.std.proofs.lemmas.Option.{slice_get-get_or, slice_get_within, get_or_from_slice_get}
 use Rattle.be_facts.proofs.Truths.{true_or_false}
+use Rattle.be_facts.proofs.Lists.{get_take}
 use Rattle.be_geom.specs.declared.rect.Rect.{Rect}
 use Rattle.be_geom.specs.Rects.{rect_has}
 use Rattle.be_region.specs.Bands.{AreBands}
@@ -15,7 +16,7 @@ use Rattle.be_span.specs.Gathered.{upper, upper_in, IsLonger, HasRows}
 use Rattle.be_span.specs.Spans.{Spans, cell_in, is_dirty, black_cell, width_of, height_of, area_of, pixels_of, place_in, place_of}
 use Rattle.be_span.proofs.GridLemmas.{IsIn, in_from, has_from, high_is, place_above, place_in_row}
 use Rattle.be_span.proofs.PlaceLemmas.{place_found, place_below, pixel_of, place_of_rect, pixels_more}
-use Rattle.be_span.proofs.CellLemmas.{append_left, append_right, slice_get-take, spans, cell_none, cell_some}
+use Rattle.be_span.proofs.CellLemmas.{append_left, append_right, spans, cell_none, cell_some}
 use Rattle.be_span.proofs.LaidLemmas.{column_at}
 use Rattle.be_span.proofs.MarkLemmas.{all_clean, pixel_clean}
 
@@ -27,11 +28,11 @@ upper_some a d c e = ap (λ o. upper o d) e ∙ sym e
 -- some cells of the upper one
 pub upper_first : (a d : Option Cell) (row : List Cell) (n k : ℕ) → k < n → k < length row → a ≡ slice_get row k → slice_get (take n row) k ≡ upper a d
 upper_first a d row n k less within e =
-    slice_get-take n row k less ∙ sym e ∙ sym (upper_some a d (get_or row k black_cell) (e ∙ slice_get-get_or row k black_cell within))
+    get_take n row k less ∙ sym e ∙ sym (upper_some a d (get_or row k black_cell) (e ∙ slice_get-get_or row k black_cell within))
 
 -- some of the lower, where the upper has none
 pub upper_second : (a d : Option Cell) (row : List Cell) (n k : ℕ) → k < n → a ≡ None → d ≡ slice_get row k → slice_get (take n row) k ≡ upper a d
-upper_second a d row n k less none e = slice_get-take n row k less ∙ sym e ∙ sym (ap (λ o. upper o d) none)
+upper_second a d row n k less none e = get_take n row k less ∙ sym e ∙ sym (ap (λ o. upper o d) none)
 
 -- ---- a row
 

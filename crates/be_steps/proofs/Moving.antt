@@ -2,6 +2,7 @@
 use Rattle.std.proofs.Common.{◌≡◌, ◌≢◌, ℕ, zero, suc, ◌+◌, ◌<◌, ◌≤◌, List, [], ◌∷◌, ◌++◌, drop, length, take, append_assoc, Option, Some, None, refl, sym, ap, ◌∙◌, subst, arith}
 use Rattle.std.specs.Prelude.{slice_get, unwrap_or}
 use Rattle.std.proofs.lemmas.Option.{same_Some}
+use Rattle.be_facts.proofs.Lists.{append_none}
 use Rattle.be_hall.proofs.Holding.{with_here, with_other}
 use Rattle.be_hall.specs.Hands.{Hand, part_at, with_part}
 use Rattle.be_link.specs.Queues.{Buffer, Numbered, empty_buffer, emptied, lengthened, without_oldest}
@@ -19,10 +20,6 @@ use Rattle.be_steps.specs.Commands.{HasMoved, HasMovedFirst, HasRoom, with_first
 -- ---- lists
 
 module _ {X : Type 0} where
-  append_nil : (xs : List X) → xs ++ [] ≡ xs
-  append_nil [] = refl
-  append_nil (x ∷ xs) = ap (λ l. x ∷ l) (append_nil xs)
-
   drop_one_more : (n : ℕ) (xs : List X) → drop 1 (drop n xs) ≡ drop (suc n) xs
   drop_one_more zero [] = refl
   drop_one_more zero (x ∷ xs) = refl
@@ -156,7 +153,7 @@ link_long xs (port w p) = omega arith
 link_long xs (pane w p) = omega arith
 
 link_start : (b : Buffer) (slice : Slice) → slice ≡ link_with (with_first 0 b) slice
-link_start b slice = sym (link_as (with_first 0 b) (λ l. l) slice append_nil ∙ link_same slice)
+link_start b slice = sym (link_as (with_first 0 b) (λ l. l) slice append_none ∙ link_same slice)
 
 -- ---- parts
 
@@ -340,7 +337,7 @@ module _ (p q : ℕ) (apart : p ≢ q) where
       log = log;
       moved = sym (
           ap (λ x. hand_with taken q (kinds.Link x)) (
-          link_as (with_first 1 (buffer_of was.slice)) (λ commands. commands) l (λ commands. ap (λ t. commands ++ t) (take_nothing (buffer_of was.slice).commands (sym nothing)) ∙ append_nil commands)
+          link_as (with_first 1 (buffer_of was.slice)) (λ commands. commands) l (λ commands. ap (λ t. commands ++ t) (take_nothing (buffer_of was.slice).commands (sym nothing)) ∙ append_none commands)
           ∙ link_same l)
           ∙ ap (λ (x : List (ℕ × Part)). record { parts = x; room = old.room }) (kept (with_part old.parts p (kinds.Looper is)) q (kinds.Link l) (link_stays l far))
           );

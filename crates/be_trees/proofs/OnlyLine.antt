@@ -1,9 +1,10 @@
 -- A text that is read as a tree is the line of its archive.
 use Rattle.std.proofs.Common.{◌≡◌, ℕ, ◌/◌, Bool, true, false, cond, List, [], ◌∷◌, ◌++◌, length}
-use Rattle.std.proofs.Common.{Option, Some, None, Result, Ok, Err, refl, sym, ap, subst, ◌∙◌}
+use Rattle.std.proofs.Common.{Option, Some, None, Result, Ok, Err, sym, ap, subst, ◌∙◌}
 use Rattle.std.specs.Prelude.{nat_lt, option_and_then}
 use Rattle.std.specs.Result.{result_ok, result_unwrap_or}
 use Rattle.std.proofs.lemmas.Option.{same_Some}
+use Rattle.be_facts.proofs.Lists.{some_inner}
 use Rattle.be_archive.specs.Reading.{tree_in}
 use Rattle.be_archive.proofs.Only.{only_its_archive}
 use Rattle.be_command.specs.declared.fault.Reason.TheVariants.{TooLong}
@@ -22,12 +23,6 @@ use Rattle.be_trees.specs.Reading.{bytes_in, one_line, or_shape, tree_of_bytes, 
 use Rattle.be_trees.specs.Reading.{tree_of_text}
 use Rattle.be_trees.proofs.OneLine.{only_line}
 
--- what there was before a step that gave something
-some_before : {X Y : Type 0} (f : X → Option Y) (o : Option X) (y : Y)
-    → option_and_then f o ≡ Some y → (x : X) × (o ≡ Some x) × (f x ≡ Some y)
-some_before f (Some x) y e = (x, refl, e)
-some_before f None y e = absurd cc
-
 ok_of : {X E : Type 0} (r : Result X E) (x : X) → result_ok r ≡ Some x → r ≡ Ok x
 ok_of (Ok y) x e = ap Ok (same_Some y x e)
 ok_of (Err why) x e = absurd cc
@@ -43,10 +38,10 @@ is_its_line : (tree : Tree) (text : List ℕ) → tree_of_text text ≡ Some tre
 unfolding line_of
 is_its_line tree text e =
     let line = one_line (lines_of text) in
-    let bytes = some_before tree_of_bytes (option_and_then bytes_in line) tree e in
-    let digits = some_before bytes_in line bytes.0 bytes.1 in
+    let bytes = some_inner tree_of_bytes (option_and_then bytes_in line) tree e in
+    let digits = some_inner bytes_in line bytes.0 bytes.1 in
     let message =
-    some_before (λ (m : Message). result_ok (tree_in m)) (result_ok (reading bytes.0)) tree bytes.2 in
+    some_inner (λ (m : Message). result_ok (tree_in m)) (result_ok (reading bytes.0)) tree bytes.2 in
     let written = hex_text-hex_bytes (length digits.0 / 2) digits.0 bytes.0 digits.2 in
     let spelt : Spells bytes.0 message.0 =
     is_spelt bytes.0 message.0 written.1 (ok_of (reading bytes.0) message.0 message.1) in

@@ -10,6 +10,7 @@ use Rattle.std.proofs.lemmas.Bool.Decides.{Decides-int_eq}
 use Rattle.std.proofs.lemmas.Option.{none-some, same_Some, slice_get_past}
 use Rattle.be_facts.proofs.Numbers.{suc_more}
 use Rattle.be_facts.proofs.Truths.{or_assoc, and_true, and_false, with_or_false, true_or_false}
+use Rattle.be_facts.proofs.Lists.{get_take}
 use Rattle.be_geom.specs.declared.rect.Rect.{Rect}
 use Rattle.be_geom.specs.Points.{between}
 use Rattle.be_geom.specs.Rects.{rect_has}
@@ -18,7 +19,7 @@ use Rattle.be_region.specs.Regions.{region_has}
 use Rattle.be_region.proofs.CountLemmas.{has-append}
 use Rattle.be_span.specs.declared.Cell.{Cell}
 use Rattle.be_span.specs.Spans.{Spans, cell_in, is_dirty, pixels_of}
-use Rattle.be_span.proofs.CellLemmas.{cell_none, cell_some, slice_get-take}
+use Rattle.be_span.proofs.CellLemmas.{cell_none, cell_some}
 use Rattle.be_update.specs.Rows.{HasMore, IsAllOf, waits_at, waits_in, rows_of}
 
 -- ---- cells
@@ -28,7 +29,7 @@ seen (Some c) b h = same_Some c.dirty b h
 seen None b h = absurd (none-some b h)
 
 below : (cells : List Cell) (n k : ℕ) → k < n → is_dirty (slice_get (take n cells) k) ≡ is_dirty (slice_get cells k)
-below cells n k h = ap is_dirty (slice_get-take n cells k h)
+below cells n k h = ap is_dirty (get_take n cells k h)
 
 past : (cells : List Cell) (n k : ℕ) → n ≤ k → is_dirty (slice_get (take n cells) k) ≡ false
 past cells n k h = ap is_dirty (slice_get_past (take n cells) k (omega (arith, length-take n cells)))

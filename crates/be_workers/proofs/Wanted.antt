@@ -1,7 +1,7 @@
 -- The places that a turn wants.
 use Rattle.std.proofs.Common.{◌≡◌, ℕ, zero, suc, ◌+◌, ◌<◌, ◌≤◌, ◌-◌, inl, inr, Bool, true, false}
 use Rattle.std.proofs.Common.{◌||◌}
-use Rattle.std.proofs.Common.{◌==◌, nat_lt, cond, List, [], ◌∷◌, ◌++◌, length, filter, map, All}
+use Rattle.std.proofs.Common.{◌==◌, nat_lt, cond, List, [], ◌∷◌, ◌++◌, length, filter, All}
 use Rattle.std.proofs.Common.{Contains, get_or, refl, sym, ap, ◌∙◌, subst, append-nil, eq-eqb}
 use Rattle.std.proofs.Common.{arith}
 use Rattle.std.specs.Prelude.{insert}
@@ -405,16 +405,6 @@ module _ {T M : Type 0} (f : T → M) where
       → IsHeld (meant f held) p
   is_held held ps p same has = All-contains (λ q. IsHeld (meant f held) q) (places_of held) p
       (all_held held) (subst (λ l. Contains l p) (sym same) has)
-
-  places_meant : (held : List (ℕ × T)) → map (λ x. x.0) (meant f held) ≡ places_of held
-  places_meant [] = refl
-  places_meant (x ∷ xs) = ap (λ ps. x.0 ∷ ps) (places_meant xs)
-
-  -- parts that mean the same are at the same places
-  pub same_places : (held other : List (ℕ × T)) → meant f held ≡ meant f other
-      → places_of held ≡ places_of other
-  same_places held other is =
-      sym (places_meant held) ∙ (ap (map (λ x. x.0)) is ∙ places_meant other)
 
   -- a place that isn't in hand, where all that were wanted are, makes what is wanted longer
   pub grown : (owns : ℕ → Bool) (more : List ℕ) (held : List (ℕ × T)) (ps : List ℕ) (n p : ℕ)

@@ -97,7 +97,7 @@ module _ (d : Declared) (parts : List (ℕ × Part)) (it : Activity) (asks : Wan
     ascending = allowed_is.ascending;
   }
 
-  same_maker : activity_in it ≡ activity_in (made_by other)
+  pub same_maker : activity_in it ≡ activity_in (made_by other)
   unfolding allowed_by
   same_maker = same_Some (activity_in it) (activity_in (made_by other))
       (sym allowed_is.asked.number ∙ allowed_by.asked.number)

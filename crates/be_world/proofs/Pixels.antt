@@ -6,11 +6,12 @@ use Rattle.std.proofs.Math.Seq.{take-append-add, take-length}
 use Rattle.std.proofs.lemmas.Bool.{cases_lt}
 use Rattle.std.proofs.lemmas.List.{length-take-le, take-append-drop}
 use Rattle.std.proofs.lemmas.Option.{slice_get_past}
+use Rattle.be_facts.proofs.Lists.{get_drop, get_take}
 use Rattle.be_bitmap.specs.Pictures.{Picture, bitmap_pixel}
 use Rattle.be_bitmap.specs.Sides.{IsPicture, IsRefused}
 use Rattle.be_bitmap.specs.declared.fault.BitmapFault.{BitmapFault}
 use Rattle.be_bitmap.specs.declared.fault.BitmapFault.TheVariants.{TooLarge, WrongLength}
-use Rattle.be_bitmap.proofs.PixelLemmas.{pixel_inside, pixel_right, slice_get-drop, slice_get-take}
+use Rattle.be_bitmap.proofs.PixelLemmas.{pixel_inside, pixel_right}
 use Rattle.be_color.specs.declared.colors.Color.{Color}
 use Rattle.be_rules.proofs.ListLemmas.{same_list}
 
@@ -29,8 +30,8 @@ module _ (p : Picture) (row : ℕ) (line : List Color) (inside : row < p.height)
       (λ (left : 0 + k < p.width).
       pixels k
       ∙ pixel_inside p (0 + k) row left inside
-      ∙ sym (slice_get-take p.width (drop (row * p.width) p.colors) k (omega arith)
-      ∙ slice_get-drop (row * p.width) p.colors k (row * p.width + (0 + k)) (omega arith)))
+      ∙ sym (get_take p.width (drop (row * p.width) p.colors) k (omega arith)
+      ∙ get_drop (row * p.width) p.colors k (row * p.width + (0 + k)) (omega arith)))
       (λ (past : p.width ≤ 0 + k).
       pixels k
       ∙ pixel_right p (0 + k) row past

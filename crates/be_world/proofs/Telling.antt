@@ -8,6 +8,7 @@ use Rattle.be_asking.specs.Wants.{IsWanted}
 use Rattle.be_asking.specs.declared.want.Wanted.TheVariants.{Nothing}
 use Rattle.be_hall.specs.Hands.{meant, places_of, up_from}
 use Rattle.be_hall.specs.Machine.{Fits, IsHeld, SomeFits}
+use Rattle.be_hall.proofs.Gathered.{all_in}
 use Rattle.be_machine.specs.Activities.{Activity, activity_of}
 use Rattle.be_machine.specs.declared.Act.{Act}
 use Rattle.be_machine.specs.declared.Act.TheVariants.{Stop}
@@ -21,8 +22,8 @@ use Rattle.be_rules.specs.Rules.{IsSound, world_machine}
 use Rattle.be_rules.specs.Slices.{Slice, all_parts, state_of}
 use Rattle.be_script.specs.Script.{Declared}
 use Rattle.be_turns.specs.Turning.{is_some}
+use Rattle.be_asking.proofs.AllHeld.{touched_below}
 use Rattle.be_world.specs.Turns.{HasEntry, entry_by, legal_entry}
-use Rattle.be_world.proofs.Places.{all_in_hand, touched_below}
 
 same_some : (a : ℕ) (o : Option Act) → std.is_some o ≡ is_some (option_map (entry_by a) o)
 same_some a (Some act) = refl
@@ -78,8 +79,8 @@ pub none_needed : (d : Declared) (a p : ℕ) (who : Activity) (parts : List (ℕ
     → NeedsPart d (meant meaning_of parts) a p → ⊥
 none_needed d a p who parts number some_list places need =
     let n = needs d a (meant meaning_of parts) who number p some_list need in
-    n.1 (all_in_hand meaning_of parts (length (all_parts d)) p places n.0)
+    n.1 (all_in meaning_of (length (all_parts d)) parts places p n.0)
 
 pub all_held : (d : Declared) (parts : List (ℕ × Part))
     → places_of parts ≡ up_from 0 (length (all_parts d)) → AreAllHeld d (meant meaning_of parts)
-all_held d parts places p below = all_in_hand meaning_of parts (length (all_parts d)) p places below
+all_held d parts places p below = all_in meaning_of (length (all_parts d)) parts places p below

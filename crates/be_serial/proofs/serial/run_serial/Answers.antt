@@ -5,11 +5,12 @@ use Rattle.be_facts.proofs.Lists.{map_length, map_map}
 use Rattle.be_hall.specs.Numbers.{total}
 use Rattle.be_hall.specs.Hands.{up_from, numbered}
 use Rattle.be_hall.specs.Machine.{leads}
+use Rattle.be_hall.proofs.Gathered.{numbered_fit, numbered_fits, numbered_places, whole}
 use Rattle.be_turns.specs.Turning.{IsFinished, is_some}
 use Rattle.be_serial.specs.Scheduled.{next_draw, draws, place_of, ready_below, Picked}
 use Rattle.be_serial.specs.Running.{Runs}
 use Rattle.be_serial.specs.Known.{AllStale}
-use Rattle.be_serial.proofs.Going.{knows_none, numbered_fits, numbered_places, numbered_fit, numbered_logs, whole, leads_snoc, more_long, closes, draws_next, picked_snoc, all_ready, none_ready, no_items}
+use Rattle.be_serial.proofs.Going.{all_ready, closes, draws_next, knows_none, leads_snoc, more_long, no_items, none_ready, numbered_logs, picked_snoc}
 use Rattle.be_serial.proofs.serial.run_serial.Goals as goal
 
 pub loop-listed-init : goal.loop-listed-init
@@ -31,7 +32,7 @@ loop-listed-init g c =
       all = numbered_places meaning 0 xs ∙ ap (up_from 0) many;
       fits = numbered_fit meaning x.fits 0 0 xs c.requires.fits;
       room = omega arith;
-      logs = numbered_logs meaning log (length {A = g.row.W-Entry.Denot} [] + 1) 0 xs c.requires.logs;
+      logs = numbered_logs log (length {A = g.row.W-Entry.Denot} [] + 1) 0 xs c.requires.logs;
     } in (
       refl,
       is,

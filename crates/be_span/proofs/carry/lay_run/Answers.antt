@@ -3,9 +3,9 @@ use Rattle.std.proofs.Common.{◌≡◌, arith, cond, sym, subst, ◌∙◌, ref
 use Rattle.std.proofs.lemmas.Int.{to_z-of_z}
 use Rattle.std.proofs.lemmas.List.{length-take}
 use Rattle.std.proofs.lemmas.List.Sums.{sum_by-take-le}
+use Rattle.be_facts.proofs.Lists.{get_take}
 use Rattle.be_span.specs.declared.Cell.{Cell}
 use Rattle.be_span.specs.Runs.{IsBeside}
-use Rattle.be_span.proofs.CellLemmas.{slice_get-take}
 use Rattle.be_span.proofs.MarkLemmas.{row_clean}
 use Rattle.be_span.proofs.LaidLemmas.{laid_nothing, laid_put}
 use Rattle.be_span.proofs.carry.lay_run.Goals as goal
@@ -34,7 +34,7 @@ returns-clause-cells c =
     let from = simp to_z-of_z at c.row_from-row.ensures.cells in
     let others = simp to_z-of_z at c.put_counted.ensures.others in
     record {
-      inside = λ k less. laid_put _ c.args.to.now _ c.row_from-row.result.now k (c.args.target.x +ℤ pos k) c.args.target.y (omega arith) (from k (omega arith)) c.put_counted.ensures.whole (c.requires.inside k (omega arith)) (put k (omega arith) ∙ slice_get-take c.min-count.result c.row_from-row.result.now k less);
+      inside = λ k less. laid_put _ c.args.to.now _ c.row_from-row.result.now k (c.args.target.x +ℤ pos k) c.args.target.y (omega arith) (from k (omega arith)) c.put_counted.ensures.whole (c.requires.inside k (omega arith)) (put k (omega arith) ∙ get_take c.min-count.result c.row_from-row.result.now k less);
       beside = λ z w h. others z w (subst (λ n. IsBeside c.args.target.x c.args.target.y n z w) (sym long) h);
     }
 

@@ -3,11 +3,12 @@ use Rattle.std.proofs.Common.{◌≡◌, ◌+◌, ◌-◌, length, slice_get, co
 use Rattle.std.specs.Option.{option_map}
 use Rattle.std.proofs.lemmas.Bool.{cases_lt}
 use Rattle.std.proofs.lemmas.Option.{slice_get_past}
+use Rattle.be_facts.proofs.Lists.{get_drop, get_take}
 use Rattle.be_color.specs.declared.colors.Color.{Color}
 use Rattle.be_color.specs.declared.colors.Color.TheVariants.{Clear, Solid}
 use Rattle.be_span.specs.declared.Cell.{Cell}
 use Rattle.be_span.specs.Slices.{has_bit_from, painted}
-use Rattle.be_span.proofs.CellLemmas.{part_sum, put_inside, put_others, put_sum, slice_get-take, slice_get-drop}
+use Rattle.be_span.proofs.CellLemmas.{part_sum, put_inside, put_others, put_sum}
 use Rattle.be_span.proofs.MaskLemmas.{before_from, bit_from}
 use Rattle.be_span.proofs.masks.paint_marked.Goals as goal
 
@@ -36,7 +37,7 @@ returns-then-from-cells-clause-cells c k =
             ap (slice_get _) (sym is)
             ∙ put_inside from n old new j (omega arith) (omega arith)
             ∙ c.mark_each.ensures.cells j
-            ∙ ap (option_map _) (slice_get-take n _ j (omega arith) ∙ slice_get-drop from old j k (omega arith))
+            ∙ ap (option_map _) (get_take n _ j (omega arith) ∙ get_drop from old j k (omega arith))
             ∙ ap (λ b. option_map (painted brush (cond b color Clear)) (slice_get old k)) (sym (bit_from from mask k j (omega arith)))
             ∙ ap (λ (s : Color). option_map (painted brush (cond (has_bit_from from mask k) s Clear)) (slice_get old k)) (sym c.in-Solid.is)
         | inr past ↦

@@ -1,6 +1,6 @@
 use Rattle.std.proofs.Common.{◌<◌, ◌≤◌, pos, ◌+ℤ◌, length, SFits, w32, rules, arith, sym, ap, ◌∙◌}
 use Rattle.std.proofs.lemmas.Int.{to_z-of_z}
-use Rattle.be_span.proofs.CellLemmas.{slice_get-take}
+use Rattle.be_facts.proofs.Lists.{get_take}
 use Rattle.be_update.proofs.RowLemmas.{cut_length, wide_enough}
 use Rattle.be_update.proofs.dirty.row_of.Goals as goal
 
@@ -34,4 +34,4 @@ returns-clause-cells c k h =
     let below : k < c.count_of-width.result = omega arith in
     let all = long c in
     let cells = simp (c.from.ensures, c.from-2.ensures, to_z-of_z) at (c.row_from-row.ensures.cells k (omega arith)) in
-    cells ∙ sym (slice_get-take c.count_of-width.result c.row_from-row.result.now k below)
+    cells ∙ sym (get_take c.count_of-width.result c.row_from-row.result.now k below)

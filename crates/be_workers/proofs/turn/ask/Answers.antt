@@ -2,23 +2,23 @@ use Rattle.std.proofs.Common.{◌≡◌, ◌+◌, ◌==◌, ◌++◌, ◌∷◌,
 use Rattle.be_hall.specs.Hands.{meant}
 use Rattle.be_hall.specs.Views.{commit}
 use Rattle.be_hall.specs.Words.{in_hand, rules_of, view_of}
+use Rattle.be_hall.proofs.Gathered.{same_firsts}
 use Rattle.be_turns.specs.Turning.{Tells}
 use Rattle.be_workers.specs.Turned.{OneMore, made_by}
 use Rattle.be_workers.proofs.Turned.{after_entry, legal_commit, prepared}
-use Rattle.be_workers.proofs.Wanted.{same_places}
 use Rattle.be_workers.proofs.turn.ask.Goals as goal
 
 pub returns-in_err-ready-in-Entry-clause-places : goal.returns-in_err-ready-in-Entry-clause-places
-returns-in_err-ready-in-Entry-clause-places g c = same_places g.W.Parts.meaning
+returns-in_err-ready-in-Entry-clause-places g c = same_firsts g.W.Parts.meaning
     (in_hand c.prepare.new.pass) (in_hand c.args.pass.now) c.prepare.ensures.held
 
 pub returns-in-Needs-2-clause-places : goal.returns-in-Needs-2-clause-places
-returns-in-Needs-2-clause-places g c = same_places g.W.Parts.meaning
+returns-in-Needs-2-clause-places g c = same_firsts g.W.Parts.meaning
     (in_hand c.prepare.new.pass) (in_hand c.args.pass.now) c.prepare.ensures.held
 
 pub returns-in-Ready-clause-places : goal.returns-in-Ready-clause-places
 returns-in-Ready-clause-places g c = c.commit.ensures.made.same_places
-    ∙ same_places g.W.Parts.meaning (in_hand c.prepare.new.pass) (in_hand c.args.pass.now)
+    ∙ same_firsts g.W.Parts.meaning (in_hand c.prepare.new.pass) (in_hand c.args.pass.now)
     c.prepare.ensures.held
 
 pub returns-in-Ready-clause-ok : goal.returns-in-Ready-clause-ok

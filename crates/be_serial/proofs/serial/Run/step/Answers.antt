@@ -4,7 +4,8 @@ use Rattle.be_hall.specs.Hands.{meant}
 use Rattle.be_hall.specs.Machine.{Fits, IsHeld, HeldFit, leads}
 use Rattle.be_hall.specs.Logs.{IsAbove, appended}
 use Rattle.be_hall.proofs.Holding.{fit_after}
-use Rattle.be_serial.proofs.Going.{knows_after, leads_snoc, all_in, is_above, is_entry, an_entry, a_ready, entry_is, goes_on, same_firsts}
+use Rattle.be_hall.proofs.Gathered.{all_in, same_firsts}
+use Rattle.be_serial.proofs.Going.{a_ready, an_entry, entry_is, goes_on, is_above, is_entry, knows_after, leads_snoc}
 use Rattle.be_serial.specs.Running.{Runs}
 use Rattle.be_serial.specs.Known.{Knows, Stirs}
 use Rattle.be_serial.proofs.serial.Run.step.Goals as goal

@@ -1,16 +1,11 @@
 -- All parts in hand, from the first place on.
-use Rattle.std.proofs.Common.{◌≡◌, ℕ, zero, suc, ◌+◌, ◌<◌, ◌≤◌, inl, inr, ⊎_elim, Bool, true, false, List, [], ◌∷◌, ◌++◌, map, length, All, refl, sym, ap, ◌∙◌, subst, arith}
-use Rattle.std.specs.Prelude.{Some, ◌==◌, if◌then◌else◌}
-use Rattle.std.proofs.lemmas.List.Elements.{All-head, All-tail}
+use Rattle.std.proofs.Common.{◌≡◌, ℕ, zero, suc, ◌+◌, ◌<◌, ◌≤◌, inl, inr, List, [], ◌∷◌, ◌++◌, map, length, refl, sym, ap, ◌∙◌, subst, arith}
 use mathlib.Core.Logic.{dite}
 use mathlib.Core.Option.{some, some-injective}
 use native.Mathlib.Decide.{dec_le}
 use lib.ListN.{get_elem?}
-use Rattle.be_hall.specs.Hands.{meant, numbered, part_at, places_of, up_from}
-use Rattle.be_hall.specs.Logs.{AllBefore, IsAbove, appended}
+use Rattle.be_hall.specs.Hands.{meant, numbered, places_of, up_from}
 use Rattle.be_hall.specs.Machine.{AllFit, Fits, HeldFit, IsHeld}
-use Rattle.be_serial.specs.Running.{EachBefore}
-use Rattle.be_steps.proofs.Making.{by_place_test}
 
 no_list : (ps : List ℕ) (q : ℕ) → [] ≡ q ∷ ps → ⊥
 no_list ps q h = cc
@@ -41,14 +36,6 @@ module _ {M : Type 0} where
   long [] m = refl
   long (y ∷ ys) m = let r = long ys m in omega arith
 
-  -- what a list has at a place is in hand there
-  pub part_in : (held : List (ℕ × M)) (all : List M) (p : ℕ) (m : M) → IsHeld held p → Fits all held → get_elem? all p ≡ some m → part_at held p ≡ Some m
-  part_in [] all p m h f at = absurd h
-  part_in (x ∷ xs) all p m h f at =
-      by_place_test (λ b. (if b then Some x.1 else part_at xs p) ≡ Some m) x.0 p
-      (λ is. ap (λ z. Some z) (some-injective x.1 m (sym f.0 ∙ ap (get_elem? all) is ∙ at)))
-      (λ other. part_in xs all p m (⊎_elim (λ is. absurd (other is)) (λ more. more) h) f.1 at)
-
 -- ---- parts
 
 module _ {T M : Type 0} (meaning : T → M) where
@@ -74,6 +61,9 @@ module _ {T M : Type 0} (meaning : T → M) where
       (λ at. inl (let same : p ≡ k = omega arith in here ∙ sym same))
       (λ past. inr (held_at (suc k) n p xs more (omega arith) (omega arith)))
 
+  pub all_in : (n : ℕ) (held : List (ℕ × T)) → places_of held ≡ up_from 0 n → (p : ℕ) → p < n → IsHeld (meant meaning held) p
+  all_in n held e p b = held_at 0 n p held e (omega arith) (omega arith)
+
   -- all parts that a list gives are the list
   pub whole : (k n : ℕ) (before all : List M) (held : List (ℕ × T)) → places_of held ≡ up_from k n → length before ≡ k → length all ≡ n → Fits (before ++ all) (meant meaning held) → map (λ y. meaning y.1) held ≡ all
   whole k zero before [] [] e b l f = refl
@@ -87,6 +77,7 @@ module _ {T M : Type 0} (meaning : T → M) where
       let more = whole (suc k) n (before ++ m ∷ []) ms ys (rests y.0 k (places_of ys) (up_from (suc k) n) e) (let r = long before m in omega arith) (omega arith) (subst (λ z. Fits z (meant meaning ys)) (sym (moved before m ms)) f.1) in
       λ i. same i ∷ more i
 
+  -- parts that mean the same stand at the same places
   pub same_firsts : (xs ys : List (ℕ × T)) → meant meaning xs ≡ meant meaning ys → places_of xs ≡ places_of ys
   same_firsts xs ys e = sym (of_meant xs) ∙ (ap (map (λ z. z.0)) e ∙ of_meant ys)
     where
@@ -107,6 +98,10 @@ module _ {T M : Type 0} (meaning : T → M) where
   numbered_places k [] = refl
   numbered_places k (x ∷ xs) = ap (λ l. k ∷ l) (numbered_places (suc k) xs)
 
+  pub numbered_fits : (before : List M) (k : ℕ) (xs : List T) → length before ≡ k → Fits (before ++ map meaning xs) (meant meaning (numbered k xs))
+  numbered_fits before k [] e = tt
+  numbered_fits before k (x ∷ xs) e = (at_end before k (meaning x) (map meaning xs) e, subst (λ l. Fits l (meant meaning (numbered (suc k) xs))) (moved before (meaning x) (map meaning xs)) (numbered_fits (before ++ meaning x ∷ []) (suc k) xs (let l = long before (meaning x) in omega arith)))
+
   pub numbered_means : (k : ℕ) (xs : List T) → map (λ x. meaning x.1) (numbered k xs) ≡ map meaning xs
   numbered_means k [] = refl
   numbered_means k (x ∷ xs) = ap (λ l. meaning x ∷ l) (numbered_means (suc k) xs)
@@ -114,29 +109,3 @@ module _ {T M : Type 0} (meaning : T → M) where
   pub numbered_fit : (fits : ℕ → M → Type 0) (n k : ℕ) (xs : List T) → AllFit fits n (map meaning xs) → HeldFit fits n (meant meaning (numbered k xs))
   numbered_fit fits n k [] a = tt
   numbered_fit fits n k (x ∷ xs) a = (a.0, numbered_fit fits n (suc k) xs a.1)
-
--- ---- logs
-
-module _ {E : Type 0} where
-  pub numbered_logs : {T : Type 0} (log : T → List (ℕ × E)) (n k : ℕ) (xs : List T) → All (λ x. log x ≡ []) xs → EachBefore n (meant log (numbered k xs))
-  numbered_logs log n k [] a = tt
-  numbered_logs log n k (x ∷ xs) a = (subst (AllBefore n) (sym (All-head (λ x. log x ≡ []) x xs a)) tt, numbered_logs log n (suc k) xs (All-tail (λ x. log x ≡ []) x xs a))
-
-  before_more : (n k : ℕ) (l : List (ℕ × E)) → n ≤ k → AllBefore n l → AllBefore k l
-  before_more n k [] h a = tt
-  before_more n k (x ∷ xs) h a = (let b = a.0 in omega arith, before_more n k xs h a.1)
-
-  before_snoc : (n : ℕ) (l : List (ℕ × E)) (y : ℕ × E) → y.0 < n → AllBefore n l → AllBefore n (l ++ y ∷ [])
-  before_snoc n [] y h a = (h, tt)
-  before_snoc n (x ∷ xs) y h a = (a.0, before_snoc n xs y h a.1)
-
-  pub each_appended : (n k : ℕ) (e : E) (ls : List (ℕ × List (ℕ × E))) → EachBefore n ls → EachBefore (n + 1) (appended k (n, e) ls)
-  each_appended n k e [] a = tt
-  each_appended n k e (l ∷ ls) a = (by_test (l.0 == k), each_appended n k e ls a.1) where
-    by_test : (b : Bool) → AllBefore (n + 1) (if b then l.1 ++ (n, e) ∷ [] else l.1)
-    by_test true = before_snoc (n + 1) l.1 (n, e) (omega arith) (before_more n (n + 1) l.1 (omega arith) a.0)
-    by_test false = before_more n (n + 1) l.1 (omega arith) a.0
-
-  pub is_above : (n k : ℕ) (ls : List (ℕ × List (ℕ × E))) → EachBefore n ls → IsAbove n k ls
-  is_above n k [] a = tt
-  is_above n k (l ∷ ls) a = (λ is. a.0, is_above n k ls a.1)
