@@ -1,3 +1,4 @@
 pub mod FieldLemmas
 pub mod FillingLemmas
 pub mod ConditionLemmas
+pub mod TurnLemmas
