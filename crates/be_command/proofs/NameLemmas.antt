@@ -1,5 +1,5 @@
 -- Names that are told apart, and names that are added.
-use Rattle.std.proofs.Common.{◌≡◌, ℕ, Bool, true, false, not, ◌&&◌, ◌||◌, List, [], ◌∷◌, ◌++◌, refl, arith, cond, Option, Some, None, nat_le, leb-false, ◌<◌, length, ap, ◌∙◌, subst, sym, codes, Result, Ok, Err}
+use Rattle.std.proofs.Common.{◌≡◌, ◌≢◌, ◌-◌, zero, suc, get_or, ℕ, Bool, true, false, not, ◌&&◌, ◌||◌, List, [], ◌∷◌, ◌++◌, refl, arith, cond, Option, Some, None, nat_le, leb-false, ◌<◌, length, ap, ◌∙◌, subst, sym, codes, Result, Ok, Err}
 use Rattle.std.proofs.lemmas.List.Folds.{list_any-append, list_all-append}
 use Rattle.std.proofs.Math.Dec.{leb-suc-suc}
 use Rattle.std.specs.List.{list_any}
@@ -81,3 +81,8 @@ pub beside_the_root : (result : Result ℕ NameFault) (views : List (List ℕ)) 
 beside_the_root (Ok n) views name h = (beside_root views name ∙ h.0, omega (arith, h.1))
 beside_the_root (Err fault) views name h =
     let P : Option NameFault → Type 0 = λ due. IsNameFault fault due in subst P (sym (beside_root views name)) h
+
+-- a name behind the first one
+pub name_behind : (n : ℕ) (first : List ℕ) (names : List (List ℕ)) → n ≢ 0 → get_or (first ∷ names) n [] ≡ get_or names (n - 1) []
+name_behind zero first names some = absurd (some refl)
+name_behind (suc n) first names some = let e : suc n - 1 ≡ n = omega arith in ap (λ (k : ℕ). get_or names k []) (sym e)

@@ -2,7 +2,7 @@
 use Rattle.std.proofs.Common.{◌≡◌, ℕ, refl, drop, Bool, true, false, nat_lt, cond, arith, List, [], ◌∷◌, Option, Some, None, Result, Ok, Err, ap, ◌∙◌, sym}
 use Rattle.std.proofs.lemmas.Bool.{ltb-true, ltb-false}
 use Rattle.std.specs.Prelude.{slice_get}
-use Rattle.std.specs.Result.{result_err}
+use Rattle.std.specs.Result.{result_err, result_map_both}
 use Rattle.be_command.specs.declared.fault.Reason.{Reason}
 use Rattle.be_command.specs.Faults.{rank_of}
 use Rattle.be_command.specs.Places.{judged}
@@ -81,6 +81,22 @@ takes_as {A} {B} p q f s l a part = record {
   at = part.at;
   reason = part.reason ∙ ap (first_reason p.reason) (sym (err-said_as f s));
   value_is = λ (y : B) (e : said_as f s ≡ Ok y). let x = ok-said_as f s y e in ap f (part.value_is x.0 x.1.0) ∙ x.1.1;
+}
+
+-- a part as it is seen
+err-seen : {A B : Type 0} (f : A → B) (a : Result A Reason) → result_err (result_map_both f (λ reason. reason) a) ≡ result_err a
+err-seen f (Ok a) = refl
+err-seen f (Err g) = refl
+
+ok-seen : {A B : Type 0} (f : A → B) (a : Result A Reason) (y : B) → result_map_both f (λ reason. reason) a ≡ Ok y → (x : A) × ((a ≡ Ok x) × (f x ≡ y))
+ok-seen f (Ok a) y e = (a, (refl, (cc)))
+ok-seen f (Err g) y e = (cc)
+
+pub takes_seen : {A B : Type 0} (p q : Progress) (f : A → B) (s : Result A Reason) (l : At) (a : A) → Takes s l p q a → Takes (result_map_both f (λ reason. reason) s) l p q (f a)
+takes_seen {A} {B} p q f s l a part = record {
+  at = part.at;
+  reason = part.reason ∙ ap (first_reason p.reason) (sym (err-seen f s));
+  value_is = λ (y : B) (e : result_map_both f (λ reason. reason) s ≡ Ok y). let x = ok-seen f s y e in ap f (part.value_is x.0 x.1.0) ∙ x.1.1;
 }
 
 -- ---- words that stand one behind the other
