@@ -58,6 +58,7 @@ impl Bells {
         }
     }
 
+    /// Whether the activity's worker has begun. Who has no bell has.
     pub fn has_begun(&self, who: u32) -> bool {
         match self.bells.get(who as usize) {
             Some(bell) => bell.has_begun(),
@@ -65,6 +66,7 @@ impl Bells {
         }
     }
 
+    /// Whether the workers of all activities have begun.
     pub fn all_begun(&self) -> bool {
         self.unbegun.load(Ordering::SeqCst) == 0
     }

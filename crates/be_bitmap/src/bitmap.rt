@@ -25,7 +25,11 @@ impl Model for Bitmap {
 
     ghost view = { λ b. record { width = b.width; height = b.height; colors = b.pixels.items } };
 
-    ghost invariant = { λ b. IsPicture record { width = b.width; height = b.height; colors = b.pixels.items } };
+    ghost invariant = { λ b. IsPicture record {
+      width = b.width;
+      height = b.height;
+      colors = b.pixels.items;
+    } };
 }
 
 impl Bitmap {

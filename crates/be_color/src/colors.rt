@@ -11,12 +11,14 @@ pub struct Rgb {
 }
 
 impl Rgb {
+    /// No part of any colour.
     pub const BLACK: Rgb = Rgb {
         red: 0,
         green: 0,
         blue: 0,
     };
 
+    /// All of each colour.
     pub const WHITE: Rgb = Rgb {
         red: 255,
         green: 255,

@@ -20,5 +20,6 @@ pub struct Hall<P: Parts + Drop> {
     pub(crate) book: Rulebook<P>,
     pub(crate) alloc: Global,
     ghost same_rules: { table.shared.key.rules.value ≡ book.rules },
-    ghost sized: { (table.shared.table_id.slots ≡ book.places) × (table.shared.table_id.words ≡ 8 * book.places + 16) },
+    ghost sized: { (table.shared.table_id.slots ≡ book.places)
+        × (table.shared.table_id.words ≡ 8 * book.places + 16) },
 }

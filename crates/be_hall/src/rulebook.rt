@@ -3,6 +3,7 @@ ghost use Rattle.std.specs.Prelude.{◌≡◌};
 
 use crate::parts::Parts;
 
+/// The rules of a hall, with the number of its places.
 #[derive(Drop)]
 pub struct Rulebook<P: Parts + Drop> {
     pub(crate) rules: P,

@@ -74,6 +74,7 @@ impl<E> Aim<E> for Brand {
     ghost entries = { [] };
 }
 
+/// What holds of a table behind each play, and of a new one.
 pub struct Law<P> {
     parts: PhantomData<P>,
 }
@@ -89,6 +90,7 @@ impl<P: Parts> TableRule<Option<P::Part>, View<P, P::Meaning, P::Entry>, Key<P, 
     ghost first = { λ k. blank (about_of P.meaning k) };
 }
 
+/// A pass tries to mark the place of a part.
 pub struct Marks<P> {
     parts: PhantomData<P>,
 }
@@ -99,6 +101,7 @@ impl<P: Parts> Play<Option<P::Part>, View<P, P::Meaning, P::Entry>> for Marks<P>
     ghost then = { tries P.meaning P.log };
 }
 
+/// A pass lets go of a place that it marked.
 pub struct Unmarks<P> {
     parts: PhantomData<P>,
 }
@@ -109,6 +112,7 @@ impl<P: Parts> Play<Option<P::Part>, View<P, P::Meaning, P::Entry>> for Unmarks<
     ghost then = { lets_go };
 }
 
+/// A pass commits: an entry, and all parts in hand go back.
 pub struct Commits<P, J> {
     parts: PhantomData<(P, J)>,
 }
@@ -120,6 +124,7 @@ impl<P: Parts, J: Aim<P::Entry>> Play<Option<P::Part>, View<P, P::Meaning, P::En
     ghost then = { commits P.machine J.entries };
 }
 
+/// A pass is split off another one.
 pub struct Parting;
 
 impl<P, M, E> Split<View<P, M, E>> for Parting {
@@ -130,6 +135,7 @@ impl<P, M, E> Split<View<P, M, E>> for Parting {
     ghost right = { parted };
 }
 
+/// A pass is joined into another one.
 pub struct Joining;
 
 impl<P, M, E> Join<View<P, M, E>> for Joining {
@@ -140,6 +146,7 @@ impl<P, M, E> Join<View<P, M, E>> for Joining {
     ghost spent = { spent };
 }
 
+/// A pass looks at the clock, which tells how many entries there are.
 pub struct Looks<P> {
     parts: PhantomData<P>,
 }
@@ -150,6 +157,7 @@ impl<P: Parts> Play<Option<P::Part>, View<P, P::Meaning, P::Entry>> for Looks<P>
     ghost then = { looks P.machine };
 }
 
+/// A pass looks at another word, which tells as much, but not how many entries there are.
 pub struct Glances<P> {
     parts: PhantomData<P>,
 }
@@ -160,6 +168,7 @@ impl<P: Parts> Play<Option<P::Part>, View<P, P::Meaning, P::Entry>> for Glances<
     ghost then = { glances P.machine };
 }
 
+/// Stop is raised.
 pub struct Raises;
 
 impl<T, P, M, E> Play<Option<T>, View<P, M, E>> for Raises {
@@ -168,6 +177,7 @@ impl<T, P, M, E> Play<Option<T>, View<P, M, E>> for Raises {
     ghost then = { raises };
 }
 
+/// A pass asks whether stop was raised.
 pub struct Asks;
 
 impl<T, P, M, E> Play<Option<T>, View<P, M, E>> for Asks {

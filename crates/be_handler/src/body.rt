@@ -19,6 +19,7 @@ impl Model for Body {
 }
 
 impl Body {
+    /// What this handler does for the word.
     pub fn new(target: Target, what: u32) -> Body
         ensures { result ≡ record { target = target; what = what } }
     {

@@ -54,7 +54,8 @@ impl Model for Chain {
       bodies = c.bodies.items;
     } };
 
-    ghost invariant = { λ c. IsIndexed c.parents.items c.nexts.items c.bodies.items c.window_words c.view_words.items c.plain_words.items };
+    ghost invariant = { λ c. IsIndexed c.parents.items c.nexts.items c.bodies.items
+        c.window_words c.view_words.items c.plain_words.items };
 }
 
 impl Chain {

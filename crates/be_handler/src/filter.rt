@@ -26,12 +26,14 @@ impl Model for Filter {
 }
 
 impl Filter {
+    /// A filter of the list of this handler, or of the common one.
     pub fn new(list: Option<Target>, what: Option<u32>, rule: Rule) -> Filter
         ensures { result ≡ record { list = list; what = what; rule = rule } }
     {
         Filter { list, what, rule }
     }
 
+    /// Whether it is in the list of this handler, or in the common one.
     pub fn is_in(&self, list: Option<Target>) -> bool
         ensures { result ≡ is_in_list list self.now.list }
     {

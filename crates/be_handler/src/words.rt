@@ -21,6 +21,7 @@ impl Model for Words {
 }
 
 impl Words {
+    /// No word. It takes no memory.
     pub fn new(alloc: Global) -> Words
         ensures { result ≡ [] }
     {
@@ -29,12 +30,14 @@ impl Words {
         }
     }
 
+    /// Whether the word is one of them. It takes the logarithm of their number.
     pub fn has(&self, what: u32) -> bool
         ensures { result ≡ has_word self.now what }
     {
         self.words.contains(&what)
     }
 
+    /// Adds a word, which may be there already.
     pub fn add(&mut self, what: u32) -> Result<(), NoMemory>
         ensures ok { OnOk result
             ((word : ℕ) → has_word self.new word ≡ ((what == word) || has_word self.old word)) }

@@ -52,6 +52,7 @@ pub fn number(word: Option<&[u8]>, low: i32, high: i32) -> Result<i32, Reason>
     number.between(low, high).ok_or(Reason::Range)
 }
 
+/// A number of 16 bits with a sign.
 pub fn coordinate(word: Option<&[u8]>) -> Result<i16, Reason>
     ensures { result ≡ judged coordinate (option_map (λ w. w.now) word.entry) }
 {
@@ -60,6 +61,7 @@ pub fn coordinate(word: Option<&[u8]>) -> Result<i16, Reason>
     number.coordinate().ok_or(Reason::Range)
 }
 
+/// How a view follows the left and right edges of its parent: `B_FOLLOW_LEFT` and its kin.
 pub fn across(word: Option<&[u8]>) -> Result<Across, Reason>
     ensures { result ≡ judged (λ word. formed (lookup (bytes_eq word) across_words))
         (option_map (λ w. w.now) word.entry) }
@@ -86,6 +88,7 @@ fn across_of(word: &[u8]) -> Option<Across>
     }
 }
 
+/// How a view follows the top and bottom edges of its parent: `B_FOLLOW_TOP` and its kin.
 pub fn down(word: Option<&[u8]>) -> Result<Down, Reason>
     ensures { result ≡ judged (λ word. formed (lookup (bytes_eq word) down_words))
         (option_map (λ w. w.now) word.entry) }

@@ -54,6 +54,7 @@ impl Looper {
         })
     }
 
+    /// Who has the looper locked.
     pub fn owner(&self) -> Owner
         ensures owner { result ≡ self.now.owner }
         ensures own { (result ≡ owners.Own) ↔ (is_some self.now.hand ≡ true) }

@@ -23,6 +23,7 @@ impl Model for Noting {
 }
 
 impl Noting {
+    /// The rules of a world whose entries are noted.
     pub fn new(world: World) -> Noting
         ensures { result ≡ world }
     {
@@ -36,6 +37,7 @@ impl Noting {
         &self.world
     }
 
+    /// The rules without notes, given back.
     pub fn into_world(self) -> World
         ensures { result ≡ self }
     {

@@ -69,6 +69,7 @@ impl MemorySink {
         self.room -= piece.len();
     }
 
+    /// What was put into it.
     pub fn held(&self) -> &[u8]
         ensures { result.now ≡ self.now.held }
     {

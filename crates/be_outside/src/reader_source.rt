@@ -22,6 +22,7 @@ impl<R: Read> Model for ReaderSource<R> {
 }
 
 impl<R: Read> ReaderSource<R> {
+    /// A source of what the reader gives.
     pub fn new(reader: R) -> ReaderSource<R>
         ensures { result ≡ record { inner = reader; faults = 0 } }
     {

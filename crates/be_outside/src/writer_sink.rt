@@ -23,6 +23,7 @@ impl<W: Write> Model for WriterSink<W> {
 }
 
 impl<W: Write> WriterSink<W> {
+    /// A sink that hands all on to the writer.
     pub fn new(writer: W) -> WriterSink<W>
         ensures { result ≡ record { inner = writer; faults = 0 } }
     {

@@ -23,6 +23,7 @@ impl Model for Page {
 }
 
 impl Page {
+    /// An empty page. It takes no memory.
     pub fn new(alloc: Global) -> Page
         ensures { result ≡ [] }
     {
@@ -31,12 +32,14 @@ impl Page {
         }
     }
 
+    /// Its bytes.
     pub fn as_slice(&self) -> &[u8]
         ensures { result.now ≡ self.now }
     {
         self.bytes.as_slice()
     }
 
+    /// Its bytes, handed over.
     pub fn into_bytes(self) -> Vec<u8>
         ensures { result.items ≡ self }
     {

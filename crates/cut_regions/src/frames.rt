@@ -8,6 +8,7 @@ use std::alloc::{AllocError, Global};
 pub struct Random(u64);
 
 impl Random {
+    /// Each run begins with this one.
     pub fn new() -> Random {
         Random(2026)
     }

@@ -103,6 +103,7 @@ impl Screen {
         self.panes.iter().find_map(|pane| pane.spans.get(x, y))
     }
 
+    /// The desk.
     pub fn desk(&self) -> &Desk
         ensures { desk_of result.now ≡ self.now.desk }
     {

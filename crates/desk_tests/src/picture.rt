@@ -10,18 +10,21 @@ use std::alloc::Global;
 use std::process::Abort;
 use std::test::Fail;
 
+/// The letter `r`.
 pub const RED: Rgb = Rgb {
     red: 255,
     green: 0,
     blue: 0,
 };
 
+/// The letter `g`.
 pub const GREEN: Rgb = Rgb {
     red: 0,
     green: 255,
     blue: 0,
 };
 
+/// The letter `b`.
 pub const BLUE: Rgb = Rgb {
     red: 0,
     green: 0,
@@ -31,6 +34,7 @@ pub const BLUE: Rgb = Rgb {
 /// A change of a window, and the picture after it.
 pub type Step<'a> = (u16, Change, &'a str);
 
+/// A rectangle by its edges.
 pub fn rect(left: i16, top: i16, right: i16, bottom: i16) -> Rect {
     Rect {
         left,
@@ -45,6 +49,7 @@ pub fn window<'a>(frame: Rect, color: Color) -> Declared<'a> {
     with_children(frame, color, &[])
 }
 
+/// A window with children in its root view.
 pub fn with_children<'a>(frame: Rect, color: Color, children: &'a [Child]) -> Declared<'a> {
     Declared {
         frame,

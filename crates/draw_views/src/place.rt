@@ -43,6 +43,7 @@ pub struct Place {
 }
 
 impl Place {
+    /// The place of a setting, for shapes of this side.
     pub fn new(alloc: Global, setting: Setting, side: i16) -> Result<Place, NoMemory> {
         let (right, bottom) = corner_of(setting);
         let mut tree = ViewTree::new(alloc, right, bottom)?;

@@ -105,6 +105,7 @@ impl Parts for Counters {
 }
 
 impl Counter {
+    /// A counter whose activity has made no step.
     pub fn new(alloc: Global, units: u64, left: u64) -> Counter
         ensures count { result.count ≡ record { units = units; left = left } }
         ensures log { result.log.items ≡ [] }
@@ -116,6 +117,7 @@ impl Counter {
         }
     }
 
+    /// Its units, and how many steps are left.
     pub fn count(&self) -> Count
         ensures { result ≡ self.now.count }
     {

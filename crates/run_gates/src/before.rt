@@ -17,6 +17,7 @@ pub struct HoldsBefore {
 }
 
 impl HoldsBefore {
+    /// A gate for so many activities, at which nobody was.
     pub fn new(alloc: Global, activities: u32) -> Result<HoldsBefore, NoMemory>
         ensures { IfOk result (λ gate. activities_of (before_visits gate) ≡ activities) }
     {
@@ -26,6 +27,7 @@ impl HoldsBefore {
         })
     }
 
+    /// Who was where.
     pub fn visits(&self) -> &Visits
         ensures { result.now ≡ before_visits self.now }
     {

@@ -44,6 +44,7 @@ impl DelaysBefore {
         })
     }
 
+    /// Who was where.
     pub fn visits(&self) -> &Visits
         ensures { result.now ≡ delayed_visits self.now }
     {

@@ -21,6 +21,7 @@ pub struct HoldsInside {
 }
 
 impl HoldsInside {
+    /// A gate for so many activities, which holds these two.
     pub fn new(alloc: Global, activities: u32, pair: (u32, u32)) -> Result<HoldsInside, NoMemory>
         ensures counts { IfOk result (λ gate. activities_of (inside_visits gate) ≡ activities) }
         ensures holds { IfOk result (λ gate. held_pair gate ≡ pair) }
@@ -32,6 +33,7 @@ impl HoldsInside {
         })
     }
 
+    /// Who was where.
     pub fn visits(&self) -> &Visits
         ensures { result.now ≡ inside_visits self.now }
     {

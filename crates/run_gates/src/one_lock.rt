@@ -15,6 +15,7 @@ pub struct OneLock<'a, R: Wait, G> {
 }
 
 impl<'a, R: Wait, G: Gate> OneLock<'a, R, G> {
+    /// The lock, which nobody has, around another gate.
     pub fn new(rt: &'a R, gate: &'a G) -> OneLock<'a, R, G> {
         OneLock {
             rt,

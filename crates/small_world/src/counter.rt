@@ -31,6 +31,7 @@ impl Counter {
         }
     }
 
+    /// Its units, and how many steps are left.
     pub fn count(&self) -> Count
         ensures { result ≡ count_of self.now }
     {

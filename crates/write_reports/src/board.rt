@@ -17,6 +17,7 @@ pub struct Board {
 }
 
 impl Board {
+    /// A screen that looks so.
     pub fn new(alloc: Global, width: u16, height: u16, look: Look) -> Result<Board, NoMemory> {
         let count = usize::from(width) * usize::from(height);
         let mut cells = Vec::with_capacity(alloc, count)?;
