@@ -112,7 +112,7 @@ impl<P: Parts> Play<Option<P::Part>, View<P, P::Meaning, P::Entry>> for Unmarks<
     ghost then = { lets_go };
 }
 
-/// A pass commits: an entry, and all parts in hand go back.
+/// A pass makes the next entry of the history.
 pub struct Commits<P, J> {
     parts: PhantomData<(P, J)>,
 }
