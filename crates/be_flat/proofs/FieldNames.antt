@@ -9,7 +9,7 @@ use Rattle.std.proofs.lemmas.List.{append-nil}
 use Rattle.std.proofs.lemmas.Str.{IsUtf8-from_ascii}
 use Rattle.be_facts.proofs.Bytes.{letter_is_ascii}
 use Rattle.be_facts.proofs.Truths.{and_first, and_second}
-use Rattle.be_lex.specs.Names.{is_name_byte}
+use Rattle.be_facts.specs.Names.{is_name_byte}
 use Rattle.be_message.specs.Fields.{has_name}
 use Rattle.be_message.specs.Messages.{Message}
 use Rattle.be_message.specs.Names.{is_name}

@@ -7,8 +7,9 @@ use Rattle.std.specs.Str.{bytes_eq}
 use Rattle.std.proofs.lemmas.Bool.{and_parts, ne_eqb}
 use Rattle.std.proofs.lemmas.Bool.Decides.{nat_tests}
 use Rattle.be_facts.proofs.Truths.{not_true, and_false}
+use Rattle.be_facts.specs.Names.{is_name_byte}
 use Rattle.be_lex.specs.Words.{words_of, is_word, is_space, is_empty, behind_word, ends_word}
-use Rattle.be_lex.specs.Names.{is_name_byte, is_name_within}
+use Rattle.be_lex.specs.Names.{is_name_within}
 use Rattle.be_lex.proofs.WordLemmas.{no_space, words_of-word, words_of-behind}
 
 -- ---- tests of each element

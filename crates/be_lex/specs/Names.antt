@@ -4,10 +4,7 @@ use Rattle.std.specs.Prelude.{codes}
 use Rattle.std.specs.Char.{is_ascii_digit, is_ascii_lowercase}
 use Rattle.std.specs.List.{list_all}
 use Rattle.std.specs.Str.{bytes_eq}
-
--- a to z, 0 to 9 and the low line
-abbrev pub is_name_byte : ℕ → Bool
-is_name_byte b = is_ascii_lowercase b || is_ascii_digit b || b == 95
+use Rattle.be_facts.specs.Names.{is_name_byte}
 
 -- at most so many of those bytes, a letter first
 unfoldable pub is_name_within : ℕ → List ℕ → Bool

@@ -1,6 +1,7 @@
 ghost use Rattle.std.specs.Prelude.{◌≡◌};
 ghost use Rattle.std.specs.List.{list_all};
-ghost use Rattle.be_lex.specs.Names.{is_name_byte, is_name_within, is_name, is_field_name};
+ghost use Rattle.be_facts.specs.Names.{is_name_byte};
+ghost use Rattle.be_lex.specs.Names.{is_name_within, is_name, is_field_name};
 ghost use Rattle.be_lex.specs.Names.{is_reserved_name};
 
 /// Whether the word is a name of a script's things: 1 to 16 of a to z, 0 to 9 and `_`, a letter

@@ -8,7 +8,7 @@ use Rattle.std.specs.Char.{is_ascii_lowercase}
 use Rattle.std.specs.Prelude.{nat_le}
 use Rattle.std.proofs.lemmas.Str.{IsUtf8-from_ascii}
 use Rattle.be_facts.proofs.Bytes.{letter_is_ascii}
-use Rattle.be_lex.specs.Names.{is_name_byte}
+use Rattle.be_facts.specs.Names.{is_name_byte}
 use Rattle.be_message.specs.Names.{is_name}
 
 pub byte_is_ascii : (b : ℕ) → is_name_byte b ≡ true → b < 128

@@ -3,7 +3,7 @@
 use Rattle.std.specs.Prelude.{ℕ, Bool, false, ◌&&◌, nat_le, List, [], ◌∷◌, length}
 use Rattle.std.specs.List.{list_all}
 use Rattle.std.specs.Char.{is_ascii_lowercase}
-use Rattle.be_lex.specs.Names.{is_name_byte}
+use Rattle.be_facts.specs.Names.{is_name_byte}
 use Rattle.be_message.specs.Limits.{most_name_bytes, most_text_bytes}
 
 -- a name: 1 to 32 of those, a letter first

@@ -1,6 +1,6 @@
 ghost use Rattle.std.specs.Prelude.{◌≡◌};
 ghost use Rattle.std.specs.List.{list_all};
-ghost use Rattle.be_lex.specs.Names.{is_name_byte};
+ghost use Rattle.be_facts.specs.Names.{is_name_byte};
 ghost use Rattle.be_message.specs.Names.{is_name, is_text_byte, is_text};
 
 const MOST_NAME_BYTES: usize = 32;

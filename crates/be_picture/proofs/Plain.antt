@@ -11,9 +11,10 @@ use Rattle.std.proofs.lemmas.Bool.{and_parts}
 use Rattle.std.proofs.lemmas.Bool.Decides.{nat_tests}
 use Rattle.std.proofs.lemmas.Fmt.{digits_decimal, length_signed_le}
 use Rattle.std.proofs.lemmas.List.Folds.{list_all-append}
+use Rattle.be_facts.specs.Names.{is_name_byte}
 use Rattle.be_lex.specs.Hex.{is_hex_digit, hex_text, are_bytes}
 use Rattle.be_lex.specs.Lines.{is_line, is_printable, text_of}
-use Rattle.be_lex.specs.Names.{is_name, is_name_byte, is_name_within}
+use Rattle.be_lex.specs.Names.{is_name, is_name_within}
 use Rattle.be_lex.proofs.HexSpelling.{are_bytes_each, hex_text_digits, length-hex_text}
 use Rattle.be_lex.proofs.Spelling.{list_all_weaker}
 use Rattle.be_lex.proofs.NumberSpelling.{own}

@@ -5,8 +5,8 @@ use Rattle.std.specs.List.{list_all}
 use Rattle.std.proofs.lemmas.Bool.{and_parts, and_from}
 use Rattle.std.proofs.lemmas.Bool.Decides.{nat_tests}
 use Rattle.std.proofs.lemmas.List.Folds.{list_all-append}
+use Rattle.be_facts.specs.Names.{is_name_byte}
 use Rattle.be_lex.proofs.Spelling.{list_all_weaker}
-use Rattle.be_lex.specs.Names.{is_name_byte}
 use Rattle.be_port.specs.declared.Posted.{Posted}
 use Rattle.be_port.specs.declared.Posted.TheVariants.{Accepted, WouldBlock, BadPort, TooDeep}
 use Rattle.be_twin.specs.declared.Outcome.{Outcome}

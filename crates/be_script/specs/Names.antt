@@ -4,7 +4,7 @@ use Rattle.std.specs.Prelude.{length, codes}
 use Rattle.std.specs.Char.{is_ascii_lowercase}
 use Rattle.std.specs.List.{list_all}
 use Rattle.std.specs.Str.{bytes_eq}
-use Rattle.be_lex.specs.Names.{is_name_byte}
+use Rattle.be_facts.specs.Names.{is_name_byte}
 
 -- the four names that mean something everywhere
 abbrev pub is_reserved_name : List ℕ → Bool

@@ -9,12 +9,12 @@ use Rattle.std.proofs.lemmas.Bool.{and_parts}
 use Rattle.std.proofs.lemmas.Bool.Decides.{nat_tests}
 use Rattle.std.proofs.lemmas.List.{length-append}
 use Rattle.hex.specs.Hex.{IsBytes}
+use Rattle.be_facts.specs.Names.{is_name_byte}
 use Rattle.be_archive.specs.Archives.{archived}
 use Rattle.be_flat.specs.Codes.{code_of}
 use Rattle.be_flat.specs.Grammar.{Spells, SpellsCoordinate, SpellsDatum, SpellsFields, SpellsInt}
 use Rattle.be_flat.specs.Grammar.{SpellsPoint, SpellsValues}
 use Rattle.be_lex.proofs.HexSpelling.{are_bytes_each, bytes_cons}
-use Rattle.be_lex.specs.Names.{is_name_byte}
 use Rattle.be_message.specs.declared.kind.Kind.{Kind}
 use Rattle.be_message.specs.declared.kind.Kind.TheVariants as kind
 use Rattle.be_message.specs.Messages.{Datum, bool, int, text, point, rect, message, Fields, no_fields}
