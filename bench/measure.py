@@ -3,7 +3,8 @@ on one processor, and tell whether the bounds are kept.
 
 A bench ends with status 0 where all bounds are kept. It ends with 1 where one is passed, where
 two that are compared don't come to the same, and where one of them can't be built; a line says
-which.
+which. Called with --halved, as bench/flat --halved, it asks half of each bound: it has to end with
+1, and so shows that it can.
 """
 import os
 import pathlib
@@ -16,6 +17,8 @@ from typing import NamedTuple
 TOP = pathlib.Path(__file__).resolve().parent.parent
 CRATES = TOP / 'crates'
 WORK = tempfile.TemporaryDirectory()
+SHARE = 0.5 if '--halved' in sys.argv[1:] else 1
+PASSED = []
 
 
 def stands_on():
@@ -50,7 +53,7 @@ def succeeds(words, **options):
     """Whether a command is there and ends with 0. What it writes to its output is lost."""
     try:
         return subprocess.run(words, stdout=subprocess.DEVNULL, **options).returncode == 0
-    except FileNotFoundError:
+    except OSError:
         return False
 
 
@@ -73,18 +76,11 @@ def server():
     return CRATES / 'app_server/out/app_server'
 
 
-def compiled(name, source, *options, **more):
-    """The path of a C program of this source, compiled with -O2. None where that fails."""
+def peer(name, source, *options):
+    """The path of a C program of this source, compiled with -O2."""
     path = pathlib.Path(WORK.name, name)
     path.with_suffix('.c').write_text(source)
-    built = succeeds(['cc', '-O2', '-o', path, path.with_suffix('.c'), *options], **more)
-    return path if built else None
-
-
-def peer(name, source, *options):
-    """The same, for a bench that can't be without it."""
-    path = compiled(name, source, *options)
-    if path is None:
+    if not succeeds(['cc', '-O2', '-o', path, path.with_suffix('.c'), *options]):
         sys.exit('the C program %s is wanting: it could not be compiled' % name)
     return path
 
@@ -144,6 +140,13 @@ def run(words, given=b''):
     return ran
 
 
+def beyond(longer, shorter):
+    """What is longer, less what is shorter."""
+    if longer <= shorter:
+        sys.exit('more work took no longer than less: too much else runs')
+    return longer - shorter
+
+
 class Rounds:
     """Work in rounds, and the least times of its runs of many rounds and of few."""
 
@@ -159,10 +162,7 @@ class Rounds:
     def each(self):
         """What one more round takes."""
         many, few = self.counts
-        more = self.least[0] - self.least[1]
-        if more <= 0:
-            sys.exit('%d rounds took no longer than %d: too much else runs' % (many, few))
-        return more / (many - few)
+        return beyond(*self.least) / (many - few)
 
 
 def in_turns(turns, *works):
@@ -194,9 +194,27 @@ def processors():
     return len(os.sched_getaffinity(0))
 
 
-def end(kept, wanting=None):
+def screen_of(report):
+    """The screen at the end of a report."""
+    return report[report.rindex(b'\nscreen '):]
+
+
+def black_pixels(report):
+    """How many pixels of its screen are black."""
+    runs = [word.split(b'x') for word in screen_of(report).split() if word.endswith(b'x000000')]
+    return sum(int(count) for count, _ in runs)
+
+
+def ask(what, taken, bound):
+    """Asks whether a bound is kept. Where it's passed a line says so, and the bench ends with 1."""
+    if not 0 < taken <= bound * SHARE:
+        PASSED.append(what)
+        print('  OUT: %s: %.4g, of %.4g' % (what, taken, bound * SHARE), flush=True)
+
+
+def end(wanting=None):
     """Says whether the bounds are kept, and what was wanting to ask them all. Ends the bench."""
-    print('within the bounds' if kept else 'OUT OF BOUNDS')
+    print('OUT OF BOUNDS' if PASSED else 'within the bounds')
     if wanting:
         print(wanting)
-    sys.exit(0 if kept and not wanting else 1)
+    sys.exit(1 if PASSED or wanting else 0)
