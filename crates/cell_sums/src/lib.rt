@@ -1,5 +1,5 @@
-//! A number that tells two windows' cells apart, for programs whose pixels are held against those
-//! of another program.
+//! A number that tells the cells of two windows or slices apart, for programs whose pixels are held
+//! against those of another program.
 #![tactic(auto)]
 
 use be_span::{Cell, SpanBuf};
@@ -25,6 +25,23 @@ fn sum_of_row(spans: &SpanBuf, left: i16, y: i16) -> u64 {
     for cell in spans.row_from(i32::from(left), i32::from(y)) {
         sum = sum.wrapping_add(weight_of(x, y, *cell));
         x = x.wrapping_add(1);
+    }
+    sum
+}
+
+/// A sum over the cells of a slice, as if they were rows of 1,000.
+pub fn sum_of_rows(cells: &[Cell]) -> u64 {
+    let mut sum = 0u64;
+    let mut x = 0i16;
+    let mut y = 0i16;
+    for cell in cells {
+        sum = sum.wrapping_add(weight_of(x, y, *cell));
+        if x == 999 {
+            x = 0;
+            y = y.wrapping_add(1);
+        } else {
+            x = x.wrapping_add(1);
+        }
     }
     sum
 }

@@ -1,6 +1,6 @@
 //! Paints slices of cells in each mode, and moves, cuts and fills the pixels of a window, as the
-//! words on the command line say; and writes how many cells were done. `bench/modes` and
-//! `bench/span` time it.
+//! words on the command line say; and writes a sum that tells the cells at the end. `bench/modes`
+//! and `bench/span` time it.
 #![tactic(auto)]
 
 mod slices;
@@ -30,9 +30,9 @@ fn main(rt: HostRuntime) -> io::Result<ExitCode> {
         eprintln!(rt; "{USAGE}")?;
         return Ok(ExitCode::from(2));
     };
-    match cells_of(rt.alloc(), kind, rounds) {
-        Ok(cells) => {
-            println!(rt; "{cells}")?;
+    match sum_after(rt.alloc(), kind, rounds) {
+        Ok(sum) => {
+            println!(rt; "{sum}")?;
             Ok(ExitCode::SUCCESS)
         }
         Err(fault) => {
@@ -77,8 +77,8 @@ fn kind_of(word: &str) -> Option<Kind> {
     }
 }
 
-/// Does the rounds, and gives how many cells there were in each.
-fn cells_of(alloc: Global, kind: Kind, rounds: u32) -> Result<usize, NoMemory> {
+/// Does the rounds, and gives the sum of the cells at the end.
+fn sum_after(alloc: Global, kind: Kind, rounds: u32) -> Result<u64, NoMemory> {
     match kind {
         Kind::Slice(mode) => mode_rounds(alloc, mode, rounds),
         Kind::Bits => bit_rounds(alloc, rounds),

@@ -5,6 +5,7 @@ use be_color::Rgb;
 use be_geom::{NoMemory, Rect};
 use be_region::Region;
 use be_span::{Fill, SpanBuf};
+use cell_sums::sum_of_spans;
 use std::alloc::Global;
 
 /// A window of 1,000 by 700 pixels from this column on.
@@ -24,29 +25,37 @@ fn window(alloc: Global, left: i16) -> Result<Region, NoMemory>
 }
 
 /// Fills a window.
-pub fn fill_rounds(alloc: Global, rounds: u32) -> Result<usize, NoMemory> {
-    let mut whole = SpanBuf::prepare(alloc, window(alloc, 0)?)?;
+pub fn fill_rounds(alloc: Global, rounds: u32) -> Result<u64, NoMemory> {
+    let mut whole = half_white(alloc)?;
     for _round in 0..rounds {
-        fill(&mut whole);
+        fill(&mut whole, 999);
     }
-    Ok(700_000)
+    Ok(sum_of_spans(&whole))
 }
 
-/// Fills the first rectangle of a buffer.
-fn fill(spans: &mut SpanBuf) {
+/// A window whose left half is white, and the rest black.
+fn half_white(alloc: Global) -> Result<SpanBuf, NoMemory> {
+    let mut whole = SpanBuf::prepare(alloc, window(alloc, 0)?)?;
+    fill(&mut whole, 499);
+    Ok(whole)
+}
+
+/// Fills the first rectangle of a buffer up to a column.
+fn fill(spans: &mut SpanBuf, last: i16) {
     if spans.region().count() == 0 {
         return;
     }
     let span = spans.span(0);
-    let rect = span.rect();
+    let mut rect = span.rect();
+    rect.right = rect.right.min(last);
     if rect.left <= rect.right && rect.top <= rect.bottom {
         spans.paint(span, rect, &Fill { rgb: Rgb::WHITE });
     }
 }
 
 /// Moves a window by a pixel, to and fro.
-pub fn move_rounds(alloc: Global, rounds: u32) -> Result<usize, NoMemory> {
-    let mut here = SpanBuf::prepare(alloc, window(alloc, 0)?)?;
+pub fn move_rounds(alloc: Global, rounds: u32) -> Result<u64, NoMemory> {
+    let mut here = half_white(alloc)?;
     let mut there = SpanBuf::prepare(alloc, window(alloc, 1)?)?;
     for round in 0..rounds {
         if round % 2 == 0 {
@@ -55,7 +64,7 @@ pub fn move_rounds(alloc: Global, rounds: u32) -> Result<usize, NoMemory> {
             shift(&mut there, -1, &mut here);
         }
     }
-    Ok(700_000)
+    Ok(sum_of_spans(&here).wrapping_add(sum_of_spans(&there)))
 }
 
 fn shift(from: &mut SpanBuf, dx: i32, to: &mut SpanBuf)
@@ -66,8 +75,8 @@ fn shift(from: &mut SpanBuf, dx: i32, to: &mut SpanBuf)
 }
 
 /// Cuts ten windows out of a window.
-pub fn cut_rounds(alloc: Global, rounds: u32) -> Result<usize, NoMemory> {
-    let whole = SpanBuf::prepare(alloc, window(alloc, 0)?)?;
+pub fn cut_rounds(alloc: Global, rounds: u32) -> Result<u64, NoMemory> {
+    let whole = half_white(alloc)?;
     let mut seen = window(alloc, 0)?;
     for number in 0..10u8 {
         let left = 90 * i16::from(number);
@@ -82,9 +91,9 @@ pub fn cut_rounds(alloc: Global, rounds: u32) -> Result<usize, NoMemory> {
             },
         )?)?;
     }
-    let mut dirty = 0usize;
+    let mut last = whole.part(&seen)?;
     for _round in 0..rounds {
-        dirty = dirty.max(whole.part(&seen)?.dirty_count());
+        last = whole.part(&seen)?;
     }
-    Ok(dirty.saturating_add(603_600))
+    Ok(sum_of_spans(&last))
 }
