@@ -20,4 +20,6 @@ mod taken;
 #[cfg(test)]
 mod traces;
 #[cfg(test)]
+mod trees;
+#[cfg(test)]
 mod whole;
