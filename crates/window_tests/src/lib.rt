@@ -5,3 +5,5 @@
 mod looper;
 #[cfg(test)]
 mod pane;
+#[cfg(test)]
+mod port;
