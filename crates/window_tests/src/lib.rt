@@ -2,6 +2,8 @@
 #![tactic(auto)]
 
 #[cfg(test)]
+mod link;
+#[cfg(test)]
 mod looper;
 #[cfg(test)]
 mod pane;
