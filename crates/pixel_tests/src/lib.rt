@@ -16,6 +16,8 @@ macro_rules! same {
 #[cfg(test)]
 mod bitmap;
 #[cfg(test)]
+mod color;
+#[cfg(test)]
 mod descent;
 #[cfg(test)]
 mod font;
