@@ -22,6 +22,8 @@ mod descent;
 #[cfg(test)]
 mod font;
 #[cfg(test)]
+mod rect;
+#[cfg(test)]
 mod region;
 #[cfg(test)]
 mod rows;
