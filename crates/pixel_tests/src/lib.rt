@@ -20,6 +20,8 @@ mod color;
 #[cfg(test)]
 mod descent;
 #[cfg(test)]
+mod follow;
+#[cfg(test)]
 mod font;
 #[cfg(test)]
 mod rect;
