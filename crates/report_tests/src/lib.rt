@@ -16,6 +16,8 @@ mod pixels;
 #[cfg(test)]
 mod screen;
 #[cfg(test)]
+mod summary;
+#[cfg(test)]
 mod taken;
 #[cfg(test)]
 mod traces;
