@@ -14,6 +14,3 @@ pub use colors::{Color, Rgb};
 pub use modes::Mode;
 pub use patterns::Pattern;
 pub use pixels::{blend, pick};
-
-#[cfg(test)]
-mod tests;

@@ -12,8 +12,6 @@ mod memory_source;
 mod reader_source;
 mod sink;
 mod source;
-#[cfg(test)]
-mod tests;
 mod writer_sink;
 
 pub use gate::{Gate, OpenGate, Spot};

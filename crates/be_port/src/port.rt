@@ -197,6 +197,3 @@ impl Port {
         let _ = self.ring.push_back(letter);
     }
 }
-
-#[cfg(test)]
-mod tests;

@@ -5,7 +5,5 @@
 
 mod drawing;
 mod sheet;
-#[cfg(test)]
-mod tests;
 
 pub use drawing::draw;

@@ -12,8 +12,6 @@ mod counts;
 mod kinds;
 mod law;
 mod summing;
-#[cfg(test)]
-mod tests;
 
 pub use counts::write_count;
 pub use law::a_color_counts_once;

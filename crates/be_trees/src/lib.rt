@@ -9,8 +9,6 @@ mod law;
 mod line;
 mod opening;
 mod reading;
-#[cfg(test)]
-mod tests;
 mod text;
 
 pub use law::{an_archive_line_comes_back, nothing_else_is_an_archive_line};

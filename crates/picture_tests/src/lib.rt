@@ -6,4 +6,6 @@ mod off_screen;
 #[cfg(test)]
 mod recording;
 #[cfg(test)]
+mod sheet;
+#[cfg(test)]
 mod text;

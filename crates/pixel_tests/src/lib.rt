@@ -16,9 +16,15 @@ macro_rules! same {
 #[cfg(test)]
 mod bitmap;
 #[cfg(test)]
+mod color;
+#[cfg(test)]
 mod descent;
 #[cfg(test)]
+mod follow;
+#[cfg(test)]
 mod font;
+#[cfg(test)]
+mod rect;
 #[cfg(test)]
 mod region;
 #[cfg(test)]

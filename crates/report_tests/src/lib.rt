@@ -16,8 +16,12 @@ mod pixels;
 #[cfg(test)]
 mod screen;
 #[cfg(test)]
+mod summary;
+#[cfg(test)]
 mod taken;
 #[cfg(test)]
 mod traces;
+#[cfg(test)]
+mod trees;
 #[cfg(test)]
 mod whole;

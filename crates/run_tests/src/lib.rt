@@ -4,6 +4,8 @@
 #[cfg(test)]
 mod gates;
 #[cfg(test)]
+mod outside;
+#[cfg(test)]
 mod replay;
 #[cfg(test)]
 mod serial;

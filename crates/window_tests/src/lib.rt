@@ -2,6 +2,10 @@
 #![tactic(auto)]
 
 #[cfg(test)]
+mod link;
+#[cfg(test)]
 mod looper;
 #[cfg(test)]
 mod pane;
+#[cfg(test)]
+mod port;

@@ -1,8 +1,7 @@
-use super::*;
-use crate::{Duty, Sender};
 use be_flat::Bytes;
 use be_message::Target;
-use std::alloc::AllocError;
+use be_port::{Duty, Letter, NoticeFault, Port, PostFault, Posted, Sender};
+use std::alloc::{AllocError, Global};
 use std::process::Abort;
 use std::test::Fail;
 

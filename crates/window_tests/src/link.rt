@@ -1,5 +1,5 @@
-use super::*;
 use be_command::Command;
+use be_link::{Buffer, BufferFull, Link};
 use std::process::Abort;
 use std::test::Fail;
 

@@ -1,9 +1,12 @@
 ghost use Rattle.std.specs.Prelude.{◌≡◌, ◌<◌, IfOk, OnOk, OnErr, IfSome, IfErr, vec_len, flat_map};
 ghost use Rattle.be_outside.specs.Faults.{FaultsRose};
 ghost use Rattle.be_outside.specs.Telling.{with_front, with_end, TakesPrefix};
-ghost use Rattle.be_outside.specs.declared.tests.DrainFault.TheVariants.{NoMemory};
+ghost use Rattle.run_tests.specs.declared.outside.DrainFault.TheVariants.{NoMemory};
 
-use super::*;
+use be_outside::{
+    Failed, Gate, MemorySink, MemorySource, OpenGate, ReaderSource, Sink, SinkFault, Source, Spot,
+    WriterSink,
+};
 use std::alloc::{AllocError, Global};
 use std::io;
 use std::io::{ErrorKind, Read, Write};

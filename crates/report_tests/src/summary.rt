@@ -1,9 +1,9 @@
 ghost use Rattle.std.specs.Prelude.{◌≡◌, ◌*◌, ◌<◌, length};
 
-use super::summary;
 use be_color::Rgb;
 use be_machine::{Act, Entry};
 use be_span::Cell;
+use be_summary::summary;
 use be_twin::Outcome;
 use be_written::Screen;
 use std::alloc::{AllocError, Global};

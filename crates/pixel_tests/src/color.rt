@@ -1,4 +1,4 @@
-use crate::{Color, Mode, Pattern, Rgb, blend, pick};
+use be_color::{Color, Mode, Pattern, Rgb, blend, pick};
 
 const HIGH: Rgb = Rgb {
     red: 1,

@@ -1,7 +1,7 @@
 use Rattle.std.proofs.Common.{◌≡◌, ◌≤◌, take}
 use Rattle.std.specs.Prelude.{flat_map}
 use Rattle.be_outside.specs.Telling.{with_end}
-use Rattle.be_outside.proofs.tests.put_each.Given as goal
+use Rattle.run_tests.proofs.outside.put_each.Given as goal
 
 abbrev pub invariant-loop-piece : goal.invariant-loop-piece
 invariant-loop-piece g l =

@@ -1,6 +1,6 @@
-use crate::draw;
 use be_command::Names;
 use be_picture::read_picture;
+use be_sheet::draw;
 use std::test::Fail;
 
 const TWO_COLORS: &[u8] = b"fill root 0 0 0 0 high\npush root\nhigh root ff0000\n\

@@ -1,6 +1,6 @@
 use Rattle.std.proofs.Common.{◌≡◌, ◌≤◌, ◌-◌, vec_len}
 use Rattle.be_outside.specs.Telling.{with_front}
-use Rattle.be_outside.proofs.tests.drain.Given as goal
+use Rattle.run_tests.proofs.outside.drain.Given as goal
 
 abbrev pub invariant-loop-buf : goal.invariant-loop-buf
 invariant-loop-buf g l =

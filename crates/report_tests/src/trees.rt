@@ -1,6 +1,6 @@
-use crate::{read_archive, write_archive, write_tree};
 use be_command::Reason;
 use be_reader::{ScriptFault, read};
+use be_trees::{read_archive, write_archive, write_tree};
 use std::test::Fail;
 
 const TWO_VIEWS: &[u8] =

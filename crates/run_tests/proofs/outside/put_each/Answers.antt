@@ -1,7 +1,7 @@
 use Rattle.std.proofs.Common.{List, ℕ, rules}
 use Rattle.std.specs.Borrow.{Bor}
 use Rattle.be_outside.proofs.TellingLemmas.{TakesPrefix-at}
-use Rattle.be_outside.proofs.tests.put_each.Goals as goal
+use Rattle.run_tests.proofs.outside.put_each.Goals as goal
 
 pub returns-in_err-put-clause-prefix : goal.returns-in_err-put-clause-prefix
 returns-in_err-put-clause-prefix g c =
