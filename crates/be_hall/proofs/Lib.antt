@@ -1,7 +1,7 @@
 pub mod Rising
 pub mod UpFrom
 mod HandLists
-mod Growth
+pub mod Growth
 mod Marked
 mod MissLemmas
 mod Sums
