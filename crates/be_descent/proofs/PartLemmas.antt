@@ -3,7 +3,7 @@ use Rattle.std.proofs.Common.{◌≡◌, ℤ, ◌+ℤ◌, ◌-ℤ◌, ◌≤ℤ�
 use Rattle.std.proofs.Common.{SFits, w16, arith, refl, sym, ap, ◌∙◌}
 use Rattle.std.specs.Int.{int_max, int_min}
 use Rattle.std.proofs.lemmas.Int.{ints, clamps}
-use Rattle.be_facts.proofs.Truths.{four_tests}
+use Rattle.be_geom.proofs.RectLemmas.{four_tests}
 use Rattle.be_facts.proofs.Numbers.{fits_between}
 use Rattle.be_geom.specs.declared.rect.Rect.{Rect}
 use Rattle.be_geom.specs.Points.{between}

@@ -63,12 +63,6 @@ pub and_regroup : (a b c : Bool) → (a && (b && c)) ≡ ((a && b) && c)
 and_regroup true b c = refl
 and_regroup false b c = refl
 
-pub four_tests : (a b c d : Bool) → ((a && b) && (c && d)) ≡ ((a && c) && (b && d))
-four_tests true b true d = refl
-four_tests true true false d = refl
-four_tests true false false d = refl
-four_tests false b c d = refl
-
 pub and_spread : (a b m : Bool) → ((a && m) || (b && m)) ≡ ((a || b) && m)
 and_spread true true true = refl
 and_spread true true false = refl

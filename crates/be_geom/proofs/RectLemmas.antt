@@ -3,11 +3,16 @@ use Rattle.std.proofs.Common.{◌≡◌, ℤ, Bool, true, false, ◌⊎◌, inl,
 use Rattle.std.specs.Int.{int_max, int_min}
 use Rattle.std.proofs.lemmas.Int.{ints, clamps, by_lt_z}
 use Rattle.std.proofs.lemmas.Bool.{true≢false}
-use Rattle.be_facts.proofs.Truths.{four_tests}
 use Rattle.be_geom.specs.declared.rect.Rect.{Rect}
 use Rattle.be_geom.specs.Rects.{rect_has, HasNoPixel, HasPixelsOfBoth}
 use Rattle.be_geom.specs.Points.{between}
 use Rattle.be_geom.proofs.Between.{between_tells, is_between}
+
+pub four_tests : (a b c d : Bool) → ((a && b) && (c && d)) ≡ ((a && c) && (b && d))
+four_tests true b true d = refl
+four_tests true true false d = refl
+four_tests true false false d = refl
+four_tests false b c d = refl
 
 -- a number between the inner ends is between both pairs
 between_both : (a b c d z : ℤ) → between (int_max a b) z (int_min c d) ≡ (between a z c && between b z d)

@@ -3,7 +3,6 @@ use Rattle.std.proofs.Common.{ℤ, ◌-ℤ◌, SFits, w16, w32, rules, ◌≡◌
 use Rattle.std.proofs.Common.{true, arith}
 use Rattle.std.proofs.lemmas.Bool.{and_left}
 use Rattle.std.proofs.lemmas.Int.{ints}
-use Rattle.be_facts.proofs.Truths.{and_is_second}
 use Rattle.be_geom.specs.Stretches.{IsCoordinate, IsStretch}
 
 pub less_fits : (x w : ℤ) → IsCoordinate x → SFits w16 w → SFits w32 (x -ℤ w)
@@ -25,7 +24,10 @@ yes_stretch f g x end mid last h first k =
     record {
       forward = k.forward;
       within = omega (arith, ints);
-      same = λ z from to. and_is_second (f z) (g z) (h.same z from (omega (arith, ints)) ∙ first) ∙ k.same z from to ∙ sym (and_is_second (f x) (g x) first);
+      same = λ z from to.
+          ap (λ (t : Bool). t && g z) (h.same z from (omega (arith, ints)) ∙ first)
+          ∙ k.same z from to
+          ∙ sym (ap (λ (t : Bool). t && g x) first);
     }
 
 -- what follows from an answer stays as long

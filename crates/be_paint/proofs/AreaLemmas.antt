@@ -3,7 +3,7 @@ use Rattle.std.proofs.Common.{◌≡◌, ℤ, Bool, true, false, ◌&&◌, ◌+�
 use Rattle.std.specs.Prelude.{IfNone}
 use Rattle.std.specs.Int.{int_max, int_min}
 use Rattle.std.proofs.lemmas.Int.{ints, clamps}
-use Rattle.be_facts.proofs.Truths.{four_tests}
+use Rattle.be_geom.proofs.RectLemmas.{four_tests}
 use Rattle.be_geom.specs.declared.rect.Rect.{Rect}
 use Rattle.be_geom.specs.Points.{between}
 use Rattle.be_geom.specs.Rects.{rect_has, moved_rect, HasPixelsOfBoth, AreDisjoint}
