@@ -1,11 +1,10 @@
 -- The views of a window, one by one, and their colours.
-use Rattle.std.specs.Prelude.{pos, ◌-ℤ◌, ◌≤ℤ◌, ◌==◌, Bool, cond}
+use Rattle.std.specs.Prelude.{◌==◌, Bool, cond}
 use Rattle.std.specs.List.{filter}
 use Rattle.std.proofs.Common.{◌≡◌, ℕ, ◌+◌, ◌<◌, List, [], ◌∷◌, ◌++◌, length, map, take, get_or, ◌≢◌, sym, ap, subst, ◌∙◌, eq-eqb}
 use Rattle.std.proofs.lemmas.Bool.{ne_eqb}
 use Rattle.std.proofs.lemmas.List.{append-nil, map-append}
 use Rattle.std.proofs.lemmas.List.Elements.{filter_more}
-use Rattle.be_geom.specs.declared.rect.Rect.{Rect}
 use Rattle.be_script.specs.declared.ViewLine.{ViewLine}
 
 -- ---- one view more
@@ -32,10 +31,3 @@ other_more {X = X} f first w views seen i view old new same less is before other
     ∙ ap (λ (l : List ViewLine). first ∷ map f l) (sym (append-nil (filter (λ v. v.window == w) (take i views))))
     ∙ ap (λ (b : Bool). first ∷ map f (filter (λ v. v.window == w) (take i views) ++ cond b (view ∷ []) [])) (sym (ne_eqb view.window w other))
     ∙ ap (λ (l : List ViewLine). first ∷ map f l) (sym (seen_more w views seen i view same less is))
-
--- how far a frame's edges are apart
-pub record IsSized (r : Rect) : Type 0 where
-  pub across : pos 0 ≤ℤ (r.right -ℤ r.left)
-  pub wide : (r.right -ℤ r.left) ≤ℤ pos 32767
-  pub down : pos 0 ≤ℤ (r.bottom -ℤ r.top)
-  pub high : (r.bottom -ℤ r.top) ≤ℤ pos 32767

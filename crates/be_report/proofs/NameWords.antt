@@ -6,8 +6,8 @@ use Rattle.std.proofs.lemmas.Bool.{and_parts, and_from, not-true}
 use Rattle.std.proofs.lemmas.List.Folds.{list_all-append}
 use Rattle.std.proofs.lemmas.Option.{same_Some}
 use Rattle.std.proofs.lemmas.Slice.Eq.{bytes_eq-Decides}
+use Rattle.be_facts.proofs.Bytes.{bytes_eq_self}
 use Rattle.be_command.specs.Names.{number_in}
-use Rattle.be_command.proofs.NamesBack.{position_at}
 use Rattle.be_script.specs.Names.{are_different}
 
 -- ---- tests of all names
@@ -49,6 +49,16 @@ different-append (x ∷ xs) ys h k a =
 
 not_among : (name : List ℕ) (names : List (List ℕ)) (n : ℕ) → differs name names ≡ true → n < length names → bytes_eq name (get_or names n []) ≡ false
 not_among name names n h lt = not-true (bytes_eq name (get_or names n [])) (passes_at (λ other. not (bytes_eq name other)) names n h lt)
+
+position_at : (names : List (List ℕ)) (n first : ℕ) → are_different names ≡ true → n < length names → position_from (λ other. bytes_eq other (get_or names n [])) first names ≡ Some (first + n)
+position_at [] n first d lt = absurd (omega arith)
+position_at (name ∷ names) zero first d lt =
+    ap (λ (b : Bool). cond b (Some first) (position_from (λ other. bytes_eq other name) (first + 1) names)) (bytes_eq_self name) ∙ ap Some (omega arith)
+position_at (name ∷ names) (suc n) first d lt =
+    let parts = and_parts (differs name names) (are_different names) d in
+    let other_name = not_among name names n parts.0 (omega arith) in
+    let behind = position_at names n (first + 1) parts.1 (omega arith) in
+    ap (λ (b : Bool). cond b (Some first) (position_from (λ other. bytes_eq other (get_or names n [])) (first + 1) names)) other_name ∙ behind ∙ ap Some (omega arith)
 
 -- a name is found at its place
 pub number_back : (names : List (List ℕ)) (n : ℕ) → are_different names ≡ true → n < length names → number_in names (get_or names n []) ≡ Some n

@@ -56,6 +56,10 @@ elem_map f (z ∷ zs) (suc i) x e = elem_map f zs i x e
 
 -- ---- sums
 
+pub total_append : {X : Type 0} (f : X → ℕ) (xs ys : List X) → total f (xs ++ ys) ≡ total f xs + total f ys
+total_append f [] ys = omega arith
+total_append f (x ∷ xs) ys = omega (arith, total_append f xs ys)
+
 pub total_sum : {Z : Type 0} (f g h : Z → ℕ) (zs : List Z) → ((z : Z) → f z ≡ g z + h z) → total f zs ≡ total g zs + total h zs
 total_sum f g h [] e = refl
 total_sum f g h (z ∷ zs) e = omega (arith, e z, total_sum f g h zs e)

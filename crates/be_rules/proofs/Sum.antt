@@ -17,10 +17,9 @@ use Rattle.be_machine.specs.Touched as part
 use Rattle.be_machine.specs.Windows.{width_of, owned}
 use Rattle.be_machine.proofs.HasParts.{HasParts}
 use Rattle.be_machine.specs.Shares.{left, app_cost, looper_share, letter_share, in_buffer, in_link, dirt, is_dirty, apps_share, loopers_share, ports_share, buffers_share, links_share, dirt_share, potential}
-use Rattle.be_machine.proofs.WaitingSums.{total_append}
 use Rattle.be_rules.specs.Shares.{share, app_part, looper_part, buffer_part, port_part, link_part, pane_part, any_dirty}
 use Rattle.be_rules.specs.Slices.{own_from, slice_of, slices}
-use Rattle.be_rules.proofs.ListLemmas.{total_ranged, total_map, total_two}
+use Rattle.be_rules.proofs.ListLemmas.{total_append, total_ranged, total_map, total_two}
 
 any_if : (c : Cell) (a b : Bool) (width k : ℕ) (own : ℤ → ℤ → Bool) (cs : List Cell) → c.dirty ≡ a → any_dirty (own_from width (suc k) own cs) ≡ is_any (dirty_from width (suc k) own cs) → (if is_dirty_cell (if b then Some c else None) then true else any_dirty (own_from width (suc k) own cs)) ≡ is_any (if a && b then at_pixel (pos (k % width)) (pos (k / width)) ∷ dirty_from width (suc k) own cs else dirty_from width (suc k) own cs)
 any_if c true true width k own cs e rest = rw e refl

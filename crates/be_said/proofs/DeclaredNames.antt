@@ -8,7 +8,6 @@ use Rattle.be_facts.proofs.Lists.{map_push}
 use Rattle.be_facts.proofs.Truths.{and_first, and_second, or_false_first, or_false_second}
 use Rattle.be_command.specs.declared.fault.Reason.TheVariants.{NameTaken, Shape}
 use Rattle.be_lex.specs.Names.{is_name, is_name_within, is_reserved_name}
-use Rattle.be_command.proofs.NameLemmas.{different-append}
 use Rattle.be_said.proofs.AppendLemmas.{all-append}
 use Rattle.be_said.specs.Fits.{IsNew}
 use Rattle.be_script.specs.Names.{are_different, are_names, is_declared_name}
@@ -41,12 +40,22 @@ declared_name (b ∷ bytes) h free = and_from _ _ h (not_from_false _ free)
 
 -- ---- one more
 
+different_last : (names : List (List ℕ)) (name : List ℕ) → are_different names ≡ true → list_any (λ other. bytes_eq other name) names ≡ false →
+    are_different (names ++ name ∷ []) ≡ true
+different_last [] name h new = refl
+different_last (first ∷ names) name h new =
+    and_from (list_all (λ other. not (bytes_eq first other)) (names ++ name ∷ [])) (are_different (names ++ name ∷ []))
+    (all-append (λ other. not (bytes_eq first other)) names name (and_first (list_all (λ other. not (bytes_eq first other)) names) (are_different names) h)
+    (not_from_false (bytes_eq first name) (or_false_first (bytes_eq first name) (list_any (λ other. bytes_eq other name) names) new)))
+    (different_last names name (and_second (list_all (λ other. not (bytes_eq first other)) names) (are_different names) h)
+    (or_false_second (bytes_eq first name) (list_any (λ other. bytes_eq other name) names) new))
+
 names_last : (names : List (List ℕ)) (name : List ℕ) → are_names names ≡ true → IsFree names name → are_names (names ++ name ∷ []) ≡ true
 unfolding are_names
 names_last names name h f =
     and_from (list_all is_declared_name (names ++ name ∷ [])) (are_different (names ++ name ∷ []))
     (all-append is_declared_name names name (and_first (list_all is_declared_name names) (are_different names) h) (declared_name name f.formed f.free))
-    (different-append names name (and_second (list_all is_declared_name names) (are_different names) h) f.new)
+    (different_last names name (and_second (list_all is_declared_name names) (are_different names) h) f.new)
 
 pub names-last : (names : List (List ℕ)) (name : List ℕ) → are_names names ≡ true → IsNew names name → are_names (names ++ name ∷ []) ≡ true
 names-last names name h e = names_last names name h (free_of names name e)

@@ -20,3 +20,4 @@ pub mod ViewLemmas
 pub mod BitmapKept
 pub mod EverywhereLemmas
 pub mod OpeningLemmas
+pub mod NameText

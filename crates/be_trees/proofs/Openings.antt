@@ -1,11 +1,10 @@
 -- The views that are declared in a window, one by one.
-use Rattle.std.specs.Prelude.{pos, ◌-ℤ◌, ◌≤ℤ◌, ◌==◌, cond, Bool}
+use Rattle.std.specs.Prelude.{◌==◌, cond, Bool}
 use Rattle.std.specs.List.{filter}
 use Rattle.std.proofs.Common.{◌≡◌, ◌≢◌, ℕ, ◌+◌, ◌<◌, ◌≤◌, List, [], ◌∷◌, ◌++◌, length, map}
 use Rattle.std.proofs.Common.{drop, get_or, sym, ap, subst, ◌∙◌, append_assoc, append-nil, eq-eqb}
 use Rattle.std.proofs.lemmas.Bool.{ne_eqb}
 use Rattle.std.proofs.lemmas.List.{drop_all, drop_more}
-use Rattle.be_geom.specs.declared.rect.Rect.{Rect}
 use Rattle.be_script.specs.Windows.{declared_view}
 use Rattle.be_script.specs.declared.ViewLine.{ViewLine}
 use Rattle.be_views.specs.Trees.{Tree}
@@ -53,12 +52,3 @@ pub none_left : (w : ℕ) (views : List ViewLine) (i : ℕ) (tree all : Tree)
 none_left w views i tree all is end =
     sym (append-nil tree)
     ∙ ap (λ (vs : List ViewLine). tree ++ declared_in w vs) (sym (drop_all i views end)) ∙ is
-
--- ---- the window's frame
-
--- how far its edges are apart
-pub record IsSized (r : Rect) : Type 0 where
-  pub across : pos 0 ≤ℤ (r.right -ℤ r.left)
-  pub wide : (r.right -ℤ r.left) ≤ℤ pos 32767
-  pub down : pos 0 ≤ℤ (r.bottom -ℤ r.top)
-  pub high : (r.bottom -ℤ r.top) ≤ℤ pos 32767

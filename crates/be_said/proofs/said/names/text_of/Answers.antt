@@ -1,6 +1,6 @@
 use Rattle.std.proofs.Common.{rules}
 use Rattle.std.specs.Str.{IsUtf8}
-use Rattle.be_message.proofs.NameLemmas.{name_is_text}
+use Rattle.be_said.proofs.NameText.{name_is_text}
 use Rattle.be_said.proofs.said.names.text_of.Goals as goal
 
 pub unwrap-requires : goal.unwrap-requires
