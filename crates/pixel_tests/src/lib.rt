@@ -18,8 +18,6 @@ mod bitmap;
 #[cfg(test)]
 mod color;
 #[cfg(test)]
-mod descent;
-#[cfg(test)]
 mod follow;
 #[cfg(test)]
 mod font;
@@ -33,10 +31,6 @@ mod rows;
 mod same;
 #[cfg(test)]
 mod shape;
-#[cfg(test)]
-mod span;
-#[cfg(test)]
-mod spans;
 #[cfg(test)]
 mod state;
 #[cfg(test)]
