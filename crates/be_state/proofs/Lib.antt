@@ -1,3 +1,3 @@
-pub mod PartLemmas
+pub mod AllowLemmas
 pub mod ClipLemmas
 pub mod StackLemmas

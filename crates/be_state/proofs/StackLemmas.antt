@@ -1,17 +1,13 @@
 -- Layers that are turned round: what all clips hold, and what all origins add up to.
-use Rattle.std.proofs.Common.{◌≡◌, ℕ, zero, suc, ◌+◌, ◌++◌, ◌<◌, Some, slice_get, length, get_or, take, ℤ, ◌+ℤ◌, Bool, true, false, ◌&&◌, List, [], ◌∷◌, map, reverse, fold, refl, sym, ap, ◌∙◌, arith}
-use Rattle.std.specs.Int.{int_min}
+use Rattle.std.proofs.Common.{◌≡◌, ℕ, zero, suc, ◌+◌, ◌++◌, ◌<◌, Some, slice_get, length, get_or, take, ℤ, ◌+ℤ◌, Bool, true, ◌&&◌, List, [], ◌∷◌, map, reverse, fold, refl, sym, ap, ◌∙◌, arith}
 use Rattle.std.specs.List.{list_all}
 use Rattle.std.proofs.lemmas.Int.{ints}
-use Rattle.std.proofs.lemmas.Bool.{and_left}
 use Rattle.std.proofs.lemmas.List.{length-reverse, map-append, reverse-reverse}
 use Rattle.std.proofs.lemmas.List.Folds.{list_all-append}
 use Rattle.std.proofs.lemmas.Grind.{fold-append, reverse_onto, take_at_read}
 use Rattle.be_geom.specs.declared.point.Point.{Point}
 use Rattle.be_geom.specs.Places.{sum_of}
 use Rattle.be_state.specs.Stacks.{Layer, Stack, base_of, allows, clip_has, from_oldest, layers, origin_point}
-use Rattle.be_state.specs.Parts.{IsPart}
-use Rattle.be_state.proofs.PartLemmas.{both_part, no_part, same_part}
 
 all_again : (a b c : Bool) → a ≡ c → (a && (b && true)) ≡ (b && c)
 all_again a b c e = grind arith
@@ -32,16 +28,6 @@ pub allows_is : (s : Stack) (top : Layer) (items : List Layer) (x y : ℤ) → r
 unfolding allows
 allows_is s top items x y e =
     ap (λ t. clip_has top.clip x y && t) (sym (list_all-reverse (λ l. clip_has l.clip x y) items)) ∙ ap (λ t. list_all (λ l. clip_has l.clip x y) (t.top ∷ t.saved)) e
-
--- where the clip in force doesn't hold the pixel
-pub top_fails : (s : Stack) (top : Layer) (items : List Layer) (x y last : ℤ) → record { top = top; saved = reverse items } ≡ s → IsPart (λ z. clip_has top.clip z y) x last → clip_has top.clip x y ≡ false → IsPart (λ z. allows s z y) x last
-top_fails s top items x y last e part fails =
-    no_part (λ z. clip_has top.clip z y) (λ z. allows s z y) x last part fails (λ z k. sym (allows_is s top items z y e) ∙ and_left (clip_has top.clip z y) (list_all (λ l. clip_has l.clip z y) items) k)
-
--- where it does
-pub stack_part : (s : Stack) (top : Layer) (items : List Layer) (x y m n last : ℤ) → record { top = top; saved = reverse items } ≡ s → IsPart (λ z. clip_has top.clip z y) x m → IsPart (λ z. list_all (λ l. clip_has l.clip z y) items) x n → last ≡ int_min m n → IsPart (λ z. allows s z y) x last
-stack_part s top items x y m n last e a b k =
-    same_part (λ z. clip_has top.clip z y && list_all (λ l. clip_has l.clip z y) items) (λ z. allows s z y) x last (λ z. allows_is s top items z y e) (both_part (λ z. clip_has top.clip z y) (λ z. list_all (λ l. clip_has l.clip z y) items) x m n last a b k)
 
 sum_swap : (p q r : Point) → sum_of (sum_of p q) r ≡ sum_of (sum_of p r) q
 sum_swap p q r =

@@ -1,16 +1,12 @@
-ghost use Rattle.std.specs.Prelude.{◌≡◌, pos, negsuc, ◌+ℤ◌, ◌-ℤ◌, ◌≤ℤ◌, ◌<ℤ◌, ◌⊎◌, map};
+ghost use Rattle.std.specs.Prelude.{◌≡◌, pos, ◌+ℤ◌, ◌-ℤ◌, ◌≤ℤ◌, map};
 ghost use Rattle.be_geom.specs.Rects.{moved_rect};
 ghost use Rattle.be_region.specs.Regions.{region_has};
 ghost use Rattle.be_state.specs.Clips.{shown_clip};
-ghost use Rattle.be_state.specs.Parts.{IsPart};
 ghost use Rattle.be_geom.specs.Places.{IsNear};
 
 use be_geom::Rect;
 use be_region::Region;
 use std::marker::Model;
-
-/// Where no column follows.
-pub(crate) const LAST_COLUMN: i32 = 2147483647;
 
 /// The region of a clip as it was given, and how far right and how far down of the view's left top
 /// its (0, 0) lies.
@@ -75,25 +71,22 @@ impl Clip {
         }
     }
 
-    /// Whether the clip holds the pixel, and a column up to which that stays so along the row.
-    pub(crate) fn part_at(&self, x: i32, y: i32) -> (bool, i32)
-        ensures answer { result.0 ≡ region_has self.now x y }
-        ensures part { IsPart (λ z. region_has self.now z y) x result.1 }
+    /// Whether the clip holds the pixel.
+    pub(crate) fn has(&self, x: i32, y: i32) -> bool
+        ensures { result ≡ region_has self.now x y }
     {
         let Some(frame) = self.frame else {
-            return (false, LAST_COLUMN);
+            return false;
         };
         let (dx, dy) = self.place;
-        let left = moved(frame.left, dx);
-        let right = moved(frame.right, dx);
-        if y < moved(frame.top, dy) || moved(frame.bottom, dy) < y || right < x {
-            return (false, LAST_COLUMN);
+        if y < moved(frame.top, dy)
+            || moved(frame.bottom, dy) < y
+            || x < moved(frame.left, dx)
+            || moved(frame.right, dx) < x
+        {
+            return false;
         }
-        if x < left {
-            return (false, left - 1);
-        }
-        let (inside, last) = self.region.run_at(moved_back(x, dx), moved_back(y, dy));
-        (inside, end_of(last, dx, right))
+        self.region.contains(moved_back(x, dx), moved_back(y, dy))
     }
 }
 
@@ -115,16 +108,4 @@ fn moved_back(z: i32, by: i32) -> i32
     ensures { result ≡ z -ℤ by }
 {
     z - by
-}
-
-/// The last column of some pixels of the region, where it lies, up to an edge.
-fn end_of(last: i32, by: i32, edge: i32) -> i32
-    requires near { IsNear 17 by }
-    requires last { negsuc 32767 ≤ℤ last }
-    requires low { (by -ℤ pos 32768) ≤ℤ edge }
-    requires high { edge ≤ℤ (by +ℤ pos 32767) }
-    ensures { ((result ≡ last +ℤ by) × (result <ℤ edge))
-        ⊎ ((result ≡ edge) × (edge ≤ℤ (last +ℤ by))) }
-{
-    if last < edge - by { last + by } else { edge }
 }

@@ -3,12 +3,11 @@ ghost use Rattle.std.specs.Option.{option_map};
 ghost use Rattle.be_geom.specs.Rects.{moved_rect};
 ghost use Rattle.be_state.specs.Stacks.{clip_has, next_layer, first_stack};
 ghost use Rattle.be_state.specs.Clips.{shown_clip};
-ghost use Rattle.be_state.specs.Parts.{IsPart};
 ghost use Rattle.be_state.specs.Limits.{IsPenSize};
 ghost use Rattle.be_geom.specs.Places.{IsNear};
 
 use crate::State;
-use crate::clip::{Clip, LAST_COLUMN, Placed};
+use crate::clip::{Clip, Placed};
 use be_color::{Color, Mode, Rgb};
 use be_geom::Point;
 use be_region::Region;
@@ -99,14 +98,13 @@ impl Layer {
         };
     }
 
-    /// Whether the clip holds the pixel, and a column up to which that stays so along the row.
-    pub(crate) fn part_at(&self, x: i32, y: i32) -> (bool, i32)
-        ensures answer { result.0 ≡ clip_has self.now.clip x y }
-        ensures part { IsPart (λ z. clip_has self.now.clip z y) x result.1 }
+    /// Whether the clip, if there is one, holds the pixel.
+    pub(crate) fn allows(&self, x: i32, y: i32) -> bool
+        ensures { result ≡ clip_has self.now.clip x y }
     {
         match &self.clip {
-            Some(clip) => clip.part_at(x, y),
-            None => (true, LAST_COLUMN),
+            Some(clip) => clip.has(x, y),
+            None => true,
         }
     }
 }

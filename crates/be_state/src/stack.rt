@@ -2,18 +2,16 @@ ghost use Rattle.std.specs.Prelude.{◌≡◌, ◌↔◌, ◌≤◌, true, false
 ghost use Rattle.std.specs.Prelude.{IsErr, IsNone, Some, IfOk, IfSome, OnOk, OnErr};
 ghost use Rattle.std.specs.Option.{option_map};
 ghost use Rattle.std.specs.List.{list_all};
-ghost use Rattle.be_region.specs.Runs.{IsRun};
 ghost use Rattle.be_state.specs.Clips.{shown_clip};
 ghost use Rattle.be_state.specs.Stacks as stacks;
 ghost use Rattle.be_state.specs.Stacks.{first_stack, base_of, allows, clip_has, from_oldest};
 ghost use Rattle.be_state.specs.Stacks.{with_state, with_clip, can_push, pushed, popped};
 ghost use Rattle.be_state.specs.Stacks.{origin_point};
 ghost use Rattle.be_geom.specs.Places.{sum_of, IsNear};
-ghost use Rattle.be_state.specs.Parts.{IsPart};
 ghost use Rattle.be_state.specs.Limits.{IsPenSize};
 
 use crate::State;
-use crate::clip::{LAST_COLUMN, Placed};
+use crate::clip::Placed;
 use crate::fault::{StackEmpty, StackFull};
 use crate::layer::Layer;
 use be_geom::NoMemory;
@@ -100,27 +98,7 @@ impl StateStack {
     pub fn allows(&self, x: i32, y: i32) -> bool
         ensures { result ≡ allows self.now x y }
     {
-        self.part_at(x, y).0
-    }
-
-    /// Whether every clip holds the pixel, and the last column up to which that stays so along the
-    /// row.
-    pub fn run_at(&self, x: i32, y: i32) -> (bool, i32)
-        ensures answer { result.0 ≡ allows self.now x y }
-        ensures run { IsRun (λ z. allows self.now z y) x result.1 }
-    {
-        let (allowed, mut last) = self.part_at(x, y);
-        if allowed {
-            return (true, last);
-        }
-        'parts: while last < LAST_COLUMN {
-            let (allowed, end) = self.part_at(last + 1, y);
-            if allowed {
-                break;
-            }
-            last = end;
-        }
-        (false, last)
+        self.top.allows(x, y) && all_allow(&self.saved, x, y)
     }
 
     /// Puts another state in place of the one in force, whose clip stays.
@@ -169,20 +147,6 @@ impl StateStack {
         self.top = layer;
         Ok(())
     }
-
-    /// Whether every clip holds the pixel, and a column up to which that stays so along the row;
-    /// after a yes the last one.
-    fn part_at(&self, x: i32, y: i32) -> (bool, i32)
-        ensures answer { result.0 ≡ allows self.now x y }
-        ensures part { IsPart (λ z. allows self.now z y) x result.1 }
-    {
-        let (allowed, last) = self.top.part_at(x, y);
-        if !allowed {
-            return (false, last);
-        }
-        let (all_allow, end) = part_of_all(&self.saved, x, y);
-        (all_allow, last.min(end))
-    }
 }
 
 /// The origins of all layers together.
@@ -204,19 +168,14 @@ fn sum_of_origins(layers: &[Layer]) -> (i32, i32)
     (x, y)
 }
 
-/// Whether the clips of all layers hold the pixel, and a column up to which that stays so along
-/// the row; after a yes the last one.
-fn part_of_all(layers: &[Layer], x: i32, y: i32) -> (bool, i32)
-    ensures answer { result.0 ≡ list_all (λ l. clip_has l.clip x y) layers.now }
-    ensures part { IsPart (λ z. list_all (λ l. clip_has l.clip z y) layers.now) x result.1 }
+/// Whether the clips of all layers hold the pixel.
+fn all_allow(layers: &[Layer], x: i32, y: i32) -> bool
+    ensures { result ≡ list_all (λ l. clip_has l.clip x y) layers.now }
 {
-    let mut last = LAST_COLUMN;
     for layer in layers {
-        let (allowed, end) = layer.part_at(x, y);
-        if !allowed {
-            return (false, end);
+        if !layer.allows(x, y) {
+            return false;
         }
-        last = last.min(end);
     }
-    (true, last)
+    true
 }

@@ -190,25 +190,24 @@ fn takes_a_clip_away(rt: HostRuntime) -> Result<(), Fail> {
     same!(rt; (stack.allows(5, -2), stack.allows(5, -4)), (true, false));
     stack.pop()?;
     stack.set_clip(Some(Region::empty(rt.alloc())));
-    same!(rt; stack.allows(5, -3), false);
-    same!(rt; stack.run_at(FIRST, 0), (false, LAST));
+    same!(rt; (stack.allows(5, -3), stack.allows(FIRST, 0)), (false, false));
     stack.set_clip(None);
-    same!(rt; stack.run_at(FIRST, 0), (true, LAST));
+    same!(rt; (stack.allows(5, -3), stack.allows(FIRST, 0)), (true, true));
     Ok(())
 }
 
-const PAST: [(i32, i32, bool, i32); 11] = [
-    (FIRST, -589824, false, 589804),
-    (589804, -589824, false, 589804),
-    (589805, -589824, true, 589806),
-    (589806, -589823, true, 589806),
-    (589807, -589823, false, LAST),
-    (LAST, -589823, false, LAST),
-    (589805, -589825, false, LAST),
-    (589805, -589822, false, LAST),
-    (32766, -32768, false, LAST),
-    (589805, FIRST, false, LAST),
-    (589805, LAST, false, LAST),
+const PAST: [(i32, i32, bool); 11] = [
+    (FIRST, -589824, false),
+    (589804, -589824, false),
+    (589805, -589824, true),
+    (589806, -589823, true),
+    (589807, -589823, false),
+    (LAST, -589823, false),
+    (589805, -589825, false),
+    (589805, -589822, false),
+    (32766, -32768, false),
+    (589805, FIRST, false),
+    (589805, LAST, false),
 ];
 
 #[test]
@@ -221,28 +220,27 @@ fn goes_past_the_range(rt: HostRuntime) -> Result<(), Fail> {
     set_origin(&mut stack, 32767, -32768);
     same!(rt; stack.base(), (557039, -557056));
     clip_to(rt.alloc(), &mut stack, rect(32766, -32768, 32767, -32767))?;
-    for (x, y, allowed, last) in &PAST {
-        let found = (stack.allows(*x, *y), stack.run_at(*x, *y));
-        same!(rt; found, (*allowed, (*allowed, *last)), (*x, *y));
+    for (x, y, allowed) in &PAST {
+        same!(rt; stack.allows(*x, *y), *allowed, (*x, *y));
     }
     Ok(())
 }
 
-const RUNS: [(i32, i32, bool, i32); 10] = [
-    (-2, 0, false, 5),
-    (2, 0, false, 5),
-    (4, 0, false, 5),
-    (6, 0, true, 7),
-    (7, 0, true, 7),
-    (8, 0, false, LAST),
-    (-2, 1, false, 3),
-    (4, 1, true, 7),
-    (12, 1, false, LAST),
-    (0, 2, false, LAST),
+const THROUGH: [(i32, i32, bool); 10] = [
+    (-2, 0, false),
+    (2, 0, false),
+    (4, 0, false),
+    (6, 0, true),
+    (7, 0, true),
+    (8, 0, false),
+    (-2, 1, false),
+    (4, 1, true),
+    (12, 1, false),
+    (0, 2, false),
 ];
 
 #[test]
-fn runs_through_all_clips(rt: HostRuntime) -> Result<(), Fail> {
+fn asks_all_clips(rt: HostRuntime) -> Result<(), Fail> {
     let mut stack = StateStack::new(rt.alloc())?;
     let mut region = Region::from_rect(rt.alloc(), rect(0, 0, 9, 1))?;
     region.exclude(&Region::from_rect(rt.alloc(), rect(3, 0, 5, 0))?)?;
@@ -250,9 +248,8 @@ fn runs_through_all_clips(rt: HostRuntime) -> Result<(), Fail> {
     stack.push()?;
     set_origin(&mut stack, 4, 0);
     clip_to(rt.alloc(), &mut stack, rect(0, 0, 3, 1))?;
-    for (x, y, allowed, last) in &RUNS {
-        let found = (stack.allows(*x, *y), stack.run_at(*x, *y));
-        same!(rt; found, (*allowed, (*allowed, *last)), (*x, *y));
+    for (x, y, allowed) in &THROUGH {
+        same!(rt; stack.allows(*x, *y), *allowed, (*x, *y));
     }
     Ok(())
 }
