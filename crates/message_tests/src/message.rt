@@ -21,21 +21,33 @@ enum Answer {
 fn answer_to_add(message: &mut Message, name: &str, value: Value) -> Answer {
     match message.add(name, value) {
         Ok(()) => Answer::Done,
-        Err(AddFault::BadName(_)) => Answer::BadName,
-        Err(AddFault::BadValue(_)) => Answer::BadValue,
-        Err(AddFault::BadType(_)) => Answer::BadType,
-        Err(AddFault::TooMany(_)) => Answer::TooMany,
-        Err(AddFault::NoMemory(_)) => Answer::NoMemory,
+        Err(fault) => refusal_of(&fault),
+    }
+}
+
+fn refusal_of(fault: &AddFault) -> Answer {
+    match fault {
+        AddFault::BadName(_) => Answer::BadName,
+        AddFault::BadValue(_) => Answer::BadValue,
+        AddFault::BadType(_) => Answer::BadType,
+        AddFault::TooMany(_) => Answer::TooMany,
+        AddFault::NoMemory(_) => Answer::NoMemory,
     }
 }
 
 fn answer_to_replace(message: &mut Message, name: &str, index: usize, value: Value) -> Answer {
     match message.replace(name, index, value) {
         Ok(_) => Answer::Done,
-        Err(ReplaceFault::NameNotFound(_)) => Answer::NameNotFound,
-        Err(ReplaceFault::BadType(_)) => Answer::BadType,
-        Err(ReplaceFault::BadIndex(_)) => Answer::BadIndex,
-        Err(ReplaceFault::BadValue(_)) => Answer::BadValue,
+        Err(fault) => fault_of(&fault),
+    }
+}
+
+fn fault_of(fault: &ReplaceFault) -> Answer {
+    match fault {
+        ReplaceFault::NameNotFound(_) => Answer::NameNotFound,
+        ReplaceFault::BadType(_) => Answer::BadType,
+        ReplaceFault::BadIndex(_) => Answer::BadIndex,
+        ReplaceFault::BadValue(_) => Answer::BadValue,
     }
 }
 

@@ -29,11 +29,17 @@ enum Answer {
 fn told(recorder: &mut Recorder, command: Command) -> Answer {
     match recorder.record(command) {
         Ok(()) => Answer::Recorded,
-        Err(RecordFault::NotDrawing(_)) => Answer::NotDrawing,
-        Err(RecordFault::Unbalanced(_)) => Answer::Unbalanced,
-        Err(RecordFault::TooDeep(_)) => Answer::TooDeep,
-        Err(RecordFault::TooMany(_)) => Answer::TooMany,
-        Err(RecordFault::NoMemory(_)) => Answer::NoMemory,
+        Err(fault) => answer_of(&fault),
+    }
+}
+
+fn answer_of(fault: &RecordFault) -> Answer {
+    match fault {
+        RecordFault::NotDrawing(_) => Answer::NotDrawing,
+        RecordFault::Unbalanced(_) => Answer::Unbalanced,
+        RecordFault::TooDeep(_) => Answer::TooDeep,
+        RecordFault::TooMany(_) => Answer::TooMany,
+        RecordFault::NoMemory(_) => Answer::NoMemory,
     }
 }
 

@@ -58,151 +58,58 @@ fn three(alloc: Global) -> Result<Stack, StackFault> {
     Ok(stack)
 }
 
+const GONE: Result<(), ChangeFault> = Err(ChangeFault::Gone);
+
+/// A change of a window, its answer, and then the order, the active window, and whether the changed
+/// one is shown.
+const CHANGES: [(
+    u16,
+    Change,
+    Result<(), ChangeFault>,
+    &[u16],
+    Option<u16>,
+    bool,
+); 25] = [
+    (0, Change::Hide, Ok(()), &[2, 1, 0], None, false),
+    (0, Change::Show, Ok(()), &[2, 1, 0], None, false),
+    (0, Change::Show, Ok(()), &[2, 1, 0], None, true),
+    (0, Change::Show, Ok(()), &[2, 1, 0], None, true),
+    (1, Change::Activate, Ok(()), &[1, 2, 0], None, false),
+    (0, Change::Activate, Ok(()), &[0, 1, 2], Some(0), true),
+    (2, Change::Activate, Ok(()), &[2, 0, 1], Some(0), false),
+    (1, Change::Show, Ok(()), &[2, 0, 1], Some(0), true),
+    (1, Change::Activate, Ok(()), &[1, 2, 0], Some(0), true),
+    (1, Change::Behind(1), Ok(()), &[1, 2, 0], Some(0), true),
+    (1, Change::Behind(0), Ok(()), &[2, 0, 1], Some(0), true),
+    (1, Change::Behind(2), Ok(()), &[2, 1, 0], Some(0), true),
+    (2, Change::Behind(1), Ok(()), &[1, 2, 0], Some(0), false),
+    (0, Change::Focus(Some(0)), Ok(()), &[1, 2, 0], Some(0), true),
+    (0, Change::Hide, Ok(()), &[1, 2, 0], None, false),
+    (0, Change::Show, Ok(()), &[1, 2, 0], None, true),
+    (0, Change::Activate, Ok(()), &[0, 1, 2], Some(0), true),
+    (1, Change::Hide, Ok(()), &[0, 1, 2], Some(0), false),
+    (2, Change::Close, Ok(()), &[0, 1], Some(0), false),
+    (1, Change::Behind(2), GONE, &[0, 1], Some(0), false),
+    (2, Change::Behind(2), GONE, &[0, 1], Some(0), false),
+    (2, Change::Show, GONE, &[0, 1], Some(0), false),
+    (2, Change::Focus(None), GONE, &[0, 1], Some(0), false),
+    (2, Change::MoveBy(65535, 0), GONE, &[0, 1], Some(0), false),
+    (0, Change::Close, Ok(()), &[1], None, false),
+];
+
 #[test]
 fn follows_its_changes(rt: HostRuntime) -> Result<(), Fail> {
     let mut stack = three(rt.alloc())?;
     assert_eq!(rt; stack.order.as_slice(), [2, 1, 0].as_slice());
-    let gone = Err(ChangeFault::Gone);
-    for (w, change, answer, order, active, shown) in [
-        (0, Change::Hide, Ok(()), [2, 1, 0].as_slice(), None, false),
-        (0, Change::Show, Ok(()), [2, 1, 0].as_slice(), None, false),
-        (0, Change::Show, Ok(()), [2, 1, 0].as_slice(), None, true),
-        (0, Change::Show, Ok(()), [2, 1, 0].as_slice(), None, true),
-        (
-            1,
-            Change::Activate,
-            Ok(()),
-            [1, 2, 0].as_slice(),
-            None,
-            false,
-        ),
-        (
-            0,
-            Change::Activate,
-            Ok(()),
-            [0, 1, 2].as_slice(),
-            Some(0),
-            true,
-        ),
-        (
-            2,
-            Change::Activate,
-            Ok(()),
-            [2, 0, 1].as_slice(),
-            Some(0),
-            false,
-        ),
-        (1, Change::Show, Ok(()), [2, 0, 1].as_slice(), Some(0), true),
-        (
-            1,
-            Change::Activate,
-            Ok(()),
-            [1, 2, 0].as_slice(),
-            Some(0),
-            true,
-        ),
-        (
-            1,
-            Change::Behind(1),
-            Ok(()),
-            [1, 2, 0].as_slice(),
-            Some(0),
-            true,
-        ),
-        (
-            1,
-            Change::Behind(0),
-            Ok(()),
-            [2, 0, 1].as_slice(),
-            Some(0),
-            true,
-        ),
-        (
-            1,
-            Change::Behind(2),
-            Ok(()),
-            [2, 1, 0].as_slice(),
-            Some(0),
-            true,
-        ),
-        (
-            2,
-            Change::Behind(1),
-            Ok(()),
-            [1, 2, 0].as_slice(),
-            Some(0),
-            false,
-        ),
-        (
-            0,
-            Change::Focus(Some(0)),
-            Ok(()),
-            [1, 2, 0].as_slice(),
-            Some(0),
-            true,
-        ),
-        (0, Change::Hide, Ok(()), [1, 2, 0].as_slice(), None, false),
-        (0, Change::Show, Ok(()), [1, 2, 0].as_slice(), None, true),
-        (
-            0,
-            Change::Activate,
-            Ok(()),
-            [0, 1, 2].as_slice(),
-            Some(0),
-            true,
-        ),
-        (
-            1,
-            Change::Hide,
-            Ok(()),
-            [0, 1, 2].as_slice(),
-            Some(0),
-            false,
-        ),
-        (2, Change::Close, Ok(()), [0, 1].as_slice(), Some(0), false),
-        (
-            1,
-            Change::Behind(2),
-            gone,
-            [0, 1].as_slice(),
-            Some(0),
-            false,
-        ),
-        (
-            2,
-            Change::Behind(2),
-            gone,
-            [0, 1].as_slice(),
-            Some(0),
-            false,
-        ),
-        (2, Change::Show, gone, [0, 1].as_slice(), Some(0), false),
-        (
-            2,
-            Change::Focus(None),
-            gone,
-            [0, 1].as_slice(),
-            Some(0),
-            false,
-        ),
-        (
-            2,
-            Change::MoveBy(65535, 0),
-            gone,
-            [0, 1].as_slice(),
-            Some(0),
-            false,
-        ),
-        (0, Change::Close, Ok(()), [1].as_slice(), None, false),
-    ] {
+    for (w, change, answer, order, active, shown) in &CHANGES {
         assert_eq!(rt;
-            applied(&rt, &mut stack, w, change),
-            answer,
+            applied(&rt, &mut stack, *w, *change),
+            *answer,
             "{change:?} of {w}"
         );
-        assert_eq!(rt; stack.order.as_slice(), order, "{change:?} of {w}");
-        assert_eq!(rt; stack.active(), active, "{change:?} of {w}");
-        assert_eq!(rt; stack.is_shown(w), shown, "{change:?} of {w}");
+        assert_eq!(rt; stack.order.as_slice(), *order, "{change:?} of {w}");
+        assert_eq!(rt; stack.active(), *active, "{change:?} of {w}");
+        assert_eq!(rt; stack.is_shown(*w), *shown, "{change:?} of {w}");
     }
     assert_eq!(rt; stack.frame(2), Some(PIXEL));
     assert_eq!(rt; stack.flags(1), Some(WindowFlags::AVOID_FOCUS));
@@ -212,76 +119,80 @@ fn follows_its_changes(rt: HostRuntime) -> Result<(), Fail> {
     Ok(())
 }
 
+const OFF_RANGE: Result<(), ChangeFault> = Err(ChangeFault::OffRange);
+
+/// A change, its answer, and then the edges of the window's frame.
+const MOVES: [(Change, Result<(), ChangeFault>, (i16, i16, i16, i16)); 15] = [
+    (
+        Change::MoveTo(Point {
+            x: 32764,
+            y: -32768,
+        }),
+        Ok(()),
+        (32764, -32768, 32767, -32766),
+    ),
+    (
+        Change::MoveTo(Point { x: 32765, y: 0 }),
+        OFF_RANGE,
+        (32764, -32768, 32767, -32766),
+    ),
+    (
+        Change::MoveBy(1, 0),
+        OFF_RANGE,
+        (32764, -32768, 32767, -32766),
+    ),
+    (
+        Change::MoveBy(0, -1),
+        OFF_RANGE,
+        (32764, -32768, 32767, -32766),
+    ),
+    (
+        Change::MoveBy(-65532, 65533),
+        Ok(()),
+        (-32768, 32765, -32765, 32767),
+    ),
+    (
+        Change::MoveTo(Point { x: 0, y: 32766 }),
+        OFF_RANGE,
+        (-32768, 32765, -32765, 32767),
+    ),
+    (
+        Change::MoveBy(-65535, 0),
+        OFF_RANGE,
+        (-32768, 32765, -32765, 32767),
+    ),
+    (
+        Change::ResizeTo(32767, 2),
+        Ok(()),
+        (-32768, 32765, -1, 32767),
+    ),
+    (
+        Change::ResizeTo(32767, 3),
+        OFF_RANGE,
+        (-32768, 32765, -1, 32767),
+    ),
+    (
+        Change::ResizeTo(0, 0),
+        Ok(()),
+        (-32768, 32765, -32768, 32765),
+    ),
+    (Change::MoveTo(Point { x: 0, y: 0 }), Ok(()), (0, 0, 0, 0)),
+    (Change::ResizeTo(32767, 32767), Ok(()), (0, 0, 32767, 32767)),
+    (Change::ResizeTo(0, 1), Ok(()), (0, 0, 0, 1)),
+    (Change::MoveBy(1, 0), Ok(()), (1, 0, 1, 1)),
+    (Change::ResizeTo(32767, 1), OFF_RANGE, (1, 0, 1, 1)),
+];
+
 #[test]
 fn stays_in_the_range(rt: HostRuntime) -> Result<(), Fail> {
     let mut stack = Stack::new(rt.alloc(), 4, 3);
     let w = stack.add(WHOLE, WindowFlags::empty())?;
-    let off_range = Err(ChangeFault::OffRange);
-    for (change, answer, edges) in [
-        (
-            Change::MoveTo(Point {
-                x: 32764,
-                y: -32768,
-            }),
-            Ok(()),
-            (32764, -32768, 32767, -32766),
-        ),
-        (
-            Change::MoveTo(Point { x: 32765, y: 0 }),
-            off_range,
-            (32764, -32768, 32767, -32766),
-        ),
-        (
-            Change::MoveBy(1, 0),
-            off_range,
-            (32764, -32768, 32767, -32766),
-        ),
-        (
-            Change::MoveBy(0, -1),
-            off_range,
-            (32764, -32768, 32767, -32766),
-        ),
-        (
-            Change::MoveBy(-65532, 65533),
-            Ok(()),
-            (-32768, 32765, -32765, 32767),
-        ),
-        (
-            Change::MoveTo(Point { x: 0, y: 32766 }),
-            off_range,
-            (-32768, 32765, -32765, 32767),
-        ),
-        (
-            Change::MoveBy(-65535, 0),
-            off_range,
-            (-32768, 32765, -32765, 32767),
-        ),
-        (
-            Change::ResizeTo(32767, 2),
-            Ok(()),
-            (-32768, 32765, -1, 32767),
-        ),
-        (
-            Change::ResizeTo(32767, 3),
-            off_range,
-            (-32768, 32765, -1, 32767),
-        ),
-        (
-            Change::ResizeTo(0, 0),
-            Ok(()),
-            (-32768, 32765, -32768, 32765),
-        ),
-        (Change::MoveTo(Point { x: 0, y: 0 }), Ok(()), (0, 0, 0, 0)),
-        (Change::ResizeTo(32767, 32767), Ok(()), (0, 0, 32767, 32767)),
-        (Change::ResizeTo(0, 1), Ok(()), (0, 0, 0, 1)),
-        (Change::MoveBy(1, 0), Ok(()), (1, 0, 1, 1)),
-        (Change::ResizeTo(32767, 1), off_range, (1, 0, 1, 1)),
-    ] {
-        assert_eq!(rt; applied(&rt, &mut stack, w, change), answer, "{change:?}");
+    for (change, answer, edges) in &MOVES {
+        assert_eq!(rt; applied(&rt, &mut stack, w, *change), *answer, "{change:?}");
         let frame = stack.frame(w).ok_or("no frame")?;
         assert_eq!(rt;
             (frame.left, frame.top, frame.right, frame.bottom),
-            edges,
+            *edges,
             "{change:?}"
         );
     }
