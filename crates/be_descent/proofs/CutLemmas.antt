@@ -5,6 +5,7 @@ use Rattle.std.proofs.Common.{inl, inr, SFits, w16, List, ◌∷◌, All, suc, s
 use Rattle.std.proofs.Common.{arith}
 use Rattle.std.proofs.lemmas.Int.{ints, by_lt_z}
 use Rattle.std.proofs.lemmas.Bool.{true≢false}
+use Rattle.be_facts.proofs.Truths.{true_or_false}
 use Rattle.be_facts.proofs.Numbers.{unsigned_abs_is}
 use Rattle.be_geom.specs.declared.rect.Rect.{Rect}
 use Rattle.be_geom.specs.Rects.{rect_has, AreDisjoint}
@@ -232,3 +233,36 @@ pub second_inside : (area first second outer : Rect) → AreHalves area first se
     → IsInside area outer → IsInside second outer
 second_inside area first second outer h =
     first_inside area second first outer (halves_turned area first second h)
+
+-- ---- halves of which the one isn't copied to the other
+
+not_in : (r : Rect) (x y : ℤ) → (IsIn r x y → ⊥) → rect_has r x y ≡ false
+not_in r x y h =
+    elim (true_or_false (rect_has r x y)) [ inl e ↦ absurd (h (in_from r x y e)) | inr e ↦ e ]
+
+-- what is copied down comes from no row below
+pub copied_down : (a b : Rect) (row dx dy : ℤ) → a.bottom <ℤ row → row ≤ℤ b.top → pos 0 ≤ℤ dy
+    → (x y : ℤ) → rect_has a x y ≡ true → rect_has b (x -ℤ dx) (y -ℤ dy) ≡ false
+copied_down a b row dx dy above below down x y e =
+    let i = (in_from a x y e).bottom in
+    not_in b (x -ℤ dx) (y -ℤ dy) (λ j. let k = j.top in omega (arith, ints))
+
+pub copied_up : (a b : Rect) (row dx dy : ℤ) → a.bottom <ℤ row → row ≤ℤ b.top → dy ≤ℤ pos 0
+    → (x y : ℤ) → rect_has b x y ≡ true → rect_has a (x -ℤ dx) (y -ℤ dy) ≡ false
+copied_up a b row dx dy above below up x y e =
+    let i = (in_from b x y e).top in
+    not_in a (x -ℤ dx) (y -ℤ dy) (λ j. let k = j.bottom in omega (arith, ints))
+
+pub copied_right : (a b : Rect) (column dx dy : ℤ) → a.right <ℤ column → column ≤ℤ b.left
+    → pos 0 ≤ℤ dx → (x y : ℤ) → rect_has a x y ≡ true
+    → rect_has b (x -ℤ dx) (y -ℤ dy) ≡ false
+copied_right a b column dx dy before behind right x y e =
+    let i = (in_from a x y e).right in
+    not_in b (x -ℤ dx) (y -ℤ dy) (λ j. let k = j.left in omega (arith, ints))
+
+pub copied_left : (a b : Rect) (column dx dy : ℤ) → a.right <ℤ column → column ≤ℤ b.left
+    → dx ≤ℤ pos 0 → (x y : ℤ) → rect_has b x y ≡ true
+    → rect_has a (x -ℤ dx) (y -ℤ dy) ≡ false
+copied_left a b column dx dy before behind left x y e =
+    let i = (in_from b x y e).left in
+    not_in a (x -ℤ dx) (y -ℤ dy) (λ j. let k = j.right in omega (arith, ints))

@@ -20,3 +20,4 @@ pub mod RowLemmas
 pub mod HullLemmas
 pub mod RunLemmas
 pub mod ShapeLemmas
+pub mod PieceLemmas

@@ -5,3 +5,4 @@ pub mod Clips
 pub mod Fronts
 pub mod Drawing
 pub mod Inks
+pub mod Pieces

@@ -1,15 +1,12 @@
-ghost use Rattle.std.specs.Prelude.{ℤ, ◌&&◌};
+ghost use Rattle.std.specs.Prelude.{◌&&◌};
 ghost use Rattle.be_geom.specs.Rects.{rect_has};
 ghost use Rattle.be_span.specs.Painting.{IsPainted};
 
 use crate::laying::Lay;
 use crate::walk::next_in;
-use crate::way::Way;
+use crate::way::HERE;
 use be_geom::Rect;
 use be_span::SpanBuf;
-
-/// A region that lies where it is given.
-const HERE: Way = Way { right: 0, down: 0 };
 
 /// Paints the pixels of a rectangle of the screen, as far as the buffer has them: the stage gets
 /// the part in each span that has some. The first is found by bisection.

@@ -45,7 +45,7 @@ pub(crate) fn cut_at(area: Rect, frame: Rect) -> Cut
 }
 
 /// The rows of a rectangle above one of them, and the others.
-fn rows_at(area: Rect, row: i16) -> (Rect, Rect)
+pub(crate) fn rows_at(area: Rect, row: i16) -> (Rect, Rect)
     requires across { area.left ≤ℤ area.right }
     requires below { area.top <ℤ row }
     requires inside { row ≤ℤ area.bottom }
@@ -61,7 +61,7 @@ fn rows_at(area: Rect, row: i16) -> (Rect, Rect)
 }
 
 /// The columns of a rectangle left of one of them, and the others.
-fn columns_at(area: Rect, column: i16) -> (Rect, Rect)
+pub(crate) fn columns_at(area: Rect, column: i16) -> (Rect, Rect)
     requires down { area.top ≤ℤ area.bottom }
     requires behind { area.left <ℤ column }
     requires inside { column ≤ℤ area.right }

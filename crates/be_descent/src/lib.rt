@@ -18,6 +18,7 @@
 //! the edges of those that are met. No call takes memory, and none but the ink looks at a pixel.
 #![tactic(auto)]
 
+mod altering;
 mod area;
 mod bands;
 mod below;
@@ -29,6 +30,7 @@ mod cutting;
 mod descending;
 mod far;
 mod fronts;
+mod halving;
 mod held;
 mod image;
 mod ink;
@@ -38,21 +40,26 @@ mod line;
 mod marks;
 mod nest;
 mod part;
+mod put;
 mod reach;
+mod reading;
 mod rows;
 mod session;
 mod shown;
+mod taken;
 mod thin;
 mod walk;
 mod way;
 mod within;
 
+pub use altering::Altering;
 pub use area::paint_area;
 pub use bands::paint_bands;
 pub use below::Below;
 pub use clips::Clips;
 pub use coat::Coat;
 pub use fronts::Fronts;
+pub use halving::halves_of;
 pub use held::Held;
 pub use image::{Image, paint_image};
 pub use ink::Ink;
@@ -61,7 +68,10 @@ pub use letters::{Letters, paint_letters};
 pub use line::paint_line;
 pub use marks::marks_stay;
 pub use nest::{Limits, paint_within};
+pub use part::part_in;
+pub use put::Put;
 pub use reach::{Reach, paint_reached};
+pub use reading::{Source, read};
 pub use session::Session;
 pub use way::Way;
 pub use within::Within;

@@ -12,7 +12,7 @@ use be_shape::Span as Columns;
 
 /// The pixels of an area that a rectangle has, which lies that way. None where it has none.
 #[inline(always)]
-pub(crate) fn part_in(area: Rect, rect: Rect, way: Way) -> Option<Rect>
+pub fn part_in(area: Rect, rect: Rect, way: Way) -> Option<Rect>
     ensures none { IfNone result (IsBeside area rect way) }
     ensures some { IfSome result (λ part. IsPartOf part area rect way) }
 {

@@ -9,6 +9,9 @@ pub struct Way {
     pub down: i32,
 }
 
+/// What lies where it is given.
+pub(crate) const HERE: Way = Way { right: 0, down: 0 };
+
 impl Way {
     /// From (0, 0) to a point.
     pub fn to(point: Point) -> Way

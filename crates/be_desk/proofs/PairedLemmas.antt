@@ -25,7 +25,7 @@ use Rattle.be_desk.specs.Changes.{Desk}
 use Rattle.be_desk.specs.Desks.{IsPaired, IsRootIn, at_origin, root_of}
 use Rattle.be_desk.proofs.DeskLemmas.{TreesAfter, IsAfter}
 use Rattle.be_desk.proofs.OthersLemmas.{others_stay}
-use Rattle.be_desk.proofs.SameLemmas.{rebuilt}
+use Rattle.be_geom.proofs.RectLemmas.{same_rects}
 
 -- ---- a resized tree
 
@@ -97,11 +97,11 @@ FrameAfter s w change t = (new : Window) → slice_get t.windows w ≡ Some new 
 
 moved_origin : (r : Rect) (dx dy : ℤ) → at_origin (moved_rect r dx dy) ≡ at_origin r
 moved_origin r dx dy =
-    rebuilt ((r.left +ℤ dx) +ℤ (pos 0 -ℤ (r.left +ℤ dx))) (r.left +ℤ (pos 0 -ℤ r.left)) ((r.top +ℤ dy) +ℤ (pos 0 -ℤ (r.top +ℤ dy))) (r.top +ℤ (pos 0 -ℤ r.top)) ((r.right +ℤ dx) +ℤ (pos 0 -ℤ (r.left +ℤ dx))) (r.right +ℤ (pos 0 -ℤ r.left)) ((r.bottom +ℤ dy) +ℤ (pos 0 -ℤ (r.top +ℤ dy))) (r.bottom +ℤ (pos 0 -ℤ r.top)) (omega (arith, ints)) (omega (arith, ints)) (omega (arith, ints)) (omega (arith, ints))
+    same_rects ((r.left +ℤ dx) +ℤ (pos 0 -ℤ (r.left +ℤ dx))) (r.left +ℤ (pos 0 -ℤ r.left)) ((r.top +ℤ dy) +ℤ (pos 0 -ℤ (r.top +ℤ dy))) (r.top +ℤ (pos 0 -ℤ r.top)) ((r.right +ℤ dx) +ℤ (pos 0 -ℤ (r.left +ℤ dx))) (r.right +ℤ (pos 0 -ℤ r.left)) ((r.bottom +ℤ dy) +ℤ (pos 0 -ℤ (r.top +ℤ dy))) (r.bottom +ℤ (pos 0 -ℤ r.top)) (omega (arith, ints)) (omega (arith, ints)) (omega (arith, ints)) (omega (arith, ints))
 
 resized_origin : (r : Rect) (width height : ℤ) → root_frame width height ≡ at_origin (resized_rect r width height)
 resized_origin r width height =
-    rebuilt (pos 0) (r.left +ℤ (pos 0 -ℤ r.left)) (pos 0) (r.top +ℤ (pos 0 -ℤ r.top)) width ((r.left +ℤ width) +ℤ (pos 0 -ℤ r.left)) height ((r.top +ℤ height) +ℤ (pos 0 -ℤ r.top)) (omega (arith, ints)) (omega (arith, ints)) (omega (arith, ints)) (omega (arith, ints))
+    same_rects (pos 0) (r.left +ℤ (pos 0 -ℤ r.left)) (pos 0) (r.top +ℤ (pos 0 -ℤ r.top)) width ((r.left +ℤ width) +ℤ (pos 0 -ℤ r.left)) height ((r.top +ℤ height) +ℤ (pos 0 -ℤ r.top)) (omega (arith, ints)) (omega (arith, ints)) (omega (arith, ints)) (omega (arith, ints))
 
 -- where only something else is kept of the window
 put_frame : (s : Windows) (w : ℕ) (change : Change) (old put : Window) → Some old ≡ slice_get s.windows w → FramedBy change old put → (t : Windows) → t.windows ≡ slice_set s.windows w put → FrameAfter s w change t

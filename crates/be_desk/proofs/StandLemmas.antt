@@ -33,7 +33,7 @@ use Rattle.be_desk.proofs.DeskLemmas.{is_after}
 use Rattle.be_desk.proofs.OthersLemmas.{others_stay}
 use Rattle.be_desk.proofs.PairedLemmas.{other_trees}
 use Rattle.be_desk.proofs.PlanLemmas.{owned_in}
-use Rattle.be_desk.proofs.SameLemmas.{rebuilt}
+use Rattle.be_geom.proofs.RectLemmas.{same_rects}
 
 -- ---- a pane of the change
 
@@ -145,7 +145,7 @@ each_pixel_once desk after w change cells colors old x y = (
 
 back_from_origin : (r : Rect) → moved_rect (at_origin r) r.left r.top ≡ r
 back_from_origin r =
-    rebuilt ((r.left +ℤ (pos 0 -ℤ r.left)) +ℤ r.left) r.left ((r.top +ℤ (pos 0 -ℤ r.top)) +ℤ r.top) r.top ((r.right +ℤ (pos 0 -ℤ r.left)) +ℤ r.left) r.right ((r.bottom +ℤ (pos 0 -ℤ r.top)) +ℤ r.top) r.bottom (omega (arith, ints)) (omega (arith, ints)) (omega (arith, ints)) (omega (arith, ints))
+    same_rects ((r.left +ℤ (pos 0 -ℤ r.left)) +ℤ r.left) r.left ((r.top +ℤ (pos 0 -ℤ r.top)) +ℤ r.top) r.top ((r.right +ℤ (pos 0 -ℤ r.left)) +ℤ r.left) r.right ((r.bottom +ℤ (pos 0 -ℤ r.top)) +ℤ r.top) r.bottom (omega (arith, ints)) (omega (arith, ints)) (omega (arith, ints)) (omega (arith, ints))
 
 pub panes_are_whole : PanesAreWhole
 panes_are_whole desk pane paired of_pane = record {

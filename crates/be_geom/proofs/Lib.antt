@@ -2,3 +2,4 @@ pub mod Between
 pub mod RectLemmas
 pub mod Numbered
 pub mod StretchLemmas
+pub mod SameRects

@@ -1,21 +1,20 @@
 -- What a view hears of one move, and so of many.
 use Rattle.std.specs.Prelude.{filter, map, option_to_list, slice_get}
-use Rattle.std.proofs.Common.{◌≡◌, ℕ, ◌<◌, ◌==◌, zero, suc, ℤ, Bool, true, false, ◌&&◌, if◌then◌else◌, inl, inr, List, [], ◌∷◌, ◌++◌, length, append_assoc, Option, Some, None, option_map, option_and_then, arith, refl, sym, ap, subst, ◌∙◌}
+use Rattle.std.proofs.Common.{◌≡◌, ℕ, ◌<◌, ◌==◌, zero, suc, ℤ, Bool, true, false, ◌&&◌, if◌then◌else◌, List, [], ◌∷◌, ◌++◌, length, append_assoc, Option, Some, None, option_map, option_and_then, arith, refl, sym, ap, subst, ◌∙◌}
 use Rattle.std.proofs.lemmas.Bool.{and_parts, eqb-true, eq-eqb, false≢true}
-use Rattle.std.proofs.lemmas.Option.{none-some, same_Some, slice_get_within}
+use Rattle.std.proofs.lemmas.Option.{none-some, same_Some}
 use Rattle.be_facts.proofs.Lists.{some_inner}
 use Rattle.be_geom.specs.declared.point.Point.{Point}
 use Rattle.be_geom.specs.declared.rect.Rect.{Rect}
 use Rattle.be_geom.specs.Places.{at_pixel, less, sum_of}
-use Rattle.be_geom.specs.Rects.{rect_has}
 use Rattle.be_message.specs.declared.target.Target.TheVariants as target
 use Rattle.be_message.specs.Messages.{Message}
 use Rattle.be_stack.specs.Owner.{owner_at}
 use Rattle.be_stack.specs.Windows.{Windows}
-use Rattle.be_views.specs.Trees.{View, Tree, parent_of, left_top, corner_in, place_from, place_of, lies_within}
-use Rattle.be_views.specs.Pixels.{view_at, view_below}
+use Rattle.be_views.specs.Trees.{View, Tree, parent_of, left_top, corner_in, place_from, place_of}
+use Rattle.be_views.specs.Pixels.{view_at}
 use Rattle.be_views.specs.Whole.{AreParentsFirst}
-use Rattle.be_views.proofs.KinLemmas.{within_cases, ends_within}
+use Rattle.be_views.proofs.KinLemmas.{seen_there}
 use Rattle.be_input.specs.Deliveries.{Post, place_in, transit_message, mouse_post, mouse_posts, is_same, move_posts, delivered}
 use Rattle.be_input.specs.Pointing.{corner_of, view_in, view_under, with_window_number, under_pointer}
 use Rattle.be_input.specs.Laws.{is_for, told_to, heard_by, HasTransit, AreVisits, ended, entered, inside, exited, is_over, under_last, IsThere, AreAllParentsFirst, HearsOfVisits}
@@ -48,29 +47,6 @@ place_there tree (suc n) v first fuel within =
 has_place : (tree : Tree) (v : ℕ) → AreParentsFirst tree → v < length tree → HasCorner (place_of tree v)
 unfolding place_of
 has_place tree v first within = place_there tree (length tree) v first within within
-
--- a view that lies in another, or is it, is one of the tree
-lies_there : (n : ℕ) (tree : Tree) (v u : ℕ) → v < length tree → lies_within n tree v u ≡ true → u < length tree
-lies_there n tree v u there lies =
-    elim (within_cases n tree v u lies) [
-      | inl same ↦ omega arith
-      | inr above ↦
-          let view = some_inner (λ (w : View). w.parent) (slice_get tree u) above.1.0 above.1.1.0 in
-          slice_get_within tree u view.0 view.1
-    ]
-
-seen_by : (root : View) (tree : Tree) (x y : ℤ) (v : ℕ) (b : Bool) → slice_get tree 0 ≡ Some root →
-    (if b then Some (view_below (length tree) tree 0 x y) else None) ≡ Some v → v < length tree
-seen_by root tree x y v true is at =
-    let same = same_Some (view_below (length tree) tree 0 x y) v at in
-    rw (← same) (lies_there (length tree) tree 0 (view_below (length tree) tree 0 x y) (slice_get_within tree 0 root is) (ends_within (length tree) tree 0 x y))
-seen_by root tree x y v false is at = absurd (none-some v at)
-
-seen_there : (tree : Tree) (x y : ℤ) (v : ℕ) → view_at tree x y ≡ Some v → v < length tree
-unfolding view_at
-seen_there tree x y v at =
-    let root = some_inner (λ (root : View). if rect_has root.frame x y then Some (view_below (length tree) tree 0 x y) else None) (slice_get tree 0) v at in
-    seen_by root.0 tree x y v (rect_has root.0.frame x y) root.1 root.2
 
 there_in : (windows : Windows) (trees : List Tree) (w : ℕ) (x y : ℤ) (v : ℕ) → AreAllParentsFirst trees → view_under windows trees w x y ≡ Some v → IsThere windows trees (w, v)
 unfolding view_under

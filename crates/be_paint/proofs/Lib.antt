@@ -1,12 +1,10 @@
-pub mod StretchLemmas
-pub mod ReachLemmas
-pub mod AreaLemmas
-pub mod RowLemmas
-pub mod ExposingLemmas
-pub mod MovingLemmas
+pub mod FitLemmas
 pub mod BitLemmas
 pub mod GlyphLemmas
 pub mod SeenLemmas
 pub mod PictureLemmas
 pub mod PaintLemmas
 pub mod TextLemmas
+pub mod CopyLemmas
+pub mod MovingLemmas
+pub mod ExposingLemmas

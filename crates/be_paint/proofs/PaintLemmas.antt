@@ -32,13 +32,13 @@ use Rattle.be_span.specs.Spans.{Spans, cell_in}
 use Rattle.be_span.proofs.CellLemmas.{cell_none}
 use Rattle.be_span.proofs.GridLemmas.{has_from}
 use Rattle.be_state.specs.declared.State.{State}
-use Rattle.be_state.specs.Stacks.{allows, base_of, clip_has}
+use Rattle.be_state.specs.Stacks.{allows, base_of}
 use Rattle.be_bitmap.proofs.PixelLemmas.{pixel_over, pixel_before}
 use Rattle.be_paint.specs.Inks.{Ink, shape, text, image, source_at, laid_on_cell, painted_cell}
 use Rattle.be_paint.specs.Inks.{text_has}
 use Rattle.be_paint.specs.Laying.{brush_of, descent_of, laid, source_on}
 use Rattle.be_paint.specs.Reach.{Reach, is_reached, session_has}
-use Rattle.be_paint.specs.Seen.{IsSeenAs, IsSite, has_session}
+use Rattle.be_paint.specs.Seen.{IsSeenAs, IsSite}
 use Rattle.be_paint.specs.declared.reach.Reach as given
 use Rattle.be_paint.specs.declared.reach.Site.{Site}
 use Rattle.be_paint.proofs.PictureLemmas.{below_of, right_of}
@@ -46,16 +46,12 @@ use Rattle.be_paint.proofs.SeenLemmas.{seen_at, seen_on, session_same}
 
 -- ---- where the view may draw
 
-clip_session : (o : Option (List Rect)) (x y : ℤ) → has_session o x y ≡ clip_has o x y
-clip_session (Some rects) x y = refl
-clip_session None x y = refl
-
 in_order : (a b c d : Bool) → a ≡ true → (a && b && c && d) ≡ (b && (c && d))
 in_order true true c d e = refl
 in_order true false c d e = refl
 in_order false b c d e = absurd (true≢false (sym e))
 
-reached_is : (rects : List Rect) (g : given.Reach) (site : Site) (session : Option (List Point))
+pub reached_is : (rects : List Rect) (g : given.Reach) (site : Site) (session : Option (List Point))
     (x y : ℤ) → SameSession (option_map (λ r. r.now) g.session) session
     → region_has rects x y ≡ true
     → is_reached (region_has rects) (seen_on g site session) x y ≡ may_draw (descent_of g site) x y
@@ -64,44 +60,37 @@ reached_is rects g site session x y same has =
     let u : ℤ = x -ℤ g.window.x in
     let v : ℤ = y -ℤ g.window.y in
     let o = option_map (λ r. r.now) g.session in
-    let ex : u -ℤ site.view.x ≡ x -ℤ (g.window.x +ℤ site.view.x) = omega (arith, ints) in
-    let ey : v -ℤ site.view.y ≡ y -ℤ (g.window.y +ℤ site.view.y) = omega (arith, ints) in
+    let ex : u -ℤ site.view.right ≡ x -ℤ (g.window.x +ℤ site.view.right) = omega (arith, ints) in
+    let ey : v -ℤ site.view.down ≡ y -ℤ (g.window.y +ℤ site.view.down) = omega (arith, ints) in
     let s = shows g.tree.now g.view g.window x y in
-    in_order (region_has rects x y) s (allows g.states.now (u -ℤ site.view.x) (v -ℤ site.view.y))
+    in_order (region_has rects x y) s (allows g.states.now (u -ℤ site.view.right) (v -ℤ site.view.down))
     (session_has session (at_pixel u v)) has
     ∙ ap (λ b. s && (b && session_has session (at_pixel u v))) (ap₂ (allows g.states.now) ex ey)
-    ∙ ap (λ b. s && (allows g.states.now (x -ℤ (g.window.x +ℤ site.view.x))
-    (y -ℤ (g.window.y +ℤ site.view.y)) && b))
-    (sym (session_same o session same u v) ∙ clip_session o u v)
+    ∙ ap (λ b. s && (allows g.states.now (x -ℤ (g.window.x +ℤ site.view.right))
+    (y -ℤ (g.window.y +ℤ site.view.down)) && b))
+    (sym (session_same o session same u v))
 
 -- ---- what is laid
 
--- drawing counts from there
-pub record IsFrom (site : Site) (way : Way) : Type 0 where
-  pub across : way.right ≡ site.origin.x
-  pub down : way.down ≡ site.origin.y
-
-painted_is : (rects : List Rect) (g : given.Reach) (site : Site) (seen : Reach) (way : Way)
-    (ink : Ink) (old : Lookup) (x y : ℤ) (c : Cell) → IsSeenAs g seen → IsSite g site
-    → IsFrom site way → region_has rects x y ≡ true
-    → painted_cell (region_has rects) seen ink old x y c
+painted_is : (rects : List Rect) (g : given.Reach) (site : Site) (seen : Reach) (ink : Ink)
+    (old : Lookup) (x y : ℤ) (c : Cell) → IsSeenAs g seen → IsSite g site
+    → region_has rects x y ≡ true → painted_cell (region_has rects) seen ink old x y c
     ≡ (if may_draw (descent_of g site) x y
-    then laid ink g.states.now.top.state g.window way x y c else c)
+    then laid ink g.states.now.top.state g.window site.origin x y c else c)
 unfolding painted_cell
-painted_is rects g site seen way ink old x y c stands is from has =
+painted_is rects g site seen ink old x y c stands is has =
     let s = g.states.now.top.state in
+    let way = site.origin in
     let u : ℤ = x -ℤ g.window.x in
     let v : ℤ = y -ℤ g.window.y in
     let base = base_of g.states.now in
     let ia = is.across in
     let id = is.down in
-    let fa = from.across in
-    let fd = from.down in
-    let ex : u -ℤ site.view.x -ℤ base.x ≡ x -ℤ way.right = omega (arith, ints, ia, fa) in
-    let ey : v -ℤ site.view.y -ℤ base.y ≡ y -ℤ way.down = omega (arith, ints, id, fd) in
+    let ex : u -ℤ site.view.right -ℤ base.x ≡ x -ℤ way.right = omega (arith, ints, ia) in
+    let ey : v -ℤ site.view.down -ℤ base.y ≡ y -ℤ way.down = omega (arith, ints, id) in
     seen_at (λ (r : Reach). painted_cell (region_has rects) r ink old x y c) g site seen stands is
     ∙ ap (λ b. if b then laid_on_cell s c (source_at ink s (at_pixel u v)
-    (at_pixel (u -ℤ site.view.x -ℤ base.x) (v -ℤ site.view.y -ℤ base.y))) else c)
+    (at_pixel (u -ℤ site.view.right -ℤ base.x) (v -ℤ site.view.down -ℤ base.y))) else c)
     (reached_is rects g site seen.session x y stands.session has)
     ∙ ap₂ (λ (p q : ℤ). if may_draw (descent_of g site) x y
     then laid_on_cell s c (source_at ink s (at_pixel u v) (at_pixel p q)) else c) ex ey
@@ -109,7 +98,7 @@ painted_is rects g site seen way ink old x y c stands is from has =
 -- ---- cells
 
 -- a pixel with a cell is in the region
-has_region : (s : Spans) (x y : ℤ) (c : Cell) → cell_in s x y ≡ Some c
+pub has_region : (s : Spans) (x y : ℤ) (c : Cell) → cell_in s x y ≡ Some c
     → region_has s.rects x y ≡ true
 has_region s x y c e =
     elim (true_or_false (region_has s.rects x y)) [
@@ -125,19 +114,26 @@ one_cell l p false None due = refl
 one_cell l p true (Some c) due = ap Some (sym (due c refl))
 one_cell l p false (Some c) due = ap Some (sym (due c refl))
 
--- what is laid where the view may draw is what the machine's rule makes of the pixels
-pub laid_painted : (g : given.Reach) (site : Site) (seen : Reach) (way : Way) (ink : Ink)
-    (old new : Spans) → IsSeenAs g seen → IsSite g site → IsFrom site way
-    → IsPainted (laid ink g.states.now.top.state g.window way) (may_draw (descent_of g site))
-    old new → (x y : ℤ) → cell_in new x y
-    ≡ option_map (painted_cell (region_has old.rects) seen ink (cell_in old) x y) (cell_in old x y)
-laid_painted g site seen way ink old new stands is from done x y =
+-- what is painted by a rule is what the machine's rule makes of the pixels
+pub by_cells : (rule : Rule) (at : ℤ → ℤ → Bool) (p : ℤ → ℤ → Cell → Cell) (old new : Spans)
+    → ((x y : ℤ) (c : Cell) → region_has old.rects x y ≡ true
+    → p x y c ≡ (if at x y then rule x y c else c))
+    → IsPainted rule at old new → (x y : ℤ)
+    → cell_in new x y ≡ option_map (p x y) (cell_in old x y)
+by_cells rule at p old new due done x y =
     done.cells x y
-    ∙ one_cell (laid ink g.states.now.top.state g.window way x y)
-    (painted_cell (region_has old.rects) seen ink (cell_in old) x y)
-    (may_draw (descent_of g site) x y) (cell_in old x y)
-    (λ c e. painted_is old.rects g site seen way ink (cell_in old) x y c stands is from
-    (has_region old x y c e))
+    ∙ one_cell (rule x y) (p x y) (at x y) (cell_in old x y)
+    (λ c e. due x y c (has_region old x y c e))
+
+pub laid_painted : (g : given.Reach) (site : Site) (seen : Reach) (ink : Ink) (old new : Spans)
+    → IsSeenAs g seen → IsSite g site
+    → IsPainted (laid ink g.states.now.top.state g.window site.origin)
+    (may_draw (descent_of g site)) old new → (x y : ℤ) → cell_in new x y
+    ≡ option_map (painted_cell (region_has old.rects) seen ink (cell_in old) x y) (cell_in old x y)
+laid_painted g site seen ink old new stands is done =
+    by_cells (laid ink g.states.now.top.state g.window site.origin) (may_draw (descent_of g site))
+    (painted_cell (region_has old.rects) seen ink (cell_in old)) old new
+    (λ x y c. painted_is old.rects g site seen ink (cell_in old) x y c stands is) done
 
 pub mark_left : (s : State) (c : Cell) (o : Option Color) → (laid_on_cell s c o).dirty ≡ c.dirty
 mark_left s c None = refl

@@ -5,16 +5,17 @@ use Rattle.std.proofs.lemmas.Option.{none-some, same_Some}
 use Rattle.be_geom.specs.declared.point.Point.{Point}
 use Rattle.be_geom.specs.declared.rect.Rect.{Rect}
 use Rattle.be_geom.specs.Places.{at_pixel}
-use Rattle.be_state.specs.Stacks.{Stack}
+use Rattle.be_state.specs.Stacks.{Stack, clip_has}
 use Rattle.be_views.specs.Trees.{Tree}
 use Rattle.be_views.specs.Places.{pair_of}
 use Rattle.be_paint.specs.Reach.{Reach, session_has}
 use Rattle.be_region.specs.Sessions.{SameSession}
-use Rattle.be_paint.specs.Seen.{IsSeenAs, IsSite, has_session}
+use Rattle.be_paint.specs.Seen.{IsSeenAs, IsSite}
 use Rattle.be_paint.specs.declared.reach.Reach as given
 use Rattle.be_paint.specs.declared.reach.Site.{Site}
 
-pub session_same : (o : Option (List Rect)) (s : Option (List Point)) → SameSession o s → (x y : ℤ) → has_session o x y ≡ session_has s (at_pixel x y)
+pub session_same : (o : Option (List Rect)) (s : Option (List Point)) → SameSession o s
+    → (x y : ℤ) → clip_has o x y ≡ session_has s (at_pixel x y)
 session_same (Some rects) (Some pixels) h x y = h x y
 session_same (Some rects) None h x y = absurd h
 session_same None (Some pixels) h x y = absurd h
@@ -31,11 +32,11 @@ seen_as F seen w p t v st hw hp ht hv hs =
 
 -- what the code's reach stands for, where the view lies at a site
 abbrev pub seen_on : given.Reach → Site → Option (List Point) → Reach
-seen_on g site session = record { window = g.window; place = at_pixel site.view.x site.view.y; tree = g.tree.now; view = g.view; stack = g.states.now; session = session }
+seen_on g site session = record { window = g.window; place = at_pixel site.view.right site.view.down; tree = g.tree.now; view = g.view; stack = g.states.now; session = session }
 
 pub seen_at : {A : Type 0} (F : Reach → A) (g : given.Reach) (site : Site) (seen : Reach) → IsSeenAs g seen → IsSite g site → F seen ≡ F (seen_on g site seen.session)
 seen_at F g site seen h is =
-    seen_as F seen g.window (at_pixel site.view.x site.view.y) g.tree.now g.view g.states.now h.window (same_Some seen.place (at_pixel site.view.x site.view.y) (sym h.place ∙ is.place)) h.tree h.view h.stack
+    seen_as F seen g.window (at_pixel site.view.right site.view.down) g.tree.now g.view g.states.now h.window (same_Some seen.place (at_pixel site.view.right site.view.down) (sym h.place ∙ is.place)) h.tree h.view h.stack
 
 -- a place as a pair
 pub place_seen : (x y : ℤ) (o : Option Point) (p : Point) → Some (x, y) ≡ option_map pair_of o → o ≡ Some p → p ≡ at_pixel x y

@@ -1,9 +1,10 @@
 -- In which colours pixels of the screen are newly exposed where a view is invalidated (this
 -- project's own).
-use Rattle.std.specs.Prelude.{ℕ, ℤ, List, Option, Some, None, slice_get, if◌then◌else◌}
-use Rattle.be_geom.specs.declared.rect.Rect.{Rect}
+use Rattle.std.specs.Prelude.{ℕ, Bool, false, nat_lt, List, Option, Some, None, slice_get}
+use Rattle.std.specs.Prelude.{if◌then◌else◌}
 use Rattle.be_color.specs.declared.colors.Color.{Color}
-use Rattle.be_region.specs.Regions.{region_has}
+use Rattle.be_span.specs.Cells.{exposed_as}
+use Rattle.be_span.specs.Painting.{Rule}
 use Rattle.be_views.specs.Trees.{Tree, is_at_or_below}
 use Rattle.be_paint.specs.Seen.{view_on}
 use Rattle.be_paint.specs.declared.reach.Reach.{Reach}
@@ -13,10 +14,12 @@ abbrev pub color_below : Tree → ℕ → List Color → Option ℕ → Option C
 color_below tree v colors (Some u) = if is_at_or_below tree v u then slice_get colors u else None
 color_below tree v colors None = None
 
--- the colour of the view at a pixel that the window owns, by its region, where that is this view or
--- lies in it
-abbrev pub exposed_color : List Rect → Reach → List Color → ℤ → ℤ → Option Color
-exposed_color rects given colors x y =
-    if region_has rects x y
-    then color_below given.tree.now given.view colors (view_on given x y)
-    else None
+-- a pixel is newly exposed in the colour of the view at it
+abbrev pub exposed_by : Reach → List Color → Rule
+exposed_by given colors x y =
+    exposed_as (color_below given.tree.now given.view colors (view_on given x y))
+
+-- there is a view, and its number is below this one
+abbrev pub is_before : ℕ → Option ℕ → Bool
+is_before n (Some u) = nat_lt u n
+is_before n None = false

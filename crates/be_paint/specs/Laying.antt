@@ -34,7 +34,7 @@ descent_of g site = record {
   tree = g.tree;
   view = g.view;
   states = g.states;
-  corner = record { right = g.window.x +ℤ site.view.x; down = g.window.y +ℤ site.view.y };
+  corner = record { right = g.window.x +ℤ site.view.right; down = g.window.y +ℤ site.view.down };
   session = g.session;
 }
 

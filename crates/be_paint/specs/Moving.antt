@@ -1,35 +1,41 @@
--- What a copy makes of the cells of a row (this project's own).
-use Rattle.std.specs.Prelude.{ℤ, ◌-ℤ◌, List, Option, if◌then◌else◌}
-use Rattle.be_geom.specs.declared.rect.Rect.{Rect}
+-- What a copy makes of a pixel of the screen, as it is found (this project's own).
+use Rattle.std.specs.Prelude.{ℤ, ◌-ℤ◌, Bool, ◌&&◌, not, List, Some, if◌then◌else◌, option_map}
 use Rattle.be_color.specs.declared.colors.Color.{Color}
-use Rattle.be_span.specs.declared.Cell.{Cell}
-use Rattle.be_span.specs.Cells.{Lookup, colored_as, exposed_cell}
-use Rattle.be_geom.specs.Places.{IsNear}
-use Rattle.be_paint.specs.Seen.{is_own, may_draw, IsPlace}
-use Rattle.be_paint.specs.declared.copying.Change.{Change}
-use Rattle.be_paint.specs.declared.copying.Change.TheVariants.{Stay, Expose, Copy}
-use Rattle.be_paint.specs.declared.copying.Copying.{Copying}
+use Rattle.be_descent.specs.declared.nest.Limits.{Limits}
+use Rattle.be_descent.specs.declared.reach.Reach.{Reach}
+use Rattle.be_descent.specs.declared.reading.Source.{Source}
+use Rattle.be_descent.specs.declared.way.Way.{Way}
+use Rattle.be_descent.specs.Clips.{states_allow}
+use Rattle.be_descent.specs.Fronts.{shows}
+use Rattle.be_descent.specs.Pieces.{put_cell, read_cell}
+use Rattle.be_descent.specs.Places.{session_has}
+use Rattle.be_geom.specs.declared.rect.Rect.{Rect}
+use Rattle.be_region.specs.Regions.{region_has}
+use Rattle.be_span.specs.Cells.{colored_as, exposed_cell}
+use Rattle.be_span.specs.Painting.{Rule}
+use Rattle.be_span.specs.Spans.{Spans, cell_in}
 
--- what becomes of a pixel to which a copy goes: by whether the view may draw on it, and whether the
--- one from which the copy goes is the view's own
-abbrev pub change_at : List Rect → Copying → ℤ → ℤ → Change
-change_at rects d x y =
-    if may_draw rects d.reach.now d.view x y
-    then (if is_own rects d.reach.now (x -ℤ d.way.x) (y -ℤ d.way.y) then Copy else Expose)
-    else Stay
+-- the window owns a pixel, by its region, and the view is at it
+abbrev pub is_own : List Rect → Reach → ℤ → ℤ → Bool
+is_own rects reach x y =
+    region_has rects x y && shows reach.tree.now reach.view reach.window x y
 
--- its cell, from the old one of the pixel from which the copy goes
-abbrev pub changed_by : Change → Color → Option Cell → Cell → Cell
-changed_by Stay color old c = c
-changed_by Expose color old c = exposed_cell color c
-changed_by Copy color old c = colored_as old c
+-- by the old pixels: one gets the colour of the one from which the way goes to it, or is newly
+-- exposed where that isn't its view's own
+abbrev pub copied_by : Spans → Reach → Way → Color → Rule
+copied_by old reach way color x y c =
+    if is_own old.rects reach (x -ℤ way.right) (y -ℤ way.down)
+    then colored_as (cell_in old (x -ℤ way.right) (y -ℤ way.down)) c
+    else exposed_cell color c
 
--- a cell after a copy that goes to it, where the window owns the pixels of the region
-abbrev pub moved_cell : List Rect → Copying → Lookup → ℤ → ℤ → Cell → Cell
-moved_cell rects d old x y c =
-    changed_by (change_at rects d x y) d.color (old (x -ℤ d.way.x) (y -ℤ d.way.y)) c
+-- by what is read of the old pixels
+abbrev pub read_by : Spans → Source → Color → Rule
+read_by old source color x y c =
+    put_cell color (Some (read_cell old source (x -ℤ source.way.right) (y -ℤ source.way.down))) c
 
--- the view is as far from the window's left top as one can be, and the pixels go as far as from one
--- point to another
-abbrev pub IsMovable : Copying → Type 0
-IsMovable d = IsPlace d.view × (IsNear 2 d.way.x × IsNear 2 d.way.y)
+-- a pixel is in none of the frames, and every clip and the session have it
+abbrev pub is_within : Limits → ℤ → ℤ → Bool
+is_within limits x y =
+    not (region_has limits.frames.now x y)
+    && (states_allow limits.states.now limits.corner x y
+    && session_has (option_map (λ r. r.now) limits.session) limits.window x y)

@@ -5,15 +5,15 @@ ghost use Rattle.be_descent.specs.Inks.{shape_has};
 ghost use Rattle.be_span.specs.Painting.{IsPainted};
 ghost use Rattle.be_geom.specs.Places.{IsNear};
 ghost use Rattle.be_paint.specs.Inks.{painted_cell};
-ghost use Rattle.be_paint.specs.Laying.{brush_of, descent_of, ink_of, laid};
+ghost use Rattle.be_paint.specs.Laying.{brush_of, ink_of, laid};
 ghost use Rattle.be_paint.specs.Reach as reaches;
-ghost use Rattle.be_paint.specs.Seen.{IsPlace, IsSeenAs};
+ghost use Rattle.be_paint.specs.Seen.{IsSeenAs};
 ghost use Rattle.be_region.specs.Regions.{region_has};
 ghost use Rattle.be_span.specs.Slices.{painted, pattern_color};
 ghost use Rattle.be_span.specs.Spans.{cell_in};
 
 use crate::ink::Ink;
-use crate::reach::{Reach, Site};
+use crate::reach::Reach;
 use crate::texts::{Text, paint_text};
 use be_descent::{Coat, Image, Way, paint_bands, paint_image, paint_line};
 use be_shape::Raster;
@@ -35,38 +35,10 @@ pub fn paint(spans: &mut SpanBuf, reach: &Reach<'_>, ink: &Ink<'_>)
     let Some(site) = reach.site() else {
         return;
     };
-    let way = Way {
-        right: site.origin.x,
-        down: site.origin.y,
-    };
     spans.whole();
-    paint_ink(
-        spans,
-        ink,
-        way,
-        reach.states.top(),
-        &descent_of(reach, &site),
-    );
+    let state = reach.states.top();
+    paint_ink(spans, ink, site.origin, state, &reach.descent(&site));
     spans.whole();
-}
-
-/// Where the view may draw, as a descent asks for it.
-fn descent_of<'a>(reach: &Reach<'a>, site: &Site) -> be_descent::Reach<'a>
-    requires { IsPlace site.now.view }
-    ensures reach { result ≡ descent_of reach.now site.now }
-    ensures near { IsNear 64 result.corner.right × IsNear 64 result.corner.down }
-{
-    be_descent::Reach {
-        window: reach.window,
-        tree: reach.tree,
-        view: reach.view,
-        states: reach.states,
-        corner: Way {
-            right: i32::from(reach.window.x) + site.view.x,
-            down: i32::from(reach.window.y) + site.view.y,
-        },
-        session: reach.session,
-    }
 }
 
 /// Draws an ink of a state, whose drawing coordinates begin that way on the screen.

@@ -87,6 +87,16 @@ block_painted rule at old new r end same within is = record {
   ];
 }
 
+-- each of its pixels
+pub rect_painted : (rule : Rule) (old new : Spans) (r : Rect) (end : ℤ) → new.rects ≡ old.rects → ((x y : ℤ) → rect_has r x y ≡ true → y <ℤ end) → AreChangedTo rule old new r end → IsPainted rule (rect_has r) old new
+rect_painted rule old new r end same within is = record {
+  region = same;
+  cells = λ x y. elim (true_or_false (rect_has r x y)) [
+    | inl h ↦ is.inside x y h (within x y h) ∙ sym (ap (λ b. cond b (option_map (rule x y) (cell_in old x y)) (cell_in old x y)) h)
+    | inr h ↦ is.beside x y h ∙ sym (ap (λ b. cond b (option_map (rule x y) (cell_in old x y)) (cell_in old x y)) h)
+  ];
+}
+
 -- a row further down
 pub place_down : (r : Rect) (x y : ℤ) → r.top ≤ℤ y → place_in r x (y +ℤ pos 1) ≡ place_in r x y + width_of r
 unfolding place_in

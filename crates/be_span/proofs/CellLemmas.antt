@@ -16,7 +16,6 @@ use Rattle.be_geom.specs.declared.rect.Rect.{Rect}
 use Rattle.be_color.specs.declared.colors.Rgb.{Rgb}
 use Rattle.be_region.specs.Regions.{region_has}
 use Rattle.be_span.specs.declared.Cell.{Cell}
-use Rattle.be_span.specs.Cells.{colored_as}
 use Rattle.be_span.specs.Spans.{Spans, pixels_of, place_of, cell_in, black_cell, clean_cell}
 use Rattle.be_span.specs.Runs.{IsRunFrom, HasRun, IsBeside}
 use Rattle.be_span.proofs.PlaceLemmas.{place_none, place_found, place_has, place_below, place_same}
@@ -93,6 +92,10 @@ cell_read rs cells start len x y k run less = ap (option_and_then (slice_get cel
 -- the n pixels from (x, y) on to the right have their cells side by side
 abbrev pub StandAt : List Rect → ℕ → ℤ → ℤ → ℕ → Type 0
 StandAt rs start x y n = (k : ℕ) → k < n → place_of rs (x +ℤ pos k) y ≡ Some (start + k)
+
+pub stood_cell : (rs : List Rect) (cells : List Cell) (start n : ℕ) (x y : ℤ) (k : ℕ) → StandAt rs start x y n → k < n → cell_in (spans rs cells) (x +ℤ pos k) y ≡ slice_get cells (start + k)
+unfolding cell_in
+stood_cell rs cells start n x y k places less = ap (option_and_then (slice_get cells)) (places k less)
 
 -- each of these changed
 pub changed_cell_in : (rs : List Rect) (old new : List Cell) (f : Cell → Cell) (start n : ℕ) (x y : ℤ) (k : ℕ) → StandAt rs start x y n → slice_get new (start + k) ≡ option_map f (slice_get old (start + k)) → k < n → cell_in (spans rs new) (x +ℤ pos k) y ≡ option_map f (cell_in (spans rs old) (x +ℤ pos k) y)
@@ -181,13 +184,6 @@ pub mapped_cells_in : (rs : List Rect) (old new : List Cell) (f : Cell → Cell)
 mapped_cells_in rs old new f start len n x y k run has e less =
     let few = run_long rs start len n x y run has in
     changed_cell_in rs old new f start n x y k (λ j low. run.places j (omega arith)) e less
-
--- a row with the colours of another
-pub copied_cells_in : (rs : List Rect) (old new : List Cell) (start len from from_len n : ℕ) (x y from_x from_y : ℤ) (k : ℕ) → IsRunFrom rs start len x y → IsRunFrom rs from from_len from_x from_y → HasRun rs x y n → HasRun rs from_x from_y n → slice_get new (start + k) ≡ option_map (colored_as (slice_get old (from + k))) (slice_get old (start + k)) → k < n → cell_in (spans rs new) (x +ℤ pos k) y ≡ option_map (colored_as (cell_in (spans rs old) (from_x +ℤ pos k) from_y)) (cell_in (spans rs old) (x +ℤ pos k) y)
-copied_cells_in rs old new start len from from_len n x y from_x from_y k run source has there e less =
-    let few = run_long rs from from_len n from_x from_y source there in
-    mapped_cells_in rs old new (colored_as (slice_get old (from + k))) start len n x y k run has e less
-    ∙ ap (λ o. option_map (colored_as o) (cell_in (spans rs old) (x +ℤ pos k) y)) (sym (cell_read rs old from from_len from_x from_y k source (omega arith)))
 
 -- ---- cells that are all the same
 

@@ -7,7 +7,7 @@ pub mod LaidLemmas
 pub mod MarkLemmas
 pub mod GatherLemmas
 pub mod ExposeLemmas
-pub mod CopyLemmas
 pub mod MaskLemmas
 pub mod BlockLemmas
 pub mod EachLemmas
+pub mod PieceLemmas

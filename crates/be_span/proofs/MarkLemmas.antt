@@ -26,7 +26,7 @@ no_mark true e = absurd (omega arith)
 no_mark false e = refl
 
 -- where none is dirty, no cell is
-slice_clean : (cells : List Cell) (n : ℕ) → count_by (λ c. c.dirty) cells ≡ 0 → is_dirty (slice_get cells n) ≡ false
+pub slice_clean : (cells : List Cell) (n : ℕ) → count_by (λ c. c.dirty) cells ≡ 0 → is_dirty (slice_get cells n) ≡ false
 slice_clean [] n e = refl
 slice_clean (c ∷ cells) zero e = no_mark c.dirty (let sum = sum_by-cons mark_of c cells in omega arith)
 slice_clean (c ∷ cells) (suc n) e = slice_clean cells n (let sum = sum_by-cons mark_of c cells in omega arith)

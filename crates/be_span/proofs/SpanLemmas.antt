@@ -20,13 +20,13 @@ pub record IsRowIn (r : Rect) (x y : ℤ) (n : ℕ) : Type 0 where
   pub top : r.top ≤ℤ y
   pub bottom : y ≤ℤ r.bottom
 
-inside : (r : Rect) (x y : ℤ) (n k : ℕ) → IsRowIn r x y n → k < n → IsIn r (x +ℤ pos k) y
+pub inside : (r : Rect) (x y : ℤ) (n k : ℕ) → IsRowIn r x y n → k < n → IsIn r (x +ℤ pos k) y
 inside r x y n k row less =
     let left = row.left in
     let right = row.right in
     record { left = omega (arith, ints); right = omega (arith, ints); top = row.top; bottom = row.bottom }
 
-first_in : (r : Rect) (x y : ℤ) (n k : ℕ) → IsRowIn r x y n → k < n → IsIn r x y
+pub first_in : (r : Rect) (x y : ℤ) (n k : ℕ) → IsRowIn r x y n → k < n → IsIn r x y
 first_in r x y n k row less =
     let left = row.left in
     let right = row.right in

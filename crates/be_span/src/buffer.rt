@@ -1,22 +1,22 @@
-ghost use Rattle.std.specs.Prelude.{◌≡◌, ◌<◌, ◌↔◌, ℕ, ℤ, pos, ◌+ℤ◌, ◌-ℤ◌, ◌≤ℤ◌, true, false, None};
-ghost use Rattle.std.specs.Prelude.{Some, IfOk, IfNone, IfSome, IsSome, IsTrue, All, length};
+ghost use Rattle.std.specs.Prelude.{◌≡◌, ◌<◌, ◌↔◌, ℕ, ℤ, pos, ◌+ℤ◌, ◌≤ℤ◌, true, false, None};
+ghost use Rattle.std.specs.Prelude.{Some, IfOk, IsSome, IsTrue, All, length, take};
 ghost use Rattle.std.specs.Prelude.{slice_get, count_by, ◌+◌, ◌^◌, ◌&&◌, if◌then◌else◌};
 ghost use Rattle.std.specs.Option.{option_map};
 ghost use Rattle.be_geom.specs.Rects.{rect_has};
 ghost use Rattle.be_region.specs.Regions.{region_has};
 ghost use Rattle.be_region.specs.Bands.{AreBands};
-ghost use Rattle.be_span.specs.Cells.{unmarked, exposed_cell, colored_as};
+ghost use Rattle.be_span.specs.Cells.{unmarked, exposed_cell};
 ghost use Rattle.be_span.specs.Painting.{changed, IsPainted};
 ghost use Rattle.be_span.specs.Runs.{AreRows, HasRun, IsBeside, IsInside, IsSpanOf};
 ghost use Rattle.be_span.specs.Spans.{cell_in, is_dirty, black_cell, clean_cell, pixels_of};
 ghost use Rattle.be_span.specs.Spans.{area_of, place_in};
 
 use crate::Cell;
-use crate::copy::copy_part;
+use crate::alter::{Alter, alter_rows};
 use crate::expose::expose_part;
-use crate::paint::{Paint, paint_rows};
+use crate::paint::{Kept, Paint};
 use crate::places::{cell_at, run_from, starts_of};
-use crate::rows::{dirty_among, dirty_of, overwrite, paint_part, unmark_all};
+use crate::rows::{alter_part, dirty_among, dirty_of, overwrite, unmark_all};
 use crate::span::Span;
 use be_color::{Color, Rgb};
 use be_geom::{NoMemory, Rect};
@@ -228,6 +228,7 @@ impl SpanBuf {
         requires { place < length self.now.rects }
         ensures span { IsSpanOf self.now.rects result }
         ensures rect { slice_get self.now.rects place ≡ Some result.rect }
+        ensures start { result.start ≡ pixels_of (take place self.now.rects) }
     {
         let rect = self.region.rect_at(place).unwrap();
         let start = self.starts[place];
@@ -242,7 +243,19 @@ impl SpanBuf {
         ensures { IsPainted (P.rule paint.now) (λ x y. rect_has rect x y && P.at paint.now x y)
             self.old self.new }
     {
-        paint_rows(self, span, rect, paint);
+        self.alter(span, rect, &Kept { paint });
+    }
+
+    /// Alters the pixels of a rectangle, all of them in this span. It takes no search.
+    #[inline(always)]
+    pub fn alter<A: Alter>(&mut self, span: Span, rect: Rect, alter: &A)
+        requires span { IsSpanOf self.old.rects span }
+        requires inside { IsInside rect span.rect }
+        requires known { (x y : ℤ) → rect_has rect x y ≡ true → A.knows alter.now x y ≡ true }
+        ensures { IsPainted (A.rule alter.now) (λ x y. rect_has rect x y && A.at alter.now x y)
+            self.old self.new }
+    {
+        alter_rows(self, span, rect, alter);
     }
 
     /// Where the cell of a pixel stands, which is in this span.
@@ -257,18 +270,35 @@ impl SpanBuf {
         cell_at(span.rect, span.start, x, y)
     }
 
-    /// Paints the `count` pixels from (x, y) on to the right, all of them in this span, whose cells
+    /// The cells of the `count` pixels from (x, y) on to the right, all of them in this span. It
+    /// takes no search.
+    #[inline(always)]
+    pub fn cells_in(&self, span: Span, x: i32, y: i32, count: usize) -> &[Cell]
+        requires some { 0 < count }
+        requires span { IsSpanOf self.now.rects span }
+        requires left { span.rect.left ≤ℤ x }
+        requires right { (x +ℤ pos count) ≤ℤ (span.rect.right +ℤ pos 1) }
+        requires top { span.rect.top ≤ℤ y }
+        requires bottom { y ≤ℤ span.rect.bottom }
+        ensures len { length result.now ≡ count }
+        ensures cells { (k : ℕ) → k < count
+            → cell_in self.now (x +ℤ pos k) y ≡ slice_get result.now k }
+    {
+        let start = self.place_in(span, x, y);
+        &self.cells[start..start + count]
+    }
+
+    /// Alters the `count` pixels from (x, y) on to the right, all of them in this span, whose cells
     /// begin at a place.
     #[inline(always)]
-    pub(crate) fn paint_run<P: Paint>(
+    pub(crate) fn alter_run<A: Alter>(
         &mut self,
         span: Span,
         start: usize,
         count: usize,
         x: i32,
         y: i32,
-        paint: &P,
-        clean: bool,
+        alter: &A,
     )
         requires span { IsSpanOf self.old.rects span }
         requires left { span.rect.left ≤ℤ x }
@@ -276,18 +306,16 @@ impl SpanBuf {
         requires top { span.rect.top ≤ℤ y }
         requires bottom { y ≤ℤ span.rect.bottom }
         requires start { start ≡ span.start + place_in span.rect x y }
-        requires clean { clean ≡ true → count_by (λ c. c.dirty) self.old.cells ≡ 0 }
+        requires known { (k : ℕ) → k < count → A.knows alter.now (x +ℤ pos k) y ≡ true }
         ensures region { self.new.rects ≡ self.old.rects }
-        ensures painted { (k : ℕ) → k < count → cell_in self.new (x +ℤ pos k) y
-            ≡ option_map (changed (P.rule paint.now) (P.at paint.now) (x +ℤ pos k) y)
+        ensures altered { (k : ℕ) → k < count → cell_in self.new (x +ℤ pos k) y
+            ≡ option_map (changed (A.rule alter.now) (A.at alter.now) (x +ℤ pos k) y)
             (cell_in self.old (x +ℤ pos k) y) }
         ensures others { (z w : ℤ) → IsBeside x y count z w
             → cell_in self.new z w ≡ cell_in self.old z w }
-        ensures marks { count_by (λ c. c.dirty) self.new.cells
-            ≡ count_by (λ c. c.dirty) self.old.cells }
     {
         let cells = &mut self.cells;
-        paint_part(cells, start, count, x, y, paint, clean);
+        self.dirty = alter_part(cells, start, count, x, y, alter, self.dirty);
     }
 
     /// Exposes the `count` pixels from (x, y) on to the right: each gets the colour, or keeps its
@@ -304,29 +332,6 @@ impl SpanBuf {
             return;
         };
         self.dirty = expose_part(&mut self.cells, run.start, count, color, self.dirty);
-    }
-
-    /// Gives the `count` pixels from (x, y) on to the right the colours that those from
-    /// (from_x, from_y) on have, which may be some of the same. Their marks stay.
-    pub fn copy_row(&mut self, x: i32, y: i32, count: usize, from_x: i32, from_y: i32)
-        requires to { HasRun self.old.rects x y count }
-        requires from { HasRun self.old.rects from_x from_y count }
-        ensures region { self.new.rects ≡ self.old.rects }
-        ensures copied { (k : ℕ) → k < count → cell_in self.new (x +ℤ pos k) y
-            ≡ option_map (colored_as (cell_in self.old (from_x +ℤ pos k) from_y))
-            (cell_in self.old (x +ℤ pos k) y) }
-        ensures others { (z w : ℤ) → IsBeside x y count z w
-            → cell_in self.new z w ≡ cell_in self.old z w }
-        ensures marks { count_by (λ c. c.dirty) self.new.cells
-            ≡ count_by (λ c. c.dirty) self.old.cells }
-    {
-        let Some(target) = run_from(&self.region, &self.starts, x, y) else {
-            return;
-        };
-        let Some(source) = run_from(&self.region, &self.starts, from_x, from_y) else {
-            return;
-        };
-        copy_part(&mut self.cells, source.start, target.start, count);
     }
 }
 

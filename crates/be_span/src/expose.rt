@@ -1,11 +1,34 @@
-ghost use Rattle.std.specs.Prelude.{◌≡◌, ◌<◌, ◌≤◌, ◌+◌, ◌⊎◌, ℕ, length, map, slice_get, count_by};
+ghost use Rattle.std.specs.Prelude.{◌≡◌, ◌<◌, ◌≤◌, ◌+◌, ◌⊎◌, ℕ, true, length, map, slice_get};
+ghost use Rattle.std.specs.Prelude.{count_by};
 ghost use Rattle.std.specs.Option.{option_map};
 ghost use Rattle.be_color.specs.declared.colors.Color.TheVariants.{Clear};
 ghost use Rattle.be_span.specs.Cells.{exposed_cell};
 
 use crate::Cell;
+use crate::alter::Alter;
 use crate::rows::dirty_of;
 use be_color::Color;
+
+/// Each pixel gets a colour, or keeps its own where that is transparent, and waits to be drawn.
+#[derive(Clone, Copy, Debug, PartialEq, Eq)]
+pub struct Expose {
+    pub color: Color,
+}
+
+impl Alter for Expose {
+    ghost rule = { λ s x y. exposed_cell s.color };
+
+    ghost at = { λ s x y. true };
+
+    ghost knows = { λ s x y. true };
+
+    #[inline(always)]
+    fn alter(&self, cells: &mut [Cell], _x: i32, _y: i32, dirty: usize) -> usize {
+        let lost = dirty_of(cells, dirty);
+        expose_all(cells, self.color);
+        dirty - lost + cells.len()
+    }
+}
 
 /// Exposes `count` cells from `start` on. How many of all are dirty is told and given back.
 pub(crate) fn expose_part(

@@ -1,16 +1,10 @@
-ghost use Rattle.std.specs.Prelude.{◌≡◌, ℕ, ℤ, pos, ◌+ℤ◌, Bool, ◌&&◌, true, length, slice_get};
-ghost use Rattle.std.specs.Prelude.{count_by};
+ghost use Rattle.std.specs.Prelude.{◌≡◌, ℕ, ℤ, pos, ◌+ℤ◌, Bool, true, length, slice_get, count_by};
 ghost use Rattle.std.specs.Option.{option_map};
-ghost use Rattle.be_geom.specs.Rects.{rect_has};
 ghost use Rattle.be_span.specs.declared.Cell.{Cell};
-ghost use Rattle.be_span.specs.Painting.{changed, AreInRange, IsPainted};
-ghost use Rattle.be_span.specs.Runs.{IsInside, IsSpanOf};
+ghost use Rattle.be_span.specs.Painting.{changed, AreInRange};
 
 use crate::Cell;
-use crate::buffer::SpanBuf;
-use crate::places::width_of;
-use crate::span::Span;
-use be_geom::Rect;
+use crate::alter::Alter;
 
 /// What painting makes of pixels. The mark of each stays.
 pub trait Paint {
@@ -32,24 +26,22 @@ pub trait Paint {
             ≡ count_by (λ c. c.dirty) cells.old };
 }
 
-/// Paints the pixels of a rectangle, all of them in this span, row by row.
-#[inline(always)]
-pub(crate) fn paint_rows<P: Paint>(spans: &mut SpanBuf, span: Span, rect: Rect, paint: &P)
-    requires span { IsSpanOf spans.old.rects span }
-    requires inside { IsInside rect span.rect }
-    ensures { IsPainted (P.rule paint.now) (λ x y. rect_has rect x y && P.at paint.now x y)
-        spans.old spans.new }
-{
-    let clean = spans.is_clean();
-    let width = width_of(span.rect);
-    let count = width_of(rect);
-    let left = i32::from(rect.left);
-    let bottom = i32::from(rect.bottom);
-    let mut y = i32::from(rect.top);
-    let mut start = spans.place_in(span, left, y);
-    'rows: while y <= bottom {
-        spans.paint_run(span, start, count, left, y, paint, clean);
-        start += width;
-        y += 1;
+/// What is painted, as pixels are altered: no mark goes and none comes.
+#[derive(Drop)]
+pub(crate) struct Kept<'a, P> {
+    pub(crate) paint: &'a P,
+}
+
+impl<P: Paint> Alter for Kept<'_, P> {
+    ghost rule = { λ s. P.rule s.paint.now };
+
+    ghost at = { λ s. P.at s.paint.now };
+
+    ghost knows = { λ s x y. true };
+
+    #[inline(always)]
+    fn alter(&self, cells: &mut [Cell], x: i32, y: i32, dirty: usize) -> usize {
+        self.paint.paint(cells, x, y, dirty == 0);
+        dirty
     }
 }

@@ -91,7 +91,7 @@ pub(crate) fn height_of(rect: Rect) -> usize
 
 /// How many pixels there are.
 #[tactic(auto, unfolding(crate::specs::Spans::area_of))]
-fn area_of(rect: Rect) -> usize
+pub(crate) fn area_of(rect: Rect) -> usize
     requires across { rect.left ≤ℤ rect.right }
     requires down { rect.top ≤ℤ rect.bottom }
     ensures { result ≡ area_of rect }

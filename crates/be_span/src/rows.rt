@@ -5,6 +5,7 @@ ghost use Rattle.be_span.specs.Cells.{unmarked};
 ghost use Rattle.be_span.specs.Painting.{changed, AreInRange};
 
 use crate::Cell;
+use crate::alter::Alter;
 use crate::paint::Paint;
 
 /// Writes over the cells from `start` on, by a row of which `more` are dirty. How many of all are
@@ -57,6 +58,33 @@ pub fn paint_part<P: Paint>(
     paint.paint(&mut cells[start..start + count], x, y, clean);
 }
 
+/// Alters `count` cells from `start` on, those of the pixels from (x, y) on to the right. How many
+/// of all are dirty is told and given back.
+#[inline(always)]
+pub(crate) fn alter_part<A: Alter>(
+    cells: &mut [Cell],
+    start: usize,
+    count: usize,
+    x: i32,
+    y: i32,
+    alter: &A,
+    dirty: usize,
+) -> usize
+    requires fits { start + count ≤ length cells.old }
+    requires range { AreInRange x y count }
+    requires known { (k : ℕ) → k < count → A.knows alter.now (x +ℤ pos k) y ≡ true }
+    requires counted { dirty ≡ count_by (λ c. c.dirty) cells.old }
+    ensures len { length cells.new ≡ length cells.old }
+    ensures inside { (k : ℕ) → k < count → slice_get cells.new (start + k)
+        ≡ option_map (changed (A.rule alter.now) (A.at alter.now) (x +ℤ pos k) y)
+        (slice_get cells.old (start + k)) }
+    ensures others { (q : ℕ) → (q < start) ⊎ (start + count ≤ q)
+        → slice_get cells.new q ≡ slice_get cells.old q }
+    ensures counted { result ≡ count_by (λ c. c.dirty) cells.new }
+{
+    alter.alter(&mut cells[start..start + count], x, y, dirty)
+}
+
 /// How many of some cells are dirty, where so many of all are: if none is, no cell is looked at.
 pub(crate) fn dirty_of(some: &[Cell], dirty: usize) -> usize
     requires { dirty ≡ 0 → count_by (λ c. c.dirty) some.now ≡ 0 }
@@ -66,7 +94,7 @@ pub(crate) fn dirty_of(some: &[Cell], dirty: usize) -> usize
 }
 
 /// How many of the cells are dirty.
-pub(crate) fn dirty_among(cells: &[Cell]) -> usize
+pub fn dirty_among(cells: &[Cell]) -> usize
     ensures { result ≡ count_by (λ c. c.dirty) cells.now }
 {
     let mut count = 0;
@@ -77,7 +105,7 @@ pub(crate) fn dirty_among(cells: &[Cell]) -> usize
 }
 
 /// Takes the marks of all cells away.
-pub(crate) fn unmark_all(cells: &mut [Cell])
+pub fn unmark_all(cells: &mut [Cell])
     ensures { cells.new ≡ map unmarked cells.old }
 {
     for cell in cells.iter_mut() {

@@ -1,10 +1,12 @@
 -- Which views lie in which, and that the way down from a view ends in it.
-use Rattle.std.specs.Prelude.{option_and_then}
-use Rattle.std.proofs.Common.{◌≡◌, ℕ, ◌≤◌, ◌==◌, zero, suc, ℤ, ◌-ℤ◌, Bool, true, ◌⊎◌, inl, inr, Option, Some, None, arith, refl, sym, ap, ◌∙◌}
+use Rattle.std.specs.Prelude.{option_and_then, slice_get}
+use Rattle.std.proofs.Common.{◌≡◌, ℕ, ◌≤◌, ◌<◌, ◌==◌, zero, suc, ℤ, ◌-ℤ◌, Bool, true, false, if◌then◌else◌, ◌⊎◌, inl, inr, length, Option, Some, None, arith, refl, sym, ap, ◌∙◌}
 use Rattle.std.proofs.lemmas.Bool.{or_cases, or_left, or_right, eqb-true, eq-eqb, false≢true}
-use Rattle.std.proofs.lemmas.Option.{same_Some}
+use Rattle.std.proofs.lemmas.Option.{none-some, same_Some, slice_get_within}
+use Rattle.be_facts.proofs.Lists.{some_inner}
+use Rattle.be_geom.specs.Rects.{rect_has}
 use Rattle.be_views.specs.Trees.{View, Tree, parent_of, passes_parent, lies_within}
-use Rattle.be_views.specs.Pixels.{last_child_at, descended, view_below}
+use Rattle.be_views.specs.Pixels.{last_child_at, descended, view_at, view_below}
 use Rattle.be_views.specs.Whole.{AreParentsFirst}
 use Rattle.be_views.proofs.FrontLemmas.{IsChild, child_is}
 
@@ -77,3 +79,34 @@ ends_from n tree v x y (Some c) is inner =
 pub ends_within : (n : ℕ) (tree : Tree) (v : ℕ) (x y : ℤ) → lies_within n tree v (view_below n tree v x y) ≡ true
 ends_within zero tree v x y = within_self zero tree v
 ends_within (suc n) tree v x y = ends_from n tree v x y (last_child_at tree v x y) refl (λ w a b. ends_within n tree w a b)
+
+-- ---- views that are there
+
+-- a view that lies in another, or is it, is one of the tree
+lies_there : (n : ℕ) (tree : Tree) (v u : ℕ) → v < length tree
+    → lies_within n tree v u ≡ true → u < length tree
+lies_there n tree v u there lies =
+    elim (within_cases n tree v u lies) [
+      | inl same ↦ omega arith
+      | inr above ↦
+          let view =
+          some_inner (λ (w : View). w.parent) (slice_get tree u) above.1.0 above.1.1.0 in
+          slice_get_within tree u view.0 view.1
+    ]
+
+seen_by : (root : View) (tree : Tree) (x y : ℤ) (v : ℕ) (b : Bool)
+    → slice_get tree 0 ≡ Some root
+    → (if b then Some (view_below (length tree) tree 0 x y) else None) ≡ Some v → v < length tree
+seen_by root tree x y v true is at =
+    let same = same_Some (view_below (length tree) tree 0 x y) v at in
+    rw (← same) (lies_there (length tree) tree 0 (view_below (length tree) tree 0 x y)
+    (slice_get_within tree 0 root is) (ends_within (length tree) tree 0 x y))
+seen_by root tree x y v false is at = absurd (none-some v at)
+
+-- the view that is found at a pixel is one of the tree
+pub seen_there : (tree : Tree) (x y : ℤ) (v : ℕ) → view_at tree x y ≡ Some v → v < length tree
+unfolding view_at
+seen_there tree x y v at =
+    let root = some_inner (λ (root : View). if rect_has root.frame x y
+    then Some (view_below (length tree) tree 0 x y) else None) (slice_get tree 0) v at in
+    seen_by root.0 tree x y v (rect_has root.0.frame x y) root.1 root.2

@@ -1,7 +1,7 @@
 use Rattle.std.proofs.Common.{◌≤◌, ◌-◌, length}
 use Rattle.be_span.specs.Painting.{IsPainted}
 use Rattle.be_descent.proofs.PaintLemmas.{painted_to}
-use Rattle.be_descent.specs.declared.area.TheConstants.{HERE}
+use Rattle.be_descent.specs.declared.way.TheConstants.{HERE}
 use Rattle.be_descent.proofs.area.paint_area.Given as goal
 
 abbrev pub invariant-loop-found : goal.invariant-loop-found

@@ -1,5 +1,5 @@
 use Rattle.std.proofs.Common.{Bool, ◌≡◌, Decides, sym, subst}
-use Rattle.be_desk.proofs.SameLemmas.{rect_decides}
+use Rattle.be_geom.proofs.SameRects.{rect_decides}
 use Rattle.be_desk.proofs.altered.is_same.Goals as goal
 
 pub returns : goal.returns

@@ -1,17 +1,8 @@
-use Rattle.std.proofs.Common.{◌≡◌, pos, ◌+ℤ◌, ◌-ℤ◌, ◌≤ℤ◌}
-use Rattle.be_span.specs.Cells.{exposed_as}
-use Rattle.be_state.proofs.PartLemmas.{columns_after}
-use Rattle.be_paint.specs.Areas.{IsAreaChanged}
-use Rattle.be_paint.specs.Exposing.{exposed_color}
+use Rattle.be_span.specs.Painting.{IsPainted}
+use Rattle.be_paint.specs.Exposing.{exposed_by}
+use Rattle.be_paint.proofs.ExposingLemmas.{exposed_to}
 use Rattle.be_paint.proofs.invalidating.expose_area.Given as goal
 
-abbrev pub invariant-rows : goal.invariant-rows
-invariant-rows l = record {
-  from : l.fn.area.top ≤ℤ l.y;
-  to : l.y ≤ℤ (l.fn.area.bottom +ℤ pos 1);
-  region : l.spans.rects ≡ l.fn.spans.rects;
-  cells : IsAreaChanged (λ x y. exposed_as (exposed_color l.fn.spans.rects l.fn.exposure.reach.now l.fn.exposure.colors.now x y)) l.fn.spans l.spans (record l.fn.area { bottom = l.y -ℤ pos 1 });
-}
-
-abbrev pub decreases-rows : goal.decreases-rows
-decreases-rows l = columns_after l.y
+abbrev pub invariant-loop-view : goal.invariant-loop-view
+invariant-loop-view l =
+    IsPainted (exposed_by l.reach l.colors) (exposed_to l.reach l.area l.view) l.initial.spans l.spans

@@ -1,6 +1,6 @@
 use Rattle.std.proofs.Common.{◌≡◌, ◌+ℤ◌, rules, arith, SFits, w16, w32, ap}
 use Rattle.std.proofs.lemmas.Int.{to_z-of_z, ints}
-use Rattle.be_paint.proofs.StretchLemmas.{offset_fits, origin_fits}
+use Rattle.be_paint.proofs.FitLemmas.{offset_fits, origin_fits}
 use Rattle.be_paint.proofs.SeenLemmas.{place_is}
 use Rattle.be_paint.proofs.reach.Reach.site.Goals as goal
 

@@ -1,6 +1,0 @@
-use Rattle.std.proofs.Common.{inr, arith}
-use Rattle.std.proofs.lemmas.Int.{ints}
-use Rattle.be_paint.proofs.pixel.last_column.Goals as goal
-
-pub returns-then-last-end-clause-one : goal.returns-then-last-end-clause-one
-returns-then-last-end-clause-one c = inr (omega (arith, ints))
