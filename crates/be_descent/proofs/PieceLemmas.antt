@@ -186,51 +186,12 @@ none_read s source area begun region each none = record {
 
 -- ---- pixels that aren't
 
-nothing_twice : (a p q r : Bool) (old mid new : Option Cell)
-    → mid ≡ (if a && p then option_map (λ c. nothing) old else old)
-    → new ≡ (if a && q then option_map (λ c. nothing) mid else mid) → r ≡ (p || q)
-    → new ≡ (if a && r then option_map (λ c. nothing) old else old)
-nothing_twice true true true true old mid new m n e =
-    n ∙ ap (option_map (λ c. nothing)) m ∙ again old
-  where
-    again : (o : Option Cell) → option_map (λ c. nothing) (option_map (λ c. nothing) o)
-        ≡ option_map (λ c. nothing) o
-    again None = refl
-    again (Some c) = refl
-nothing_twice true true false true old mid new m n e = n ∙ m
-nothing_twice true false true true old mid new m n e = n ∙ ap (option_map (λ c. nothing)) m
-nothing_twice true false false false old mid new m n e = n ∙ m
-nothing_twice true true q false old mid new m n e = absurd (true≢false (sym e))
-nothing_twice true false true false old mid new m n e = absurd (true≢false (sym e))
-nothing_twice true false false true old mid new m n e = absurd (true≢false e)
-nothing_twice false p q r old mid new m n e = n ∙ m
-
 -- none is left out yet
 pub none_left : (way : Way) (area : Rect) (s : Spans)
     → IsPainted (λ x y c. nothing) (λ x y. rect_has area x y && lies_at [] way x y) s s
 none_left way area s =
     none_painted (λ x y c. nothing) (λ x y. rect_has area x y && lies_at [] way x y) s
     (λ x y. and_false (rect_has area x y))
-
--- one frame more is left out
-pub left_out : (frames : List Rect) (i : ℕ) (frame : Rect) (way : Way) (area : Rect)
-    (old mid new : Spans) → i < length frames → frame ≡ get_or frames i frame
-    → IsPainted (λ x y c. nothing) (λ x y. rect_has area x y && lies_at (take i frames) way x y)
-    old mid
-    → IsPainted (λ x y c. nothing) (λ x y. rect_has area x y && has_moved frame way x y) mid new
-    → IsPainted (λ x y c. nothing)
-    (λ x y. rect_has area x y && lies_at (take (i + 1) frames) way x y) old new
-left_out frames i frame way area old mid new less is first next = record {
-  region = next.region ∙ first.region;
-  cells = λ x y.
-      let u : ℤ = x -ℤ way.right in
-      let v : ℤ = y -ℤ way.down in
-      nothing_twice (rect_has area x y) (lies_at (take i frames) way x y)
-      (has_moved frame way x y) (lies_at (take (i + 1) frames) way x y) (cell_in old x y)
-      (cell_in mid x y) (cell_in new x y) (first.cells x y) (next.cells x y)
-      (has_more frames i frame u v less
-      ∙ ap (λ r. region_has (take i frames) u v || rect_has r u v) (sym is));
-}
 
 -- ---- runs that come from a span
 

@@ -1,6 +1,5 @@
-ghost use Rattle.std.specs.Prelude.{◌≡◌, Some, slice_get, take};
+ghost use Rattle.std.specs.Prelude.{◌≡◌, Some, slice_get};
 ghost use Rattle.be_geom.specs.Places.{IsNear};
-ghost use Rattle.be_span.specs.Spans.{pixels_of};
 
 use crate::way::Way;
 use be_geom::Rect;
@@ -19,6 +18,5 @@ pub(crate) struct Taken<'a> {
     ghost across: { IsNear 1 rect.left × IsNear 1 rect.right },
     ghost down: { IsNear 1 rect.top × IsNear 1 rect.bottom },
     ghost there: { slice_get spans.now.rects place ≡ Some span.rect },
-    ghost start: { span.start ≡ pixels_of (take place spans.now.rects) },
     ghost near: { IsNear 4 way.right × IsNear 4 way.down },
 }

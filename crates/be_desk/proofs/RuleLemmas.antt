@@ -1,5 +1,5 @@
 -- Cells changed by a rule, run by run, row by row and rectangle by rectangle.
-use Rattle.std.proofs.Common.{◌≡◌, ℕ, ◌+◌, ◌-◌, ◌<◌, ℤ, pos, ◌+ℤ◌, ◌-ℤ◌, ◌≤ℤ◌, ◌<ℤ◌, Bool, true, false, ◌||◌, ◌⊎◌, inl, inr, List, [], take, Option, Some, None, slice_get, cond, refl, sym, ap, ◌∙◌, subst, arith, add-one}
+use Rattle.std.proofs.Common.{◌≡◌, ℕ, ◌+◌, ◌-◌, ◌<◌, ℤ, pos, ◌+ℤ◌, ◌-ℤ◌, ◌≤ℤ◌, ◌<ℤ◌, ◌⊎◌, inl, inr, cond, refl, sym, ap, ◌∙◌, subst, arith}
 use borrow.Author.Differences.{up, down}
 use Rattle.std.specs.Option.{option_map}
 use Rattle.std.specs.Prelude.{unsigned_abs}
@@ -10,12 +10,10 @@ use Rattle.be_facts.proofs.Numbers.{unsigned_abs_is}
 use Rattle.be_geom.specs.declared.rect.Rect.{Rect}
 use Rattle.be_geom.specs.Rects.{rect_has}
 use Rattle.be_geom.proofs.RectLemmas.{out_of}
-use Rattle.be_region.specs.Regions.{region_has}
 use Rattle.be_span.specs.declared.Cell.{Cell}
 use Rattle.be_span.specs.Runs.{IsBeside}
 use Rattle.be_span.specs.Spans.{Spans, cell_in}
 use Rattle.be_span.proofs.GridLemmas.{IsIn, in_from}
-use Rattle.be_span.proofs.LaidLemmas.{has_more}
 use Rattle.be_span.proofs.CellLemmas.{same_map}
 use Rattle.be_span.specs.Painting.{Rule}
 use Rattle.be_desk.specs.Exposing.{IsRuledRow, IsRuledAbove}
@@ -136,21 +134,3 @@ above_all rule old new r end x y last h =
     outside (inr (inl s)) = inr (inl s)
     outside (inr (inr (inl s))) = inr (inr (inl s))
     outside (inr (inr (inr s))) = inr (inr (inr (omega (arith, ints))))
-
--- ---- all rectangles
-
-map_twice : (f : Cell → Cell) → ((c : Cell) → f (f c) ≡ f c) → (o : Option Cell) → option_map f (option_map f o) ≡ option_map f o
-map_twice f h None = refl
-map_twice f h (Some c) = ap Some (h c)
-
-step : (f : Cell → Cell) → ((c : Cell) → f (f c) ≡ f c) → (p q : Bool) (d now new : Option Cell) → now ≡ cond p (option_map f d) d → new ≡ cond q (option_map f now) now → new ≡ cond (p || q) (option_map f d) d
-step f h true true d now new e g = g ∙ ap (option_map f) e ∙ map_twice f h d
-step f h true false d now new e g = g ∙ e
-step f h false true d now new e g = g ∙ ap (option_map f) e
-step f h false false d now new e g = g ∙ e
-
--- one rectangle more, by a rule that makes nothing more of what it made
-pub all_more : (rule : Rule) (old now new : Spans) (rs : List Rect) (m : ℕ) (r : Rect) → ((x y : ℤ) (c : Cell) → rule x y (rule x y c) ≡ rule x y c) → slice_get rs m ≡ Some r → ((x y : ℤ) → cell_in now x y ≡ cond (region_has (take m rs) x y) (option_map (rule x y) (cell_in old x y)) (cell_in old x y)) → ((x y : ℤ) → cell_in new x y ≡ cond (rect_has r x y) (option_map (rule x y) (cell_in now x y)) (cell_in now x y)) → (x y : ℤ) → cell_in new x y ≡ cond (region_has (take (m + 1) rs) x y) (option_map (rule x y) (cell_in old x y)) (cell_in old x y)
-all_more rule old now new rs m r twice e so_far more x y =
-    step (rule x y) (twice x y) (region_has (take m rs) x y) (rect_has r x y) (cell_in old x y) (cell_in now x y) (cell_in new x y) (so_far x y) (more x y)
-    ∙ ap (λ b. cond b (option_map (rule x y) (cell_in old x y)) (cell_in old x y)) (sym (rw add-one (has_more rs m r x y e)))

@@ -1,5 +1,5 @@
--- The pixels of a rectangle, painted row by row.
-use Rattle.std.proofs.Common.{◌≡◌, ℕ, ◌+◌, ◌*◌, ◌<◌, ℤ, pos, ◌+ℤ◌, ◌-ℤ◌, ◌≤ℤ◌, ◌<ℤ◌, Bool, true, false, cond, inl, inr, Option, Some, None, refl, sym, ap, ◌∙◌, subst, arith}
+-- The pixels of a rectangle, gone through row by row, and those of a region, by rectangles.
+use Rattle.std.proofs.Common.{◌≡◌, ℕ, ◌+◌, ◌<◌, ℤ, pos, ◌+ℤ◌, ◌-ℤ◌, ◌≤ℤ◌, ◌<ℤ◌, Bool, true, false, ◌||◌, cond, inl, inr, List, take, slice_get, Option, Some, None, refl, sym, ap, ◌∙◌, subst, arith, add-one}
 use Rattle.std.specs.Prelude.{◌&&◌, unsigned_abs}
 use Rattle.std.specs.Option.{option_map}
 use Rattle.std.proofs.lemmas.Int.{ints, by_lt_z}
@@ -8,62 +8,115 @@ use Rattle.be_facts.proofs.Truths.{true_or_false}
 use Rattle.be_facts.proofs.Numbers.{unsigned_abs_is}
 use Rattle.be_geom.specs.declared.rect.Rect.{Rect}
 use Rattle.be_geom.specs.Rects.{rect_has}
+use Rattle.be_region.specs.Regions.{IsNotEmpty, region_has}
 use Rattle.be_span.specs.declared.Cell.{Cell}
 use Rattle.be_span.specs.Runs.{IsBeside}
-use Rattle.be_span.specs.Painting.{Rule, changed, IsPainted}
-use Rattle.be_span.specs.Spans.{Spans, cell_in, place_in, width_of}
-use Rattle.be_span.proofs.GridLemmas.{IsIn, in_from, has_from}
+use Rattle.be_span.specs.Painting.{Rule, changed}
+use Rattle.be_span.specs.Spans.{Spans, cell_in, height_of, width_of}
+use Rattle.be_span.proofs.GridLemmas.{IsIn, in_from, has_from, high_is, wide_is}
+use Rattle.be_span.proofs.LaidLemmas.{has_more}
+
+-- what a pixel has then, by what it had
+abbrev pub Becomes : Type 0
+Becomes = ℤ → ℤ → Option Cell → Option Cell
 
 -- ---- rows
 
--- the pixels of the rectangle's rows above one are changed, and all others are as they were
-pub record AreChangedTo (f : ℤ → ℤ → Cell → Cell) (old new : Spans) (r : Rect) (end : ℤ) : Type 0 where
-  pub inside : (x y : ℤ) → rect_has r x y ≡ true → y <ℤ end → cell_in new x y ≡ option_map (f x y) (cell_in old x y)
+-- the row of a rectangle that is so far from its top: its first pixel, how many it has, and how many
+-- rows there are
+pub record IsRowOf (r : Rect) (x y : ℤ) (row wide high : ℕ) : Type 0 where
+  pub across : x ≡ r.left
+  pub down : y ≡ r.top +ℤ pos row
+  pub long : pos wide ≡ r.right -ℤ r.left +ℤ pos 1
+  pub tall : pos high ≡ r.bottom -ℤ r.top +ℤ pos 1
+  pub less : row < high
+
+pub row_is : (r : Rect) (x y : ℤ) (row wide high : ℕ) → IsNotEmpty r → x ≡ r.left → y ≡ r.top +ℤ pos row → wide ≡ width_of r → high ≡ height_of r → row < high → IsRowOf r x y row wide high
+row_is r x y row wide high some across down w h less =
+    record { across = across; down = down; long = ap pos w ∙ wide_is r some.across; tall = ap pos h ∙ high_is r some.down; less = less }
+
+pub low_enough : (r : Rect) (row high : ℕ) → IsNotEmpty r → high ≡ height_of r → row < high → (r.top +ℤ pos row) ≤ℤ r.bottom
+low_enough r row high some h less = let tall = ap pos h ∙ high_is r some.down in omega (arith, ints)
+
+pub has_in_row : (r : Rect) (x y : ℤ) (row wide high k : ℕ) → IsRowOf r x y row wide high → k < wide → rect_has r (x +ℤ pos k) y ≡ true
+has_in_row r x y row wide high k is few =
+    let across = is.across in let down = is.down in let long = is.long in let tall = is.tall in let less = is.less in
+    has_from r (x +ℤ pos k) y record { left = omega (arith, ints); right = omega (arith, ints); top = omega (arith, ints); bottom = omega (arith, ints) }
+
+-- the pixels of the rectangle's rows above one are done, and all others are as they were
+pub record AreDoneTo (g : Becomes) (old new : Spans) (r : Rect) (end : ℤ) : Type 0 where
+  pub inside : (x y : ℤ) → rect_has r x y ≡ true → y <ℤ end → cell_in new x y ≡ g x y (cell_in old x y)
   pub below : (x y : ℤ) → end ≤ℤ y → cell_in new x y ≡ cell_in old x y
   pub beside : (x y : ℤ) → rect_has r x y ≡ false → cell_in new x y ≡ cell_in old x y
 
-pub none_changed : (f : ℤ → ℤ → Cell → Cell) (old : Spans) (r : Rect) (end : ℤ) → end ≡ r.top → AreChangedTo f old old r end
-none_changed f old r end e = record {
+pub none_done : (g : Becomes) (old : Spans) (r : Rect) → AreDoneTo g old old r (r.top +ℤ pos 0)
+none_done g old r = record {
   inside = λ x y has less. let top = (in_from r x y has).top in absurd (omega (arith, ints));
   below = λ x y h. refl;
   beside = λ x y h. refl;
 }
 
-pub row_changed : (f : ℤ → ℤ → Cell → Cell) (old mid new : Spans) (r : Rect) (count : ℕ) (left y next : ℤ) → r.left ≡ left → pos count ≡ r.right -ℤ r.left +ℤ pos 1 → r.top ≤ℤ y → y ≤ℤ r.bottom → next ≡ y +ℤ pos 1 → AreChangedTo f old mid r y → ((k : ℕ) → k < count → cell_in new (left +ℤ pos k) y ≡ option_map (f (left +ℤ pos k) y) (cell_in mid (left +ℤ pos k) y)) → ((z w : ℤ) → IsBeside left y count z w → cell_in new z w ≡ cell_in mid z w) → AreChangedTo f old new r next
-row_changed f old mid new r count left y next from wide top bottom step so_far changed others = record {
-  inside = λ x w has less.
+pub row_done : (g : Becomes) (old mid new : Spans) (r : Rect) (x y : ℤ) (row wide high : ℕ) → IsRowOf r x y row wide high → AreDoneTo g old mid r (r.top +ℤ pos row) → ((k : ℕ) → k < wide → cell_in new (x +ℤ pos k) y ≡ g (x +ℤ pos k) y (cell_in mid (x +ℤ pos k) y)) → ((z w : ℤ) → IsBeside x y wide z w → cell_in new z w ≡ cell_in mid z w) → AreDoneTo g old new r (r.top +ℤ pos (row + 1))
+row_done g old mid new r x y row wide high is so_far done others = record {
+  inside = λ z w has less.
       by_lt_z w y
-      (λ above. others x w (inl (λ (e : w ≡ y). omega (arith, ints))) ∙ so_far.inside x w has above)
-      (λ down. let same : y ≡ w = omega (arith, ints) in
-      let P : ℤ → Type 0 = λ v. cell_in new x v ≡ option_map (f x v) (cell_in old x v) in
-      subst P same (here x (in_from r x w has)));
-  below = λ x w low. others x w (inl (λ (e : w ≡ y). omega (arith, ints))) ∙ so_far.below x w (omega (arith, ints));
-  beside = λ x w out. others x w (apart x w out) ∙ so_far.beside x w out;
+      (λ above. others z w (inl (λ (e : w ≡ y). omega (arith, ints))) ∙ so_far.inside z w has (omega (arith, down, ints)))
+      (λ low. let same : y ≡ w = omega (arith, down, ints) in
+      let P : ℤ → Type 0 = λ v. cell_in new z v ≡ g z v (cell_in old z v) in
+      subst P same (here z (in_from r z w has)));
+  below = λ z w low. others z w (inl (λ (e : w ≡ y). omega (arith, down, ints))) ∙ so_far.below z w (omega (arith, ints));
+  beside = λ z w out. others z w (apart z w out) ∙ so_far.beside z w out;
 }
   where
-    here : (x : ℤ) {w : ℤ} → IsIn r x w → cell_in new x y ≡ option_map (f x y) (cell_in old x y)
-    here x inside =
+    down : y ≡ r.top +ℤ pos row
+    down = is.down
+
+    from : x ≡ r.left
+    from = is.across
+
+    long : pos wide ≡ r.right -ℤ r.left +ℤ pos 1
+    long = is.long
+
+    tall : pos high ≡ r.bottom -ℤ r.top +ℤ pos 1
+    tall = is.tall
+
+    few : row < high
+    few = is.less
+
+    here : (z : ℤ) {w : ℤ} → IsIn r z w → cell_in new z y ≡ g z y (cell_in old z y)
+    here z inside =
         let low = inside.left in
         let high = inside.right in
-        let k = unsigned_abs (x -ℤ left) in
-        let is : pos k ≡ x -ℤ left = unsigned_abs_is (x -ℤ left) (omega (arith, ints)) in
-        let at : left +ℤ pos k ≡ x = omega (arith, ints) in
-        let P : ℤ → Type 0 = λ z. cell_in new z y ≡ option_map (f z y) (cell_in mid z y) in
-        subst P at (changed k (omega (arith, ints))) ∙ ap (option_map (f x y)) (so_far.below x y (omega (arith, ints)))
+        let k = unsigned_abs (z -ℤ x) in
+        let far : pos k ≡ z -ℤ x = unsigned_abs_is (z -ℤ x) (omega (arith, from, ints)) in
+        let at : x +ℤ pos k ≡ z = omega (arith, ints) in
+        let P : ℤ → Type 0 = λ v. cell_in new v y ≡ g v y (cell_in mid v y) in
+        subst P at (done k (omega (arith, from, long, ints))) ∙ ap (g z y) (so_far.below z y (omega (arith, down, ints)))
 
-    apart : (x w : ℤ) → rect_has r x w ≡ false → IsBeside left y count x w
-    apart x w out =
+    apart : (z w : ℤ) → rect_has r z w ≡ false → IsBeside x y wide z w
+    apart z w out =
         by_lt_z w y
         (λ above. inl (λ (e : w ≡ y). omega (arith, ints)))
         (λ from_top. by_lt_z y w
         (λ below. inl (λ (e : w ≡ y). omega (arith, ints)))
-        (λ to_bottom. by_lt_z x left
+        (λ to_bottom. by_lt_z z x
         (λ before. inr (inl before))
-        (λ from_left. by_lt_z r.right x
-        (λ behind. inr (inr (omega (arith, ints))))
-        (λ to_right. absurd (true≢false (sym (has_from r x w record { left = omega (arith, ints); right = to_right; top = omega (arith, ints); bottom = omega (arith, ints) }) ∙ out))))))
+        (λ from_left. by_lt_z r.right z
+        (λ behind. inr (inr (omega (arith, from, long, ints))))
+        (λ to_right. absurd (true≢false (sym (has_from r z w record { left = omega (arith, from, ints); right = to_right; top = omega (arith, down, ints); bottom = omega (arith, down, tall, few, ints) }) ∙ out))))))
 
--- ---- the whole rectangle
+-- the whole rectangle
+pub all_done : (g : Becomes) (old new : Spans) (r : Rect) (row high : ℕ) → IsNotEmpty r → high ≡ height_of r → row ≡ high → AreDoneTo g old new r (r.top +ℤ pos row) → (x y : ℤ) → cell_in new x y ≡ cond (rect_has r x y) (g x y (cell_in old x y)) (cell_in old x y)
+all_done g old new r row high some h last is x y =
+    elim (true_or_false (rect_has r x y)) [
+      | inl has ↦
+          let tall = ap pos h ∙ high_is r some.down in
+          let low = (in_from r x y has).bottom in
+          is.inside x y has (omega (arith, ints)) ∙ sym (ap (λ b. cond b (g x y (cell_in old x y)) (cell_in old x y)) has)
+      | inr out ↦ is.beside x y out ∙ sym (ap (λ b. cond b (g x y (cell_in old x y)) (cell_in old x y)) out)
+    ]
+
+-- ---- cells that are changed where a test says so
 
 picked : (b : Bool) (c d : Cell) → Some (cond b c d) ≡ cond b (Some c) (Some d)
 picked true c d = refl
@@ -73,43 +126,31 @@ neither : (b : Bool) → let none : Option Cell = None in none ≡ cond b none n
 neither true = refl
 neither false = refl
 
--- a cell is changed, or stays
 chosen : (rule : Rule) (at : ℤ → ℤ → Bool) (x y : ℤ) (o : Option Cell) → option_map (changed rule at x y) o ≡ cond (at x y) (option_map (rule x y) o) o
 chosen rule at x y None = neither (at x y)
 chosen rule at x y (Some c) = picked (at x y) (rule x y c) c
 
-pub block_painted : (rule : Rule) (at : ℤ → ℤ → Bool) (old new : Spans) (r : Rect) (end : ℤ) → new.rects ≡ old.rects → ((x y : ℤ) → rect_has r x y ≡ true → y <ℤ end) → AreChangedTo (changed rule at) old new r end → IsPainted rule (λ x y. rect_has r x y && at x y) old new
-block_painted rule at old new r end same within is = record {
-  region = same;
-  cells = λ x y. elim (true_or_false (rect_has r x y)) [
-    | inl h ↦ is.inside x y h (within x y h) ∙ chosen rule at x y (cell_in old x y) ∙ sym (ap (λ b. cond (b && at x y) (option_map (rule x y) (cell_in old x y)) (cell_in old x y)) h)
-    | inr h ↦ is.beside x y h ∙ sym (ap (λ b. cond (b && at x y) (option_map (rule x y) (cell_in old x y)) (cell_in old x y)) h)
-  ];
-}
+both : (a b : Bool) (o p : Option Cell) → cond a (cond b o p) p ≡ cond (a && b) o p
+both true b o p = refl
+both false b o p = refl
 
--- each of its pixels
-pub rect_painted : (rule : Rule) (old new : Spans) (r : Rect) (end : ℤ) → new.rects ≡ old.rects → ((x y : ℤ) → rect_has r x y ≡ true → y <ℤ end) → AreChangedTo rule old new r end → IsPainted rule (rect_has r) old new
-rect_painted rule old new r end same within is = record {
-  region = same;
-  cells = λ x y. elim (true_or_false (rect_has r x y)) [
-    | inl h ↦ is.inside x y h (within x y h) ∙ sym (ap (λ b. cond b (option_map (rule x y) (cell_in old x y)) (cell_in old x y)) h)
-    | inr h ↦ is.beside x y h ∙ sym (ap (λ b. cond b (option_map (rule x y) (cell_in old x y)) (cell_in old x y)) h)
-  ];
-}
+pub changed_here : (rule : Rule) (at : ℤ → ℤ → Bool) (x y : ℤ) (has : Bool) (o : Option Cell) → cond has (option_map (changed rule at x y) o) o ≡ cond (has && at x y) (option_map (rule x y) o) o
+changed_here rule at x y has o = ap (λ p. cond has p o) (chosen rule at x y o) ∙ both has (at x y) (option_map (rule x y) o) o
 
--- a row further down
-pub place_down : (r : Rect) (x y : ℤ) → r.top ≤ℤ y → place_in r x (y +ℤ pos 1) ≡ place_in r x y + width_of r
-unfolding place_in
-place_down r x y below =
-    let here = unsigned_abs_is (y -ℤ r.top) (omega (arith, ints)) in
-    let next = unsigned_abs_is (y +ℤ pos 1 -ℤ r.top) (omega (arith, ints)) in
-    further (unsigned_abs (y -ℤ r.top)) (unsigned_abs (y +ℤ pos 1 -ℤ r.top)) (width_of r) (unsigned_abs (x -ℤ r.left)) (one_more _ _ here next)
-  where
-    one_more : (a b : ℕ) → pos a ≡ y -ℤ r.top → pos b ≡ y +ℤ pos 1 -ℤ r.top → b ≡ a + 1
-    one_more a b e f = omega (arith, ints)
+-- ---- all rectangles
 
-    mul-add-one : (a w : ℕ) → (a + 1) * w ≡ a * w + w
-    mul-add-one a w = omega arith
+step : (f : Option Cell → Option Cell) → ((o : Option Cell) → f (f o) ≡ f o) → (p q : Bool) (d now new : Option Cell) → now ≡ cond p (f d) d → new ≡ cond q (f now) now → new ≡ cond (p || q) (f d) d
+step f twice true true d now new e g = g ∙ ap f e ∙ twice d
+step f twice true false d now new e g = g ∙ e
+step f twice false true d now new e g = g ∙ ap f e
+step f twice false false d now new e g = g ∙ e
 
-    further : (a b w c : ℕ) → b ≡ a + 1 → b * w + c ≡ a * w + c + w
-    further a b w c e = let times = ap (λ n. n * w) e ∙ mul-add-one a w in omega arith
+-- one rectangle more, where nothing more is made of what was made
+pub all_more : (g : Becomes) (old now new : Spans) (rs : List Rect) (m : ℕ) (r : Rect) → ((x y : ℤ) (o : Option Cell) → g x y (g x y o) ≡ g x y o) → slice_get rs m ≡ Some r → ((x y : ℤ) → cell_in now x y ≡ cond (region_has (take m rs) x y) (g x y (cell_in old x y)) (cell_in old x y)) → ((x y : ℤ) → cell_in new x y ≡ cond (rect_has r x y) (g x y (cell_in now x y)) (cell_in now x y)) → (x y : ℤ) → cell_in new x y ≡ cond (region_has (take (m + 1) rs) x y) (g x y (cell_in old x y)) (cell_in old x y)
+all_more g old now new rs m r twice e so_far more x y =
+    step (g x y) (twice x y) (region_has (take m rs) x y) (rect_has r x y) (cell_in old x y) (cell_in now x y) (cell_in new x y) (so_far x y) (more x y)
+    ∙ ap (λ b. cond b (g x y (cell_in old x y)) (cell_in old x y)) (sym (rw add-one (has_more rs m r x y e)))
+
+pub map_twice : (f : Cell → Cell) → ((c : Cell) → f (f c) ≡ f c) → (o : Option Cell) → option_map f (option_map f o) ≡ option_map f o
+map_twice f h None = refl
+map_twice f h (Some c) = ap Some (h c)

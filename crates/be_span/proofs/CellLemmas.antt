@@ -1,5 +1,5 @@
 -- The cells of pixels, read and written side by side.
-use Rattle.std.proofs.Common.{◌≡◌, ℕ, zero, suc, ◌+◌, ◌-◌, ◌<◌, ◌≤◌, ℤ, pos, ◌+ℤ◌, true, false, ◌⊎◌, inl, inr, ◌↔◌, All, cond, List, [], ◌∷◌, ◌++◌, length, get_or, take, drop, slice_get, sum_by, count_by, Option, Some, None, refl, sym, ap, ◌∙◌, arith}
+use Rattle.std.proofs.Common.{◌≡◌, ℕ, zero, suc, ◌+◌, ◌-◌, ◌<◌, ◌≤◌, ℤ, pos, ◌+ℤ◌, true, false, ◌⊎◌, inl, inr, All, cond, List, [], ◌∷◌, ◌++◌, length, get_or, take, drop, slice_get, sum_by, count_by, Option, Some, None, refl, sym, ap, ◌∙◌, arith}
 use Rattle.std.specs.Prelude.{option_and_then}
 use Rattle.std.specs.Option.{option_map}
 use Rattle.std.proofs.lemmas.Int.{ints}
@@ -17,8 +17,9 @@ use Rattle.be_color.specs.declared.colors.Rgb.{Rgb}
 use Rattle.be_region.specs.Regions.{region_has}
 use Rattle.be_span.specs.declared.Cell.{Cell}
 use Rattle.be_span.specs.Spans.{Spans, pixels_of, place_of, cell_in, black_cell, clean_cell}
-use Rattle.be_span.specs.Runs.{IsRunFrom, HasRun, IsBeside}
-use Rattle.be_span.proofs.PlaceLemmas.{place_none, place_found, place_has, place_below, place_same}
+use Rattle.be_span.specs.Painting.{IsPartDone}
+use Rattle.be_span.specs.Runs.{HasRun, IsBeside}
+use Rattle.be_span.proofs.PlaceLemmas.{place_none, place_found, place_below, place_same}
 
 -- ---- parts of lists
 
@@ -76,6 +77,19 @@ pub part_length : {X : Type 0} (xs part : List X) (start len : ℕ) → part ≡
 part_length xs part start len e h =
     ap length e ∙ length-take (start + len - start) (drop start xs) ∙ (let l = length-drop start xs in omega arith)
 
+-- a part that was changed, in its place
+pub part_done : (f : ℕ → Cell → Cell) (start count : ℕ) (old part : List Cell) → start + count ≤ length old → length part ≡ length (take (start + count - start) (drop start old)) → ((k : ℕ) → slice_get part k ≡ option_map (f k) (slice_get (take (start + count - start) (drop start old)) k)) → IsPartDone f old (put_mid start (start + count - start) old part) start count
+part_done f start count old part fits long done =
+    let n = part_length old _ start count refl fits in
+    record {
+      inside = λ k less.
+          put_inside start (start + count - start) old part k (omega arith) (omega arith)
+          ∙ done k ∙ ap (option_map (f k)) (part_get old _ start count k refl less);
+      others = λ q beside.
+          let apart : (q < start) ⊎ (start + (start + count - start) ≤ q) = grind arith in
+          put_others start (start + count - start) old part q (omega arith) (omega arith) apart;
+    }
+
 -- ---- cells of pixels
 
 abbrev pub spans : List Rect → List Cell → Spans
@@ -84,10 +98,6 @@ spans rs cells = record { rects = rs; cells = cells }
 pub cell_none : (s : Spans) (x y : ℤ) → region_has s.rects x y ≡ false → cell_in s x y ≡ None
 unfolding cell_in
 cell_none s x y e = ap (option_and_then (slice_get s.cells)) (place_none s.rects x y e)
-
-pub cell_read : (rs : List Rect) (cells : List Cell) (start len : ℕ) (x y : ℤ) (k : ℕ) → IsRunFrom rs start len x y → k < len → cell_in (spans rs cells) (x +ℤ pos k) y ≡ slice_get cells (start + k)
-unfolding cell_in
-cell_read rs cells start len x y k run less = ap (option_and_then (slice_get cells)) (run.places k less)
 
 -- the n pixels from (x, y) on to the right have their cells side by side
 abbrev pub StandAt : List Rect → ℕ → ℤ → ℤ → ℕ → Type 0
@@ -103,10 +113,6 @@ unfolding cell_in
 changed_cell_in rs old new f start n x y k places e less =
     let at = places k less in
     ap (option_and_then (slice_get new)) at ∙ e ∙ ap (option_map f) (sym (ap (option_and_then (slice_get old)) at))
-
-pub run_long : (rs : List Rect) (start len n : ℕ) (x y : ℤ) → IsRunFrom rs start len x y → HasRun rs x y n → n ≤ len
-run_long rs start len n x y run has =
-    elim (cases_lt len n) [ inl h ↦ absurd (true≢false (sym (has len h) ∙ run.ends)) | inr h ↦ h ]
 
 -- a run that isn't empty has its first pixel
 pub no_run : (rs : List Rect) (x y : ℤ) (n k : ℕ) → region_has rs x y ≡ false → HasRun rs x y n → k < n → ⊥
@@ -135,55 +141,7 @@ stays_beside rs old new start n x y z w places same beside = at_place (place_of 
     at_place None e = ap (option_and_then (slice_get new)) e ∙ sym (ap (option_and_then (slice_get old)) e)
     at_place (Some q) e = ap (option_and_then (slice_get new)) e ∙ same q (apart q e) ∙ sym (ap (option_and_then (slice_get old)) e)
 
-pub cell_stays : (rs : List Rect) (old new : List Cell) (start len n : ℕ) (x y z w : ℤ) → IsRunFrom rs start len x y → n ≤ len → ((q : ℕ) → (q < start) ⊎ (start + n ≤ q) → slice_get new q ≡ slice_get old q) → IsBeside x y n z w → cell_in (spans rs new) z w ≡ cell_in (spans rs old) z w
-cell_stays rs old new start len n x y z w run few same beside =
-    stays_beside rs old new start n x y z w (λ k less. run.places k (omega arith)) same beside
-
 -- ---- rows of a buffer
-
--- a row as far as its span goes
-pub row_cells : (rs : List Rect) (cells part : List Cell) (start len : ℕ) (x y : ℤ) (k : ℕ) → IsRunFrom rs start len x y → part ≡ take (start + len - start) (drop start cells) → length cells ≡ pixels_of rs → k < length part → cell_in (spans rs cells) (x +ℤ pos k) y ≡ slice_get part k
-row_cells rs cells part start len x y k run e whole less =
-    let fits = run.within in
-    let long = part_length cells part start len e (omega arith) in
-    cell_read rs cells start len x y k run (omega arith) ∙ sym (part_get cells part start len k e (omega arith))
-
-pub row_ends : (rs : List Rect) (cells part : List Cell) (start len : ℕ) (x y : ℤ) → IsRunFrom rs start len x y → part ≡ take (start + len - start) (drop start cells) → length cells ≡ pixels_of rs → cell_in (spans rs cells) (x +ℤ pos (length part)) y ≡ None
-row_ends rs cells part start len x y run e whole =
-    let fits = run.within in
-    cell_none (spans rs cells) (x +ℤ pos (length part)) y (ap (λ n. region_has rs (x +ℤ pos n) y) (part_length cells part start len e (omega arith)) ∙ run.ends)
-
-pub run_has : (rs : List Rect) (start len : ℕ) (x y : ℤ) → IsRunFrom rs start len x y → region_has rs x y ≡ true
-run_has rs start len x y run =
-    place_has rs x y start (ap (λ z. place_of rs z y) (sym (plus_zero x)) ∙ run.places 0 run.some ∙ ap Some (omega arith))
-
-pub row_inside : (rs : List Rect) (cells part : List Cell) (start len : ℕ) (x y : ℤ) → IsRunFrom rs start len x y → part ≡ take (start + len - start) (drop start cells) → length cells ≡ pixels_of rs → (0 < length part) ↔ (region_has rs x y ≡ true)
-row_inside rs cells part start len x y run e whole =
-    let fits = run.within in
-    let long = part_length cells part start len e (omega arith) in
-    let some = run.some in
-    (λ _. run_has rs start len x y run, λ _. omega arith)
-
-pub row_run : (rs : List Rect) (cells part : List Cell) (start len : ℕ) (x y : ℤ) → IsRunFrom rs start len x y → part ≡ take (start + len - start) (drop start cells) → length cells ≡ pixels_of rs → HasRun rs x y (length part)
-row_run rs cells part start len x y run e whole k less =
-    let fits = run.within in
-    let long = part_length cells part start len e (omega arith) in
-    place_has rs (x +ℤ pos k) y (start + k) (run.places k (omega arith))
-
-pub no_row_ends : (s : Spans) (x y : ℤ) → region_has s.rects x y ≡ false → cell_in s (x +ℤ pos 0) y ≡ None
-no_row_ends s x y e = ap (λ z. cell_in s z y) (plus_zero x) ∙ cell_none s x y e
-
--- a row written over others
-pub put_cells : (rs : List Rect) (new : List Cell) (row : List Cell) (start len : ℕ) (x y : ℤ) (k : ℕ) → IsRunFrom rs start len x y → HasRun rs x y (length row) → slice_get new (start + k) ≡ slice_get row k → k < length row → cell_in (spans rs new) (x +ℤ pos k) y ≡ slice_get row k
-put_cells rs new row start len x y k run has e less =
-    let few = run_long rs start len (length row) x y run has in
-    cell_read rs new start len x y k run (omega arith) ∙ e
-
--- a row of which each cell is changed
-pub mapped_cells_in : (rs : List Rect) (old new : List Cell) (f : Cell → Cell) (start len n : ℕ) (x y : ℤ) (k : ℕ) → IsRunFrom rs start len x y → HasRun rs x y n → slice_get new (start + k) ≡ option_map f (slice_get old (start + k)) → k < n → cell_in (spans rs new) (x +ℤ pos k) y ≡ option_map f (cell_in (spans rs old) (x +ℤ pos k) y)
-mapped_cells_in rs old new f start len n x y k run has e less =
-    let few = run_long rs start len n x y run has in
-    changed_cell_in rs old new f start n x y k (λ j low. run.places j (omega arith)) e less
 
 -- ---- cells that are all the same
 

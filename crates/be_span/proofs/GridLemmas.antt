@@ -1,5 +1,5 @@
 -- Where the pixels of one rectangle stand.
-use Rattle.std.proofs.Common.{◌≡◌, ℕ, ◌+◌, ◌*◌, ◌/◌, ◌%◌, ◌<◌, ℤ, pos, ◌+ℤ◌, ◌-ℤ◌, ◌≤ℤ◌, ◌<ℤ◌, true, refl, ap, ◌∙◌, arith}
+use Rattle.std.proofs.Common.{◌≡◌, ℕ, ◌+◌, ◌*◌, ◌/◌, ◌%◌, ◌<◌, ℤ, pos, ◌+ℤ◌, ◌-ℤ◌, ◌≤ℤ◌, true, refl, ap, ◌∙◌, arith}
 use Rattle.std.specs.Prelude.{unsigned_abs}
 use Rattle.std.proofs.lemmas.Int.{ints}
 use Rattle.std.proofs.lemmas.Nat.{mul-add-lt, same_from_place, div_below, div-add-mod'}
@@ -46,10 +46,10 @@ pub record IsCellOf (r : Rect) (x y : ℤ) (row column width height : ℕ) : Typ
   pub width_is : pos width ≡ r.right -ℤ r.left +ℤ pos 1
   pub height_is : pos height ≡ r.bottom -ℤ r.top +ℤ pos 1
 
-abbrev row_in : Rect → ℤ → ℕ
+abbrev pub row_in : Rect → ℤ → ℕ
 row_in r y = unsigned_abs (y -ℤ r.top)
 
-abbrev column_in : Rect → ℤ → ℕ
+abbrev pub column_in : Rect → ℤ → ℕ
 column_in r x = unsigned_abs (x -ℤ r.left)
 
 pub cell_of : (r : Rect) (x y : ℤ) → IsIn r x y → IsCellOf r x y (row_in r y) (column_in r x) (width_of r) (height_of r)
@@ -62,7 +62,7 @@ cell_of r x y h =
       height_is = unsigned_abs_is (r.bottom -ℤ r.top +ℤ pos 1) (omega (arith, ints));
     }
 
-column_below : (r : Rect) (x y : ℤ) (row column width height : ℕ) → IsIn r x y → IsCellOf r x y row column width height → (row < height) × (column < width)
+pub column_below : (r : Rect) (x y : ℤ) (row column width height : ℕ) → IsIn r x y → IsCellOf r x y row column width height → (row < height) × (column < width)
 column_below r x y row column width height h c =
     let left = h.left in let right = h.right in let top = h.top in let bottom = h.bottom in
     let a = c.row_is in let b = c.column_is in let d = c.width_is in let e = c.height_is in
@@ -96,19 +96,6 @@ place_in_next r x y k h m = next (unsigned_abs (y -ℤ r.top) * width_of r) _ _ 
   where
     next : (a column column' k : ℕ) → pos column ≡ x -ℤ r.left → pos column' ≡ x +ℤ pos k -ℤ r.left → a + column' ≡ a + column + k
     next a column column' k e f = omega (arith, ints)
-
--- the cells of the rows above one come before its own
-pub place_above : (r : Rect) (x y : ℤ) (m : ℕ) → IsIn r x y → y <ℤ (r.top +ℤ pos m) → place_in r x y < m * width_of r
-unfolding place_in
-place_above r x y m h above =
-    let c = cell_of r x y h in
-    before (row_in r y) (width_of r) (column_in r x) m (row_below (row_in r y) c.row_is) (column_below r x y _ _ _ _ h c).1
-  where
-    row_below : (row : ℕ) → pos row ≡ y -ℤ r.top → row < m
-    row_below row e = omega (arith, ints)
-
-    before : (a w b m : ℕ) → a < m → b < w → a * w + b < m * w
-    before a w b m p q = omega (arith, mul-add-lt a w b m p q)
 
 pub place_in_row : (r : Rect) (x y : ℤ) (m k : ℕ) → IsIn r x y → r.top +ℤ pos m ≡ y → r.left +ℤ pos k ≡ x → place_in r x y ≡ m * width_of r + k
 unfolding place_in

@@ -1,22 +1,19 @@
 -- Cells laid on pixels.
-use Rattle.std.proofs.Common.{◌≡◌, ℕ, zero, suc, ◌+◌, ◌-◌, ◌<◌, ◌≤◌, ℤ, pos, ◌+ℤ◌, ◌-ℤ◌, ◌≤ℤ◌, ◌<ℤ◌, Bool, true, false, ◌||◌, ◌⊎◌, inl, inr, List, [], ◌∷◌, length, get_or, take, min, Option, Some, None, slice_get, cond, refl, sym, ap, ◌∙◌, subst, arith, add-one}
-use Rattle.std.specs.Prelude.{unsigned_abs}
-use Rattle.std.proofs.lemmas.Int.{ints, by_lt_z}
+use Rattle.std.proofs.Common.{◌≡◌, ℕ, zero, suc, ◌+◌, ◌-◌, ◌<◌, ◌≤◌, ℤ, pos, ◌+ℤ◌, ◌-ℤ◌, ◌<ℤ◌, Bool, true, false, ◌&&◌, ◌||◌, ◌⊎◌, inl, inr, List, [], ◌∷◌, length, get_or, take, min, Option, Some, None, slice_get, cond, refl, sym, ap, ◌∙◌, subst, arith}
+use Rattle.std.proofs.lemmas.Int.{ints}
 use Rattle.std.proofs.lemmas.Bool.{cases_lt, cond-true, cond-false, or_left, or_right}
 use Rattle.std.proofs.lemmas.List.{take_all}
 use Rattle.std.proofs.lemmas.Option.{none-some, same_Some, slice_get-get_or}
-use Rattle.be_facts.proofs.Numbers.{int_le_self, unsigned_abs_is}
 use Rattle.be_facts.proofs.Truths.{true_or_false}
 use Rattle.be_geom.specs.declared.rect.Rect.{Rect}
 use Rattle.be_geom.specs.Rects.{rect_has}
-use Rattle.be_geom.proofs.RectLemmas.{out_of}
 use Rattle.be_region.specs.Regions.{region_has}
 use Rattle.be_region.specs.Runs.{IsRun}
 use Rattle.be_span.specs.declared.Cell.{Cell}
-use Rattle.be_span.specs.Laid.{IsLaidRun, IsLaidAbove}
+use Rattle.be_span.specs.Laid.{IsLaidRun}
 use Rattle.be_span.specs.Runs.{IsBeside}
 use Rattle.be_span.specs.Spans.{Spans, cell_in, laid, black_cell, pixels_of}
-use Rattle.be_span.proofs.GridLemmas.{IsIn, in_from, has_from}
+use Rattle.be_span.proofs.GridLemmas.{IsIn, in_from}
 use Rattle.be_span.proofs.CellLemmas.{cell_none, cell_some}
 
 pub laid_nothing : (s d : Option Cell) → s ≡ None → laid s d ≡ d
@@ -26,7 +23,7 @@ laid_outside : (s : Option Cell) → laid s None ≡ None
 laid_outside (Some c) = refl
 laid_outside None = refl
 
-laid_twice : (s d : Option Cell) → laid s (laid s d) ≡ laid s d
+pub laid_twice : (s d : Option Cell) → laid s (laid s d) ≡ laid s d
 laid_twice (Some c) (Some d) = refl
 laid_twice (Some c) None = refl
 laid_twice None d = refl
@@ -120,92 +117,12 @@ run_at from fx fy gx gy now new x y z w n a b c d h =
     (subst (λ (v : ℤ). IsLaidRun (λ k. cell_in from (gx +ℤ pos k) v) now new x y n) b
     (subst (λ (v : ℤ). IsLaidRun (λ k. cell_in from (v +ℤ pos k) fy) now new x y n) a h)))
 
--- the number of a column that isn't before the first
-pub column_at : (x z : ℤ) → x ≤ℤ z → (k : ℕ) × (x +ℤ pos k ≡ z)
-column_at x z h = (unsigned_abs (z -ℤ x), sum_is (unsigned_abs (z -ℤ x)) (unsigned_abs_is (z -ℤ x) (omega (arith, ints))))
+-- what is laid, by the way that it came
+pub laid_from : (from : Spans) (x y fx fy dx dy : ℤ) (k : ℕ) (o : Option Cell) → fx ≡ x -ℤ dx → fy ≡ y -ℤ dy → laid (cell_in from (fx +ℤ pos k) fy) o ≡ laid (cell_in from (x +ℤ pos k -ℤ dx) (y -ℤ dy)) o
+laid_from from x y fx fy dx dy k o across down = ap (λ z. laid (cell_in from z fy) o) moved ∙ ap (λ z. laid (cell_in from (x +ℤ pos k -ℤ dx) z) o) down
   where
-    sum_is : (k : ℕ) → pos k ≡ z -ℤ x → x +ℤ pos k ≡ z
-    sum_is k e = omega (arith, ints)
-
--- ---- a rectangle
-
-pub above_none : (cells : ℤ → ℤ → Option Cell) (old : Spans) (r : Rect) (end : ℤ) → end ≡ r.top +ℤ pos 0 → IsLaidAbove cells old old r end
-above_none cells old r end e = record {
-  inside = λ x y left right from to. absurd (omega (arith, ints));
-  beside = λ x y h. refl;
-}
-
--- one row more
-pub above_more : (from : Spans) (dx dy fx fy : ℤ) (old now new : Spans) (r : Rect) (y : ℤ) (n : ℕ) → r.top ≤ℤ y → fx ≡ r.left -ℤ dx → fy ≡ y -ℤ dy → pos n ≡ r.right -ℤ r.left +ℤ pos 1 → IsLaidAbove (λ x z. cell_in from (x -ℤ dx) (z -ℤ dy)) old now r y → IsLaidRun (λ k. cell_in from (fx +ℤ pos k) fy) now new r.left y n → IsLaidAbove (λ x z. cell_in from (x -ℤ dx) (z -ℤ dy)) old new r (y +ℤ pos 1)
-above_more from dx dy fx fy old now new r y n low across down long so_far row = record {
-  inside = λ x w left right top bottom. by_lt_z w y
-      (λ above. row.beside x w (inl (λ e. apart w above e)) ∙ so_far.inside x w left right top above)
-      (λ here. in_row x w left right (same w here bottom) (column_at r.left x left));
-  beside = λ x w h. row.beside x w (row_side x w h) ∙ so_far.beside x w (above_side x w h);
-}
-  where
-    apart : (w : ℤ) → w <ℤ y → w ≡ y → ⊥
-    apart w h e = omega (arith, ints)
-
-    same : (w : ℤ) → y ≤ℤ w → w <ℤ (y +ℤ pos 1) → y ≡ w
-    same w h k = omega (arith, ints)
-
-    moved : (k : ℕ) → fx +ℤ pos k ≡ r.left +ℤ pos k -ℤ dx
-    moved k = omega (arith, ints)
-
-    at_column : (x : ℤ) (k : ℕ) → r.left +ℤ pos k ≡ x → x ≤ℤ r.right → cell_in new x y ≡ laid (cell_in from (x -ℤ dx) (y -ℤ dy)) (cell_in now x y)
-    at_column x k e right =
-        ap (λ z. cell_in new z y) (sym e)
-        ∙ row.inside k (omega (arith, ints))
-        ∙ ap (λ z. laid (cell_in from z fy) (cell_in now (r.left +ℤ pos k) y)) (moved k)
-        ∙ ap (λ z. laid (cell_in from (r.left +ℤ pos k -ℤ dx) z) (cell_in now (r.left +ℤ pos k) y)) down
-        ∙ ap (λ z. laid (cell_in from (z -ℤ dx) (y -ℤ dy)) (cell_in now z y)) e
-
-    in_row : (x w : ℤ) → r.left ≤ℤ x → x ≤ℤ r.right → y ≡ w → (k : ℕ) × (r.left +ℤ pos k ≡ x) → cell_in new x w ≡ laid (cell_in from (x -ℤ dx) (w -ℤ dy)) (cell_in old x w)
-    in_row x w left right e found =
-        ap (cell_in new x) (sym e)
-        ∙ at_column x found.0 found.1 right
-        ∙ ap (laid (cell_in from (x -ℤ dx) (y -ℤ dy))) (so_far.beside x y (inr (inr (inr (int_le_self y)))))
-        ∙ ap (λ v. laid (cell_in from (x -ℤ dx) (v -ℤ dy)) (cell_in old x v)) e
-
-    row_side : (x w : ℤ) → (x <ℤ r.left) ⊎ (r.right <ℤ x) ⊎ (w <ℤ r.top) ⊎ ((y +ℤ pos 1) ≤ℤ w) → IsBeside r.left y n x w
-    row_side x w (inl h) = inr (inl h)
-    row_side x w (inr (inl h)) = inr (inr (omega (arith, ints)))
-    row_side x w (inr (inr (inl h))) = inl (λ e. omega (arith, ints))
-    row_side x w (inr (inr (inr h))) = inl (λ e. omega (arith, ints))
-
-    above_side : (x w : ℤ) → (x <ℤ r.left) ⊎ (r.right <ℤ x) ⊎ (w <ℤ r.top) ⊎ ((y +ℤ pos 1) ≤ℤ w) → (x <ℤ r.left) ⊎ (r.right <ℤ x) ⊎ (w <ℤ r.top) ⊎ (y ≤ℤ w)
-    above_side x w (inl h) = inl h
-    above_side x w (inr (inl h)) = inr (inl h)
-    above_side x w (inr (inr (inl h))) = inr (inr (inl h))
-    above_side x w (inr (inr (inr h))) = inr (inr (inr (omega (arith, ints))))
-
-pub above_next : (cells : ℤ → ℤ → Option Cell) (old new : Spans) (r : Rect) (m : ℕ) → IsLaidAbove cells old new r (r.top +ℤ pos m +ℤ pos 1) → IsLaidAbove cells old new r (r.top +ℤ pos (m + 1))
-above_next cells old new r m h = subst (IsLaidAbove cells old new r) (sum_is r.top) h
-  where
-    sum_is : (z : ℤ) → z +ℤ pos m +ℤ pos 1 ≡ z +ℤ pos (m + 1)
-    sum_is z = omega (arith, ints)
-
-pub above_end : (cells : ℤ → ℤ → Option Cell) (old new : Spans) (r : Rect) (m : ℕ) → pos m ≡ r.bottom -ℤ r.top +ℤ pos 1 → IsLaidAbove cells old new r (r.top +ℤ pos m) → IsLaidAbove cells old new r (r.bottom +ℤ pos 1)
-above_end cells old new r m e h = subst (IsLaidAbove cells old new r) sum_is h
-  where
-    sum_is : r.top +ℤ pos m ≡ r.bottom +ℤ pos 1
-    sum_is = omega (arith, ints)
-
--- a row of a rectangle of the region is in the region
-pub row_has : (rs : List Rect) (r : Rect) (x y : ℤ) (row width height k : ℕ) → ((x y : ℤ) → rect_has r x y ≡ true → region_has rs x y ≡ true) → x ≡ r.left → y ≡ r.top +ℤ pos row → row < height → pos height ≡ r.bottom -ℤ r.top +ℤ pos 1 → pos width ≡ r.right -ℤ r.left +ℤ pos 1 → k < width → region_has rs (x +ℤ pos k) y ≡ true
-row_has rs r x y row width height k inside across down less high wide few =
-    inside (x +ℤ pos k) y (has_from r (x +ℤ pos k) y record { left = omega (arith, ints); right = omega (arith, ints); top = omega (arith, ints); bottom = omega (arith, ints) })
-
-pub above_all : (cells : ℤ → ℤ → Option Cell) (old new : Spans) (r : Rect) (x y : ℤ) → IsLaidAbove cells old new r (r.bottom +ℤ pos 1) → cell_in new x y ≡ cond (rect_has r x y) (laid (cells x y) (cell_in old x y)) (cell_in old x y)
-above_all cells old new r x y h =
-    elim (true_or_false (rect_has r x y)) [
-      | inl e ↦ inside (in_from r x y e) ∙ sym (cond-true (rect_has r x y) (laid (cells x y) (cell_in old x y)) (cell_in old x y) e)
-      | inr e ↦ h.beside x y (out_of r x y e) ∙ sym (cond-false (rect_has r x y) (laid (cells x y) (cell_in old x y)) (cell_in old x y) e)
-    ]
-  where
-    inside : IsIn r x y → cell_in new x y ≡ laid (cells x y) (cell_in old x y)
-    inside i = let low = i.bottom in h.inside x y i.left i.right i.top (omega (arith, ints))
+    moved : fx +ℤ pos k ≡ x +ℤ pos k -ℤ dx
+    moved = omega (arith, ints)
 
 -- ---- all rectangles
 
@@ -222,18 +139,6 @@ has_more (q ∷ rs) (suc m) r x y e = ap (λ b. rect_has q x y || b) (has_more r
     or_turned true b c = refl
     or_turned false b c = refl
 
-step : (p q : Bool) (s d now new : Option Cell) → now ≡ cond p (laid s d) d → new ≡ cond q (laid s now) now → new ≡ cond (p || q) (laid s d) d
-step true true s d now new e f = f ∙ ap (laid s) e ∙ laid_twice s d
-step true false s d now new e f = f ∙ e
-step false true s d now new e f = f ∙ ap (laid s) e
-step false false s d now new e f = f ∙ e
-
--- one rectangle more
-pub all_more : (cells : ℤ → ℤ → Option Cell) (old now new : Spans) (rs : List Rect) (m : ℕ) (r : Rect) → slice_get rs m ≡ Some r → ((x y : ℤ) → cell_in now x y ≡ cond (region_has (take m rs) x y) (laid (cells x y) (cell_in old x y)) (cell_in old x y)) → ((x y : ℤ) → cell_in new x y ≡ cond (rect_has r x y) (laid (cells x y) (cell_in now x y)) (cell_in now x y)) → (x y : ℤ) → cell_in new x y ≡ cond (region_has (take (m + 1) rs) x y) (laid (cells x y) (cell_in old x y)) (cell_in old x y)
-all_more cells old now new rs m r e so_far more x y =
-    step (region_has (take m rs) x y) (rect_has r x y) (cells x y) (cell_in old x y) (cell_in now x y) (cell_in new x y) (so_far x y) (more x y)
-    ∙ ap (λ b. cond b (laid (cells x y) (cell_in old x y)) (cell_in old x y)) (sym (rw add-one (has_more rs m r x y e)))
-
 pub all_laid : (cells : ℤ → ℤ → Option Cell) (old new : Spans) (m : ℕ) → length old.rects ≤ m → ((x y : ℤ) → cell_in new x y ≡ cond (region_has (take m old.rects) x y) (laid (cells x y) (cell_in old x y)) (cell_in old x y)) → (x y : ℤ) → cell_in new x y ≡ laid (cells x y) (cell_in old x y)
 all_laid cells old new m all h x y =
     h x y
@@ -248,3 +153,44 @@ pub rect_inside : (rs : List Rect) (m : ℕ) (r : Rect) (x y : ℤ) → slice_ge
 rect_inside [] m r x y e h = absurd (none-some r e)
 rect_inside (q ∷ rs) zero r x y e h = or_left (rect_has q x y) (region_has rs x y) (ap (λ s. rect_has s x y) (same_Some q r e) ∙ h)
 rect_inside (q ∷ rs) (suc m) r x y e h = or_right (rect_has q x y) (region_has rs x y) (rect_inside rs m r x y e h)
+
+-- ---- parts of buffers, laid on black pixels
+
+-- a pixel of the region, and no other, has a cell
+abbrev pub IsOwn : Bool → Option Cell → Type 0
+IsOwn has o = (has ≡ true → (c : Cell) × (o ≡ Some c)) × (has ≡ false → o ≡ None)
+
+pub own_cell : (s : Spans) (x y : ℤ) → length s.cells ≡ pixels_of s.rects → IsOwn (region_has s.rects x y) (cell_in s x y)
+own_cell s x y whole = (cell_some s x y whole, cell_none s x y)
+
+-- what two have in common
+pub laid_part : (a b : Bool) (o : Option Cell) → IsOwn a o → laid o (cond (a && b) (Some black_cell) None) ≡ cond b o None
+laid_part a false o own = ap (λ t. laid o (cond t (Some black_cell) None)) (none_of a) ∙ on_none o
+  where
+    none_of : (a : Bool) → (a && false) ≡ false
+    none_of true = refl
+    none_of false = refl
+
+    on_none : (o : Option Cell) → laid o None ≡ None
+    on_none None = refl
+    on_none (Some c) = refl
+laid_part true true o own = let c = own.0 refl in ap (λ t. laid t (Some black_cell)) c.1 ∙ sym c.1
+laid_part false true o own = ap (λ t. laid t None) (own.1 refl) ∙ sym (own.1 refl)
+
+-- what one of them has, the second's cell where both have one
+pub laid_both : (a b : Bool) (o p : Option Cell) → IsOwn a o → IsOwn b p → laid p (laid o (cond (a || b) (Some black_cell) None)) ≡ cond b p o
+laid_both true true o p own over =
+    let c = own.0 refl in
+    let d = over.0 refl in
+    ap (λ t. laid p (laid t (Some black_cell))) c.1 ∙ ap (λ t. laid t (Some c.0)) d.1 ∙ sym d.1
+laid_both true false o p own over =
+    let c = own.0 refl in
+    ap (λ t. laid t (laid o (Some black_cell))) (over.1 refl) ∙ ap (λ t. laid t (Some black_cell)) c.1 ∙ sym c.1
+laid_both false true o p own over =
+    let d = over.0 refl in
+    ap (λ t. laid p (laid t (Some black_cell))) (own.1 refl) ∙ ap (λ t. laid t (Some black_cell)) d.1 ∙ sym d.1
+laid_both false false o p own over =
+    ap (λ t. laid t (laid o None)) (over.1 refl) ∙ ap (λ t. laid t None) (own.1 refl) ∙ sym (own.1 refl)
+
+pub minus_none : (x : ℤ) → x -ℤ pos 0 ≡ x
+minus_none x = omega (arith, ints)

@@ -3,9 +3,13 @@ pub mod PlaceLemmas
 pub mod SpanLemmas
 pub mod SliceLemmas
 pub mod CellLemmas
+pub mod SeenLemmas
+pub mod CountLemmas
+pub mod BufferLemmas
+pub mod FrameLemmas
+pub mod ShiftLemmas
 pub mod LaidLemmas
 pub mod MarkLemmas
-pub mod GatherLemmas
 pub mod ExposeLemmas
 pub mod MaskLemmas
 pub mod BlockLemmas

@@ -104,3 +104,10 @@ none_marked cells = all_clean (map unmarked cells) (λ k less. ap is_dirty (slic
     at_cell : (o : Option Cell) → is_dirty (option_map unmarked o) ≡ false
     at_cell None = refl
     at_cell (Some c) = refl
+
+pub none_unmarked : (o : Option Cell) → is_dirty (option_map unmarked o) ≡ false
+none_unmarked None = refl
+none_unmarked (Some c) = refl
+
+pub clean_count_test : (dirty : ℕ) (s : Spans) → dirty ≡ count_by (λ c. c.dirty) s.cells → IsTrue (eqb dirty 0) ↔ (count_by (λ c. c.dirty) s.cells ≡ 0)
+clean_count_test dirty s e = (λ none. sym e ∙ eqb-true dirty 0 none, λ h. eq-eqb dirty 0 (e ∙ h))

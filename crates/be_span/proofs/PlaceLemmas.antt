@@ -1,13 +1,11 @@
 -- Where the cells of pixels stand among those of all rectangles.
-use Rattle.std.proofs.Common.{◌≡◌, ℕ, zero, suc, ◌+◌, ◌<◌, ◌≤◌, ℤ, pos, ◌+ℤ◌, ◌-ℤ◌, ◌-◌, true, false, ◌||◌, ◌⊎◌, inl, inr, All, List, [], ◌∷◌, ◌++◌, length, get_or, take, slice_get, Option, Some, None, refl, sym, ap, ◌∙◌, arith, add-one, below_more, cond}
+use Rattle.std.proofs.Common.{◌≡◌, ℕ, zero, suc, ◌+◌, ◌<◌, ◌≤◌, ℤ, pos, ◌+ℤ◌, ◌-ℤ◌, ◌-◌, true, false, ◌||◌, ◌⊎◌, inl, inr, All, List, [], ◌∷◌, length, get_or, take, slice_get, Option, Some, None, refl, sym, ap, ◌∙◌, arith, cond}
 use Rattle.std.specs.Option.{option_map}
 use Rattle.std.specs.List.{AllWithin, AllPairs}
 use Rattle.std.proofs.lemmas.Int.{ints}
 use Rattle.std.proofs.lemmas.Bool.{cases_lt, or_parts, or_left, or_right, true≢false}
-use Rattle.std.proofs.lemmas.Option.{same_Some, none-some, slice_get_within, get_or_from_slice_get}
-use Rattle.std.proofs.lemmas.List.{get_or_at}
+use Rattle.std.proofs.lemmas.Option.{same_Some, none-some, get_or_from_slice_get}
 use Rattle.std.proofs.lemmas.List.Elements.{All-head, All-tail}
-use Rattle.std.proofs.Math.ListN.{get_or-append}
 use Rattle.be_facts.proofs.Truths.{true_or_false}
 use Rattle.be_geom.specs.declared.rect.Rect.{Rect}
 use Rattle.be_geom.specs.Rects.{rect_has}
@@ -16,7 +14,7 @@ use Rattle.be_region.specs.Regions.{region_has, IsNotEmpty}
 use Rattle.be_region.specs.Places.{IsSpanAt}
 use Rattle.be_span.specs.Spans.{area_of, pixels_of, place_in, place_of}
 use Rattle.be_span.specs.Runs.{IsRunFrom}
-use Rattle.be_span.proofs.GridLemmas.{IsIn, pixel_in_rect, in_from, has_from, place_in_below, place_in_same, place_in_next}
+use Rattle.be_span.proofs.GridLemmas.{IsIn, pixel_in_rect, in_from, has_from, place_in_below, place_in_same}
 
 -- ---- one rectangle more
 
@@ -108,7 +106,7 @@ apart r s x y before has =
     both a b (inr h) = let bottom = a.bottom in let top = b.top in omega (arith, ints)
 
 -- a rectangle before all others has none of their pixels
-before_all : (r : Rect) (rs : List Rect) (x y : ℤ) → ((k : ℕ) (d : Rect) → k < length rs → IsBefore r (get_or rs k d)) → region_has rs x y ≡ true → rect_has r x y ≡ false
+pub before_all : (r : Rect) (rs : List Rect) (x y : ℤ) → ((k : ℕ) (d : Rect) → k < length rs → IsBefore r (get_or rs k d)) → region_has rs x y ≡ true → rect_has r x y ≡ false
 before_all r [] x y before has = absurd (true≢false (sym has))
 before_all r (q ∷ rs) x y before has =
     elim (true_or_false (rect_has q x y)) [
@@ -160,12 +158,6 @@ pixels_next [] m r less e = absurd (omega arith)
 pixels_next (q ∷ rs) zero r less e = let is = ap area_of e in omega arith
 pixels_next (q ∷ rs) (suc m) r less e = let rest = pixels_next rs m r (omega arith) e in omega arith
 
-pub pixels_more : (rs : List Rect) (m : ℕ) (r : Rect) → slice_get rs m ≡ Some r → pixels_of (take (m + 1) rs) ≡ pixels_of (take m rs) + area_of r
-pixels_more rs m r e = rw add-one (pixels_next rs m r (slice_get_within rs m r e) (sym (get_or_from_slice_get rs m r r e)))
-
-pub pixels_all : (rs : List Rect) (m : ℕ) (r : Rect) → slice_get rs m ≡ Some r → pixels_of (take m rs) + area_of r ≤ pixels_of rs
-pixels_all rs m r e = pixels_take rs m r (slice_get_within rs m r e) (sym (get_or_from_slice_get rs m r r e))
-
 -- ---- the cells from a pixel on to the end of its span
 
 in_row : (r : Rect) (x y : ℤ) (k len : ℕ) → IsIn r x y → pos len ≡ r.right -ℤ x +ℤ pos 1 → k < len → IsIn r (x +ℤ pos k) y
@@ -182,33 +174,20 @@ behind rs m len r x long e = sum_is ∙ ap (λ (q : Rect). q.right +ℤ pos 1) e
     sum_is : x +ℤ pos len ≡ r.right +ℤ pos 1
     sum_is = omega (arith, ints)
 
-run_found : (rs : List Rect) (m start len : ℕ) (r : Rect) (x y : ℤ) → IsSpanAt rs m x y → r ≡ get_or rs m r → start ≡ pixels_of (take m rs) + place_in r x y → pos len ≡ r.right -ℤ x +ℤ pos 1 → IsRunFrom rs start len x y
-run_found rs m start len r x y span e from long =
+run_found : (rs : List Rect) (m count : ℕ) (r : Rect) (x y : ℤ) → IsSpanAt rs m x y → r ≡ get_or rs m r → pos count ≡ r.right -ℤ x +ℤ pos 1 → IsRunFrom rs x y count
+run_found rs m count r x y span e long =
     let h = pixel_in rs m r x y span e in
     let to = h.right in
-    let some : 0 < len = omega (arith, ints) in
-    let all = pixels_take rs m r span.within e in
-    let last = in_row r x y (len - 1) len h long (omega arith) in
-    let next = place_in_next r x y (len - 1) h last in
-    let below = place_in_below r (x +ℤ pos (len - 1)) y last in
     record {
-      some = some;
-      places = λ k less.
-          let inside = in_row r x y k len h long less in
-          place_at rs m r (x +ℤ pos k) y span.within e (span.first (x +ℤ pos k) (omega (arith, ints))) (has_from r (x +ℤ pos k) y inside)
-          ∙ ap Some (let step = place_in_next r x y k h inside in omega arith);
-      ends = ap (λ z. region_has rs z y) (behind rs m len r x long e) ∙ span.ends r;
-      within = omega arith;
+      some = omega (arith, ints);
+      has = λ k less.
+          let inside = in_row r x y k count h long less in
+          place_has rs (x +ℤ pos k) y _ (place_at rs m r (x +ℤ pos k) y span.within e (span.first (x +ℤ pos k) (omega (arith, ints))) (has_from r (x +ℤ pos k) y inside));
+      ends = ap (λ z. region_has rs z y) (behind rs m count r x long e) ∙ span.ends r;
     }
 
 pub pixel_at : (rs : List Rect) (m : ℕ) (r : Rect) (x y : ℤ) → IsSpanAt rs m x y → slice_get rs m ≡ Some r → IsIn r x y
 pixel_at rs m r x y span e = pixel_in rs m r x y span (sym (get_or_from_slice_get rs m r r e))
 
-pub run_at : (rs : List Rect) (m start len : ℕ) (r : Rect) (x y : ℤ) → IsSpanAt rs m x y → slice_get rs m ≡ Some r → start ≡ pixels_of (take m rs) + place_in r x y → pos len ≡ r.right -ℤ x +ℤ pos 1 → IsRunFrom rs start len x y
-run_at rs m start len r x y span e from long = run_found rs m start len r x y span (sym (get_or_from_slice_get rs m r r e)) from long
-
--- ---- how many cells come before those of each rectangle
-
-pub starts_more : (starts more : List ℕ) (rs : List Rect) (n count : ℕ) → more ≡ starts ++ count ∷ [] → length starts ≡ n → ((k : ℕ) → k < n → get_or starts k 0 ≡ pixels_of (take k rs)) → count ≡ pixels_of (take n rs) → (k : ℕ) → k < n + 1 → get_or more k 0 ≡ pixels_of (take k rs)
-starts_more starts more rs n count e long before so_far =
-    rw e (below_more (λ k. get_or (starts ++ count ∷ []) k 0 ≡ pixels_of (take k rs)) n (λ k less. get_or-append starts (count ∷ []) 0 k (omega arith) ∙ before k less) (get_or_at starts count [] 0 n long ∙ so_far))
+pub run_at : (rs : List Rect) (m count : ℕ) (r : Rect) (x y : ℤ) → IsSpanAt rs m x y → slice_get rs m ≡ Some r → pos count ≡ r.right -ℤ x +ℤ pos 1 → IsRunFrom rs x y count
+run_at rs m count r x y span e long = run_found rs m count r x y span (sym (get_or_from_slice_get rs m r r e)) long

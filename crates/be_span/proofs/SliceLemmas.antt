@@ -42,17 +42,6 @@ module _ {X : Type 0} where
     pub done : (k : ℕ) → k < i → slice_get new k ≡ option_map (f k) (slice_get old k)
     pub rest : (k : ℕ) → i ≤ k → slice_get new k ≡ slice_get old k
 
-  pub done_none : (f : ℕ → X → X) (old : List X) → IsDoneTo f old old 0
-  done_none f old = record { done = λ k h. absurd (omega arith); rest = λ k h. refl }
-
-  pub done_more : (f : ℕ → X → X) (old new : List X) (i : ℕ) (d x : X) → i < length new → IsDoneTo f old new i → x ≡ f i (get_or new i d) → IsDoneTo f old (set new i x) (i + 1)
-  done_more f old new i d x less so_far e = record {
-    done = below_more (λ k. slice_get (set new i x) k ≡ option_map (f k) (slice_get old k)) i
-        (λ k h. slice_get-set_other new i k x (λ same. omega arith) ∙ so_far.done k h)
-        (slice_get-set_same new i x less ∙ ap Some e ∙ ap (option_map (f i)) (sym (slice_get-get_or new i d less) ∙ so_far.rest i (omega arith)));
-    rest = λ k h. slice_get-set_other new i k x (λ same. omega arith) ∙ so_far.rest k (omega arith);
-  }
-
   pub done_all : (f : ℕ → X → X) (old new : List X) (i k : ℕ) → length old ≤ i → IsDoneTo f old new i → slice_get new k ≡ option_map (f k) (slice_get old k)
   done_all f old new i k all so_far =
       elim (cases_lt k i) [

@@ -14,10 +14,9 @@ pub record Spans : Type 0 where
   pub rects : List Rect
   pub cells : List Cell
 
--- a rectangle of a region, and how many cells come before its own
+-- a rectangle of a region
 pub record SpanAt : Type 0 where
   pub rect : Rect
-  pub start : ℕ
 
 -- how many columns a rectangle has that isn't empty, and how many rows
 abbrev pub width_of : Rect → ℕ

@@ -2,14 +2,14 @@ ghost use Rattle.std.specs.Prelude.{◌≡◌, ◌+◌, ◌<◌, ◌≤◌, ◌^
 ghost use Rattle.std.specs.Prelude.{length, slice_get, count_by};
 ghost use Rattle.std.specs.Option.{option_map};
 ghost use Rattle.be_geom.specs.Rects.{rect_has};
+ghost use Rattle.be_region.specs.Regions.{IsNotEmpty, region_has};
 ghost use Rattle.be_span.specs.declared.Cell.{Cell};
 ghost use Rattle.be_span.specs.Painting.{changed, AreInRange, IsPainted};
-ghost use Rattle.be_span.specs.Runs.{IsInside, IsSpanOf};
+ghost use Rattle.be_span.specs.Spans.{pixels_of};
 
 use crate::Cell;
-use crate::buffer::SpanBuf;
-use crate::places::width_of;
-use crate::span::Span;
+use crate::grid::Grid;
+use crate::places::{height_of, row_of, width_of};
 use be_geom::Rect;
 
 /// What becomes of pixels, of their colours and of their marks.
@@ -37,24 +37,22 @@ pub trait Alter {
             ≡ dirty + count_by (λ c. c.dirty) cells.new };
 }
 
-/// Alters the pixels of a rectangle, all of them in this span, row by row.
+/// Alters the pixels of a rectangle, row by row.
 #[inline(always)]
-pub(crate) fn alter_rows<A: Alter>(spans: &mut SpanBuf, span: Span, rect: Rect, alter: &A)
-    requires span { IsSpanOf spans.old.rects span }
-    requires inside { IsInside rect span.rect }
+pub(crate) fn alter_rows<A: Alter>(grid: &mut Grid, rect: Rect, alter: &A)
+    requires some { IsNotEmpty rect }
+    requires inside { (x y : ℤ) → rect_has rect x y ≡ true
+        → region_has grid.old.rects x y ≡ true }
     requires known { (x y : ℤ) → rect_has rect x y ≡ true → A.knows alter.now x y ≡ true }
-    ensures { IsPainted (A.rule alter.now) (λ x y. rect_has rect x y && A.at alter.now x y)
-        spans.old spans.new }
+    requires whole { length grid.old.cells ≡ pixels_of grid.old.rects }
+    ensures painted { IsPainted (A.rule alter.now) (λ x y. rect_has rect x y && A.at alter.now x y)
+        grid.old grid.new }
+    ensures whole { length grid.new.cells ≡ pixels_of grid.new.rects }
 {
-    let width = width_of(span.rect);
-    let count = width_of(rect);
-    let left = i32::from(rect.left);
-    let bottom = i32::from(rect.bottom);
-    let mut y = i32::from(rect.top);
-    let mut start = spans.place_in(span, left, y);
-    'rows: while y <= bottom {
-        spans.alter_run(span, start, count, left, y, alter);
-        start += width;
-        y += 1;
+    let width = width_of(rect);
+    let height = height_of(rect);
+    for row in 0..height {
+        let first = row_of(rect, row);
+        grid.alter(first.x, first.y, width, alter);
     }
 }

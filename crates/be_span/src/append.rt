@@ -3,7 +3,6 @@ ghost use Rattle.be_region.specs.Regions.{region_has, IsUnion};
 ghost use Rattle.be_span.specs.Spans.{cell_in};
 
 use crate::buffer::SpanBuf;
-use crate::gather::gathered;
 use be_geom::NoMemory;
 use thiserror::Error;
 
@@ -45,5 +44,8 @@ fn joined(one: &SpanBuf, other: &SpanBuf) -> Result<SpanBuf, NoMemory>
 {
     let mut both = one.region().copy()?;
     both.include(other.region())?;
-    gathered(both, one, other)
+    let mut whole = SpanBuf::prepare(one.allocator(), both)?;
+    whole.lay(one, 0, 0);
+    whole.lay(other, 0, 0);
+    Ok(whole)
 }

@@ -1,22 +1,23 @@
 ghost use Rattle.std.specs.Prelude.{◌≡◌, ◌<◌, ◌↔◌, ℕ, ℤ, pos, ◌+ℤ◌, ◌≤ℤ◌, true, false, None};
-ghost use Rattle.std.specs.Prelude.{Some, IfOk, IsSome, IsTrue, All, length, take};
-ghost use Rattle.std.specs.Prelude.{slice_get, count_by, ◌+◌, ◌^◌, ◌&&◌, if◌then◌else◌};
+ghost use Rattle.std.specs.Prelude.{Some, IfOk, IsSome, IsTrue, All, length};
+ghost use Rattle.std.specs.Prelude.{slice_get, count_by, ◌&&◌, if◌then◌else◌};
 ghost use Rattle.std.specs.Option.{option_map};
 ghost use Rattle.be_geom.specs.Rects.{rect_has};
 ghost use Rattle.be_region.specs.Regions.{region_has};
 ghost use Rattle.be_region.specs.Bands.{AreBands};
 ghost use Rattle.be_span.specs.Cells.{unmarked, exposed_cell};
 ghost use Rattle.be_span.specs.Painting.{changed, IsPainted};
-ghost use Rattle.be_span.specs.Runs.{AreRows, HasRun, IsBeside, IsInside, IsSpanOf};
+ghost use Rattle.be_span.specs.Runs.{HasRun, IsBeside, IsInside, IsSpanOf};
+ghost use Rattle.be_span.specs.Seen.{IsSeen};
 ghost use Rattle.be_span.specs.Spans.{cell_in, is_dirty, black_cell, clean_cell, pixels_of};
-ghost use Rattle.be_span.specs.Spans.{area_of, place_in};
 
 use crate::Cell;
 use crate::alter::{Alter, alter_rows};
-use crate::expose::expose_part;
+use crate::expose::Expose;
+use crate::grid::Grid;
 use crate::paint::{Kept, Paint};
-use crate::places::{cell_at, run_from, starts_of};
-use crate::rows::{alter_part, dirty_among, dirty_of, overwrite, unmark_all};
+use crate::places::run_from;
+use crate::rows::{dirty_among, dirty_of};
 use crate::span::Span;
 use be_color::{Color, Rgb};
 use be_geom::{NoMemory, Rect};
@@ -24,26 +25,31 @@ use be_region::Region;
 use std::alloc::Global;
 use std::marker::Model;
 
+/// A pixel. Where a region has none, a cell is kept for this one.
+pub(crate) const PIXEL: Rect = Rect {
+    left: 0,
+    top: 0,
+    right: 0,
+    bottom: 0,
+};
+
 /// The pixels of a region with their cells.
 #[derive(Debug, Drop)]
 pub struct SpanBuf {
-    region: Region,
-    /// For each rectangle, how many cells come before its own.
-    starts: Vec<usize>,
-    cells: Vec<Cell>,
-    /// How many of them are dirty.
-    dirty: usize,
+    pub(crate) region: Region,
+    /// Cells for its pixels, and clean ones for others.
+    pub(crate) grid: Grid,
 }
 
 impl Model for SpanBuf {
     ghost use Rattle.be_span.specs.Spans.{Spans};
-    ghost use Rattle.be_span.specs.Runs.{AreRows};
+    ghost use Rattle.be_span.specs.Seen.{seen, IsSeen};
 
     ghost Value = { Spans };
 
-    ghost view = { λ b. record { rects = b.region; cells = b.cells.items } };
+    ghost view = { λ b. seen b.region b.grid };
 
-    ghost invariant = { λ b. AreRows b.region b.starts.items b.cells.items b.dirty };
+    ghost invariant = { λ b. IsSeen b.region b.grid };
 }
 
 impl SpanBuf {
@@ -64,33 +70,9 @@ impl SpanBuf {
             ≡ (if region_has region x y then Some (clean_cell rgb) else None)) }
         ensures clean { IfOk result (λ spans. All (λ c. c ≡ clean_cell rgb) spans.cells) }
     {
-        let (starts, count) = starts_of(alloc, &region)?;
-        let cells = clean_cells(alloc, count, rgb)?;
-        Ok(SpanBuf {
-            region,
-            starts,
-            cells,
-            dirty: 0,
-        })
-    }
-
-    /// The pixels of the region with these cells, of which so many are dirty.
-    pub(crate) fn from_parts(
-        region: Region,
-        starts: Vec<usize>,
-        cells: Vec<Cell>,
-        dirty: usize,
-    ) -> SpanBuf
-        requires { AreRows region starts.items cells.items dirty }
-        ensures region { result.rects ≡ region }
-        ensures cells { result.cells ≡ cells.items }
-    {
-        SpanBuf {
-            region,
-            starts,
-            cells,
-            dirty,
-        }
+        let frame = region.frame().unwrap_or(PIXEL);
+        let grid = Grid::filled(alloc, frame, rgb)?;
+        Ok(SpanBuf { region, grid })
     }
 
     /// The region whose pixels these are.
@@ -106,19 +88,19 @@ impl SpanBuf {
         ensures bands { AreBands self.now.rects }
         ensures cells { length self.now.cells ≡ pixels_of self.now.rects }
     {
-        let _cells = &self.cells;
+        let _region = &self.region;
     }
 
     /// Where its memory comes from.
     pub(crate) fn allocator(&self) -> Global {
-        *self.cells.allocator()
+        self.grid.allocator()
     }
 
     /// How many pixels are dirty. It is kept, so that no cell is looked at.
     pub fn dirty_count(&self) -> usize
         ensures { result ≡ count_by (λ c. c.dirty) self.now.cells }
     {
-        self.dirty
+        self.grid.dirty()
     }
 
     /// Whether no pixel is dirty.
@@ -127,7 +109,7 @@ impl SpanBuf {
         ensures pixels { IsTrue result
             ↔ ((x y : ℤ) → is_dirty (cell_in self.now x y) ≡ false) }
     {
-        self.dirty == 0
+        self.grid.dirty() == 0
     }
 
     /// Takes the marks of all pixels away. Where none is dirty, no cell is looked at.
@@ -137,11 +119,10 @@ impl SpanBuf {
             ≡ option_map unmarked (cell_in self.old x y) }
         ensures clean { count_by (λ c. c.dirty) self.new.cells ≡ 0 }
     {
-        if self.dirty == 0 {
+        if self.grid.dirty() == 0 {
             return;
         }
-        unmark_all(&mut self.cells);
-        self.dirty = 0;
+        self.grid.clear_marks();
     }
 
     /// The cell of a pixel. None outside the region.
@@ -160,8 +141,8 @@ impl SpanBuf {
         ensures inside { (0 < length result.now) ↔ (region_has self.now.rects x y ≡ true) }
         ensures run { HasRun self.now.rects x y (length result.now) }
     {
-        match run_from(&self.region, &self.starts, x, y) {
-            Some(run) => &self.cells[run.start..run.start + run.len],
+        match run_from(&self.region, x, y) {
+            Some(count) => self.grid.row(x, y, count),
             None => &[],
         }
     }
@@ -206,10 +187,9 @@ impl SpanBuf {
         ensures others { (z w : ℤ) → IsBeside x y (length cells.now) z w
             → cell_in self.new z w ≡ cell_in self.old z w }
     {
-        let Some(run) = run_from(&self.region, &self.starts, x, y) else {
-            return;
-        };
-        self.dirty = overwrite(&mut self.cells, run.start, cells, more, self.dirty);
+        if !cells.is_empty() {
+            self.grid.put(x, y, cells, more);
+        }
     }
 
     /// How many of some of its cells are dirty. Where none of all is, no cell is looked at.
@@ -218,21 +198,19 @@ impl SpanBuf {
             → count_by (λ c. c.dirty) some.now ≡ 0 }
         ensures { result ≡ count_by (λ c. c.dirty) some.now }
     {
-        dirty_of(some, self.dirty)
+        dirty_of(some, self.grid.dirty())
     }
 
-    /// The rectangle at a place of the region, and where its cells stand. It holds as long as the
-    /// region stays.
+    /// The rectangle at a place of the region.
     #[inline(always)]
     pub fn span(&self, place: usize) -> Span
         requires { place < length self.now.rects }
         ensures span { IsSpanOf self.now.rects result }
         ensures rect { slice_get self.now.rects place ≡ Some result.rect }
-        ensures start { result.start ≡ pixels_of (take place self.now.rects) }
     {
-        let rect = self.region.rect_at(place).unwrap();
-        let start = self.starts[place];
-        Span { rect, start }
+        Span {
+            rect: self.region.rect_at(place).unwrap(),
+        }
     }
 
     /// Paints the pixels of a rectangle, all of them in this span. It takes no search.
@@ -255,19 +233,7 @@ impl SpanBuf {
         ensures { IsPainted (A.rule alter.now) (λ x y. rect_has rect x y && A.at alter.now x y)
             self.old self.new }
     {
-        alter_rows(self, span, rect, alter);
-    }
-
-    /// Where the cell of a pixel stands, which is in this span.
-    #[inline(always)]
-    pub(crate) fn place_in(&self, span: Span, x: i32, y: i32) -> usize
-        requires span { IsSpanOf self.now.rects span }
-        requires inside { rect_has span.rect x y ≡ true }
-        ensures place { result ≡ span.start + place_in span.rect x y }
-        ensures fits { span.start + area_of span.rect < 2 ^ 63 }
-    {
-        let _cells = &self.cells;
-        cell_at(span.rect, span.start, x, y)
+        alter_rows(&mut self.grid, rect, alter);
     }
 
     /// The cells of the `count` pixels from (x, y) on to the right, all of them in this span. It
@@ -284,28 +250,14 @@ impl SpanBuf {
         ensures cells { (k : ℕ) → k < count
             → cell_in self.now (x +ℤ pos k) y ≡ slice_get result.now k }
     {
-        let start = self.place_in(span, x, y);
-        &self.cells[start..start + count]
+        self.grid.row(x, y, count)
     }
 
-    /// Alters the `count` pixels from (x, y) on to the right, all of them in this span, whose cells
-    /// begin at a place.
+    /// Alters the `count` pixels from (x, y) on to the right.
     #[inline(always)]
-    pub(crate) fn alter_run<A: Alter>(
-        &mut self,
-        span: Span,
-        start: usize,
-        count: usize,
-        x: i32,
-        y: i32,
-        alter: &A,
-    )
-        requires span { IsSpanOf self.old.rects span }
-        requires left { span.rect.left ≤ℤ x }
-        requires right { (x +ℤ pos count) ≤ℤ (span.rect.right +ℤ pos 1) }
-        requires top { span.rect.top ≤ℤ y }
-        requires bottom { y ≤ℤ span.rect.bottom }
-        requires start { start ≡ span.start + place_in span.rect x y }
+    pub(crate) fn alter_run<A: Alter>(&mut self, x: i32, y: i32, count: usize, alter: &A)
+        requires some { 0 < count }
+        requires run { HasRun self.old.rects x y count }
         requires known { (k : ℕ) → k < count → A.knows alter.now (x +ℤ pos k) y ≡ true }
         ensures region { self.new.rects ≡ self.old.rects }
         ensures altered { (k : ℕ) → k < count → cell_in self.new (x +ℤ pos k) y
@@ -314,8 +266,7 @@ impl SpanBuf {
         ensures others { (z w : ℤ) → IsBeside x y count z w
             → cell_in self.new z w ≡ cell_in self.old z w }
     {
-        let cells = &mut self.cells;
-        self.dirty = alter_part(cells, start, count, x, y, alter, self.dirty);
+        self.grid.alter(x, y, count, alter);
     }
 
     /// Exposes the `count` pixels from (x, y) on to the right: each gets the colour, or keeps its
@@ -328,17 +279,8 @@ impl SpanBuf {
         ensures others { (z w : ℤ) → IsBeside x y count z w
             → cell_in self.new z w ≡ cell_in self.old z w }
     {
-        let Some(run) = run_from(&self.region, &self.starts, x, y) else {
-            return;
-        };
-        self.dirty = expose_part(&mut self.cells, run.start, count, color, self.dirty);
+        if 0 < count {
+            self.alter_run(x, y, count, &Expose { color });
+        }
     }
-}
-
-fn clean_cells(alloc: Global, count: usize, rgb: Rgb) -> Result<Vec<Cell>, NoMemory>
-    ensures same { IfOk result (λ cells. All (λ c. c ≡ clean_cell rgb) cells.items) }
-    ensures len { IfOk result (λ cells. length cells.items ≡ count) }
-{
-    let cell = Cell { rgb, dirty: false };
-    Ok(vec![in alloc; cell; count]?)
 }

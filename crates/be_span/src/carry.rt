@@ -7,15 +7,8 @@ ghost use Rattle.be_span.specs.Runs.{HasRun};
 ghost use Rattle.be_span.specs.Spans.{cell_in, laid};
 
 use crate::buffer::SpanBuf;
-use crate::places::{height_of, width_of};
+use crate::places::{Pixel, columns, height_of, row_of, width_of};
 use be_geom::Rect;
-
-/// A pixel, or the way from one pixel to another.
-#[derive(Clone, Copy)]
-pub(crate) struct Pixel {
-    pub x: i32,
-    pub y: i32,
-}
 
 impl SpanBuf {
     /// Gives each pixel of `to` the cell of the pixel `dx` further left and `dy` further up in
@@ -124,18 +117,6 @@ fn lay_rect(from: &SpanBuf, way: Pixel, to: &mut SpanBuf, rect: Rect)
     }
 }
 
-/// The first pixel of a row of the rectangle, counted from its top.
-pub(crate) fn row_of(rect: Rect, row: usize) -> Pixel
-    requires { (rect.top +ℤ pos row) ≤ℤ rect.bottom }
-    ensures across { result.x ≡ rect.left }
-    ensures down { result.y ≡ rect.top +ℤ pos row }
-{
-    Pixel {
-        x: i32::from(rect.left),
-        y: i32::from(rect.top) + row as i32,
-    }
-}
-
 /// The pixel before it was moved.
 fn moved_back(pixel: Pixel, way: Pixel) -> Pixel
     requires across { IsShift way.x }
@@ -202,15 +183,6 @@ pub(crate) fn gap_from(spans: &SpanBuf, pixel: Pixel, rest: usize) -> usize
 {
     let (_, last) = spans.region().run_at(pixel.x, pixel.y);
     columns(pixel.x, last).min(rest)
-}
-
-/// How many columns there are from one to another that isn't before it.
-fn columns(x: i32, last: i32) -> usize
-    requires { x ≤ℤ last }
-    ensures columns { pos result ≡ last -ℤ x +ℤ pos 1 }
-    ensures some { 0 < result }
-{
-    (i64::from(last) - i64::from(x) + 1) as usize
 }
 
 /// The pixel so many columns further right.

@@ -1,6 +1,4 @@
-ghost use Rattle.std.specs.Prelude.{◌≡◌, ◌<◌, ◌≤◌, ◌+◌, ◌⊎◌, ℕ, true, length, map, slice_get};
-ghost use Rattle.std.specs.Prelude.{count_by};
-ghost use Rattle.std.specs.Option.{option_map};
+ghost use Rattle.std.specs.Prelude.{◌≡◌, ◌+◌, true, map};
 ghost use Rattle.be_color.specs.declared.colors.Color.TheVariants.{Clear};
 ghost use Rattle.be_span.specs.Cells.{exposed_cell};
 
@@ -28,29 +26,6 @@ impl Alter for Expose {
         expose_all(cells, self.color);
         dirty - lost + cells.len()
     }
-}
-
-/// Exposes `count` cells from `start` on. How many of all are dirty is told and given back.
-pub(crate) fn expose_part(
-    cells: &mut [Cell],
-    start: usize,
-    count: usize,
-    color: Color,
-    dirty: usize,
-) -> usize
-    requires fits { start + count ≤ length cells.old }
-    requires counted { dirty ≡ count_by (λ c. c.dirty) cells.old }
-    ensures len { length cells.new ≡ length cells.old }
-    ensures inside { (k : ℕ) → k < count → slice_get cells.new (start + k)
-        ≡ option_map (exposed_cell color) (slice_get cells.old (start + k)) }
-    ensures others { (q : ℕ) → (q < start) ⊎ (start + count ≤ q)
-        → slice_get cells.new q ≡ slice_get cells.old q }
-    ensures counted { result ≡ count_by (λ c. c.dirty) cells.new }
-{
-    let end = start + count;
-    let lost = dirty_of(&cells[start..end], dirty);
-    expose_all(&mut cells[start..end], color);
-    dirty - lost + count
 }
 
 /// Gives each cell the colour, or leaves it its own where that is transparent, and a mark.

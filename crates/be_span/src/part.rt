@@ -3,7 +3,6 @@ ghost use Rattle.be_region.specs.Regions.{region_has, IsIntersection};
 ghost use Rattle.be_span.specs.Spans.{cell_in};
 
 use crate::buffer::SpanBuf;
-use crate::gather::gathered;
 use be_geom::NoMemory;
 use be_region::Region;
 
@@ -17,6 +16,8 @@ impl SpanBuf {
     {
         let mut both = self.region().copy()?;
         both.intersect(region)?;
-        gathered(both, self, self)
+        let mut part = SpanBuf::prepare(self.allocator(), both)?;
+        part.lay(self, 0, 0);
+        Ok(part)
     }
 }

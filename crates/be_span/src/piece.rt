@@ -9,7 +9,7 @@ ghost use Rattle.be_span.specs.Runs.{HasRun, IsBeside};
 ghost use Rattle.be_span.specs.Spans.{area_of, cell_in, is_dirty, place_of};
 
 use crate::Cell;
-use crate::places::{area_of, cell_at, width_of};
+use crate::places::{area_of, height_of, row_of, start_of, width_of};
 use crate::rows::dirty_among;
 use be_color::Rgb;
 use be_geom::Rect;
@@ -120,13 +120,11 @@ impl Piece {
         requires known { (x y : ℤ) → rect_has part x y ≡ true → W.knows write.now x y ≡ true }
         ensures { IsPainted (λ x y c. W.cell write.now x y) (rect_has part) self.old self.new }
     {
-        let count = width_of(part);
-        let left = i32::from(part.left);
-        let bottom = i32::from(part.bottom);
-        let mut y = i32::from(part.top);
-        'rows: while y <= bottom {
-            self.write_run(left, y, count, write);
-            y += 1;
+        let width = width_of(part);
+        let height = height_of(part);
+        for row in 0..height {
+            let first = row_of(part, row);
+            self.write_run(first.x, first.y, width, write);
         }
     }
 
@@ -169,7 +167,7 @@ impl Piece {
             → place_of self.now.rects (x +ℤ pos k) y ≡ Some (result + k) }
         ensures within { result + count ≤ 1024 }
     {
-        cell_at(self.area, 0, x, y)
+        start_of(self.area, x, y, count)
     }
 
     /// Whether no cell is dirty.

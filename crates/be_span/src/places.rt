@@ -1,67 +1,58 @@
-ghost use Rattle.std.specs.Prelude.{◌≡◌, ◌<◌, ◌≤ℤ◌, ◌+ℤ◌, ◌-ℤ◌, ◌+◌, pos, unsigned_abs, ℕ, ◌^◌};
-ghost use Rattle.std.specs.Prelude.{false, length, take, slice_index, IfNone, IfSome, IfOk};
-ghost use Rattle.be_region.specs.Bands.{AreBands};
-ghost use Rattle.be_region.specs.Regions.{region_has};
-ghost use Rattle.be_span.specs.Spans.{pixels_of, place_in, width_of, height_of, area_of};
-ghost use Rattle.be_span.specs.Runs.{IsRunFrom};
+ghost use Rattle.std.specs.Prelude.{◌≡◌, ◌<◌, ◌≤◌, ◌≤ℤ◌, ◌+ℤ◌, ◌-ℤ◌, ◌+◌, ℕ, pos, unsigned_abs};
+ghost use Rattle.std.specs.Prelude.{false, IfNone, IfSome, [], ◌∷◌, Some};
+ghost use Rattle.be_region.specs.Regions.{IsNotEmpty, region_has};
+ghost use Rattle.be_span.specs.Spans.{area_of, height_of, place_in, place_of, width_of};
+ghost use Rattle.be_span.specs.Runs.{HasRun, IsRunFrom};
 
-use be_geom::{NoMemory, Rect};
+use be_geom::Rect;
 use be_region::Region;
-use std::alloc::Global;
 
-/// Where the cells from a pixel on to the end of its span stand.
-#[derive(Clone, Copy)]
-pub(crate) struct Run {
-    pub start: usize,
-    pub len: usize,
-}
-
-/// The cells from the pixel on to the end of its span. None outside the region.
-pub(crate) fn run_from(region: &Region, starts: &[usize], x: i32, y: i32) -> Option<Run>
-    requires each { length starts.now ≡ length region.now }
-    requires before { (k : ℕ) → k < length region.now
-        → slice_index starts.now k ≡ pixels_of (take k region.now) }
-    requires fits { pixels_of region.now < 2 ^ 63 }
+/// How many pixels there are from one on to the end of its span. None outside the region.
+pub(crate) fn run_from(region: &Region, x: i32, y: i32) -> Option<usize>
     ensures none { IfNone result (region_has region.now x y ≡ false) }
-    ensures some { IfSome result (λ run. IsRunFrom region.now run.start run.len x y) }
+    ensures some { IfSome result (IsRunFrom region.now x y) }
 {
     let Some(place) = region.span_at(x, y) else {
         return None;
     };
     let rect = region.rect_at(place).unwrap();
-    Some(run_in(rect, starts[place], x, y))
+    Some(columns(x, i32::from(rect.right)))
 }
 
-/// The cells from the pixel on to the end of its row of a rectangle, before whose cells there are
-/// `start` others.
-fn run_in(rect: Rect, start: usize, x: i32, y: i32) -> Run
+/// How many columns there are from one to another that isn't before it.
+pub(crate) fn columns(x: i32, last: i32) -> usize
+    requires { x ≤ℤ last }
+    ensures columns { pos result ≡ last -ℤ x +ℤ pos 1 }
+    ensures some { 0 < result }
+{
+    (i64::from(last) - i64::from(x) + 1) as usize
+}
+
+/// Where the cells of the `count` pixels from (x, y) on to the right stand, all of them in one row
+/// of the rectangle.
+#[inline(always)]
+pub(crate) fn start_of(frame: Rect, x: i32, y: i32, count: usize) -> usize
+    requires some { 0 < count }
+    requires full { IsNotEmpty frame }
+    requires run { HasRun (frame ∷ []) x y count }
+    ensures stand { (k : ℕ) → k < count
+        → place_of (frame ∷ []) (x +ℤ pos k) y ≡ Some (result + k) }
+    ensures within { result + count ≤ area_of frame }
+{
+    place_in(frame, x, y)
+}
+
+/// How many of the rectangle's cells come before the one of its pixel.
+#[tactic(auto, unfolding(crate::specs::Spans::place_in))]
+fn place_in(rect: Rect, x: i32, y: i32) -> usize
+    requires across { rect.left ≤ℤ rect.right }
     requires from_left { rect.left ≤ℤ x }
     requires to_right { x ≤ℤ rect.right }
     requires from_top { rect.top ≤ℤ y }
     requires to_bottom { y ≤ℤ rect.bottom }
-    requires fits { start + area_of rect < 2 ^ 63 }
-    ensures start { result.start ≡ start + place_in rect x y }
-    ensures len { pos result.len ≡ rect.right -ℤ x +ℤ pos 1 }
+    ensures { result ≡ place_in rect x y }
 {
-    Run {
-        start: cell_at(rect, start, x, y),
-        len: width_of(rect) - steps(rect.left, x),
-    }
-}
-
-/// Where the cell of a pixel stands in the rectangle's rows, or the place behind the last of its
-/// row.
-#[tactic(auto, unfolding(crate::specs::Spans::place_in))]
-pub(crate) fn cell_at(rect: Rect, start: usize, x: i32, y: i32) -> usize
-    requires across { rect.left ≤ℤ rect.right }
-    requires from_left { rect.left ≤ℤ x }
-    requires to_right { x ≤ℤ (rect.right +ℤ pos 1) }
-    requires from_top { rect.top ≤ℤ y }
-    requires to_bottom { y ≤ℤ rect.bottom }
-    requires fits { start + area_of rect < 2 ^ 63 }
-    ensures { result ≡ start + place_in rect x y }
-{
-    start + (steps(rect.top, y) * width_of(rect) + steps(rect.left, x))
+    steps(rect.top, y) * width_of(rect) + steps(rect.left, x)
 }
 
 /// How far it is from an edge to a column or a row that isn't before it.
@@ -71,6 +62,26 @@ fn steps(edge: i16, z: i32) -> usize
     ensures { result ≡ unsigned_abs (z -ℤ edge) }
 {
     (z - i32::from(edge)) as usize
+}
+
+/// A pixel, or the way from one pixel to another.
+#[derive(Clone, Copy)]
+pub(crate) struct Pixel {
+    pub x: i32,
+    pub y: i32,
+}
+
+/// The first pixel of a row of the rectangle, counted from its top.
+#[inline(always)]
+pub(crate) fn row_of(rect: Rect, row: usize) -> Pixel
+    requires { (rect.top +ℤ pos row) ≤ℤ rect.bottom }
+    ensures across { result.x ≡ rect.left }
+    ensures down { result.y ≡ rect.top +ℤ pos row }
+{
+    Pixel {
+        x: i32::from(rect.left),
+        y: i32::from(rect.top) + row as i32,
+    }
 }
 
 /// How many columns there are.
@@ -97,25 +108,4 @@ pub(crate) fn area_of(rect: Rect) -> usize
     ensures { result ≡ area_of rect }
 {
     height_of(rect) * width_of(rect)
-}
-
-/// How many cells come before those of each rectangle, and how many there are.
-pub(crate) fn starts_of(alloc: Global, region: &Region) -> Result<(Vec<usize>, usize), NoMemory>
-    ensures bands { AreBands region.now }
-    ensures each { IfOk result (λ s. length s.0.items ≡ length region.now) }
-    ensures before { IfOk result (λ s. (k : ℕ) → k < length region.now
-        → slice_index s.0.items k ≡ pixels_of (take k region.now)) }
-    ensures whole { IfOk result (λ s. s.1 ≡ pixels_of region.now) }
-{
-    let mut starts = Vec::new(alloc);
-    let mut count = 0usize;
-    for place in 0..region.count() {
-        let rect = region.rect_at(place).unwrap();
-        starts.push(count)?;
-        let Some(next) = count.checked_add(area_of(rect)) else {
-            return Err(NoMemory);
-        };
-        count = next;
-    }
-    Ok((starts, count))
 }

@@ -1,8 +1,7 @@
 ghost use Rattle.std.specs.Prelude.{◌≡◌, ◌<◌, ◌≤◌, ◌+◌, ◌⊎◌, ℕ, pos, ◌+ℤ◌, true, length, map};
 ghost use Rattle.std.specs.Prelude.{slice_get, count_by};
-ghost use Rattle.std.specs.Option.{option_map};
 ghost use Rattle.be_span.specs.Cells.{unmarked};
-ghost use Rattle.be_span.specs.Painting.{changed, AreInRange};
+ghost use Rattle.be_span.specs.Painting.{changed, AreInRange, IsPartDone};
 
 use crate::Cell;
 use crate::alter::Alter;
@@ -48,11 +47,8 @@ pub fn paint_part<P: Paint>(
     requires range { AreInRange x y count }
     requires clean { clean ≡ true → count_by (λ c. c.dirty) cells.old ≡ 0 }
     ensures len { length cells.new ≡ length cells.old }
-    ensures inside { (k : ℕ) → k < count → slice_get cells.new (start + k)
-        ≡ option_map (changed (P.rule paint.now) (P.at paint.now) (x +ℤ pos k) y)
-        (slice_get cells.old (start + k)) }
-    ensures others { (q : ℕ) → (q < start) ⊎ (start + count ≤ q)
-        → slice_get cells.new q ≡ slice_get cells.old q }
+    ensures part { IsPartDone (λ k. changed (P.rule paint.now) (P.at paint.now) (x +ℤ pos k) y)
+        cells.old cells.new start count }
     ensures marks { count_by (λ c. c.dirty) cells.new ≡ count_by (λ c. c.dirty) cells.old }
 {
     paint.paint(&mut cells[start..start + count], x, y, clean);
@@ -75,11 +71,8 @@ pub(crate) fn alter_part<A: Alter>(
     requires known { (k : ℕ) → k < count → A.knows alter.now (x +ℤ pos k) y ≡ true }
     requires counted { dirty ≡ count_by (λ c. c.dirty) cells.old }
     ensures len { length cells.new ≡ length cells.old }
-    ensures inside { (k : ℕ) → k < count → slice_get cells.new (start + k)
-        ≡ option_map (changed (A.rule alter.now) (A.at alter.now) (x +ℤ pos k) y)
-        (slice_get cells.old (start + k)) }
-    ensures others { (q : ℕ) → (q < start) ⊎ (start + count ≤ q)
-        → slice_get cells.new q ≡ slice_get cells.old q }
+    ensures part { IsPartDone (λ k. changed (A.rule alter.now) (A.at alter.now) (x +ℤ pos k) y)
+        cells.old cells.new start count }
     ensures counted { result ≡ count_by (λ c. c.dirty) cells.new }
 {
     alter.alter(&mut cells[start..start + count], x, y, dirty)

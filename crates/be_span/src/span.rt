@@ -3,11 +3,10 @@ ghost use Rattle.std.specs.Prelude.{◌≡◌};
 use be_geom::Rect;
 use std::marker::Model;
 
-/// A rectangle of a buffer's region, and where its cells stand in the buffer.
+/// A rectangle of a buffer's region.
 #[derive(Clone, Copy, Debug)]
 pub struct Span {
     pub(crate) rect: Rect,
-    pub(crate) start: usize,
 }
 
 impl Model for Span {
@@ -15,9 +14,9 @@ impl Model for Span {
 
     ghost Value = { SpanAt };
 
-    ghost view = { λ s. record { rect = s.rect; start = s.start } };
+    ghost view = { λ s. record { rect = s.rect } };
 
-    ghost inverse = { λ s. record { rect = s.rect; start = s.start } };
+    ghost inverse = { λ s. record { rect = s.rect } };
 }
 
 impl Span {

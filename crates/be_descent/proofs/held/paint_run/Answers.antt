@@ -153,9 +153,9 @@ returns-clause-cells g c k =
     let first = first_is g before in
     let start = start_is g after first in
     let count = count_is g after first (last_is g before) in
-    let inside = rw first at (simp (to_z-of_z, f32, c.ranges.y) at c.paint_part.ensures.inside) in
+    let inside = rw first at (simp (to_z-of_z, f32, c.ranges.y) at c.paint_part.ensures.part.inside) in
     run_changed (g.P.Paint.rule c.args.paint.now) (g.P.Paint.at c.args.paint.now) c.args.run
     c.args.cells.now c.paint_part.new.cells c.in-Some.first c.in-Some.last c.args.x
     (end_of g before) c.args.y c.args.by c.far_from-start.result (c.far_from-count.result + 1) k
     refl c.in-Some.ensures.order start (omega (arith, ints)) (common_is g before) inside
-    c.paint_part.ensures.others
+    c.paint_part.ensures.part.others

@@ -1,19 +1,13 @@
-use Rattle.std.proofs.Common.{◌≡◌, ◌+◌, pos, ◌+ℤ◌, ◌≤ℤ◌}
-use borrow.Author.Gap.{gap}
+use Rattle.std.proofs.Common.{◌≡◌, pos, ◌+ℤ◌, length}
+use Rattle.std.specs.Option.{option_map}
 use Rattle.be_span.specs.Painting.{changed}
-use Rattle.be_span.specs.Spans.{place_in}
-use Rattle.be_span.proofs.BlockLemmas.{AreChangedTo}
+use Rattle.be_span.specs.Spans.{pixels_of}
+use Rattle.be_span.proofs.BlockLemmas.{AreDoneTo}
 use Rattle.be_span.proofs.alter.alter_rows.Given as goal
 
-abbrev pub invariant-rows : goal.invariant-rows
-invariant-rows g l = record {
-  from : l.fn.rect.top ≤ℤ l.y;
-  to : l.y ≤ℤ (l.fn.rect.bottom +ℤ pos 1);
-  start : l.start ≡ l.fn.span.start + place_in l.fn.span.rect l.fn.rect.left l.y;
-  region : l.spans.rects ≡ l.fn.spans.rects;
-  done : AreChangedTo (changed (g.A.Alter.rule l.fn.alter) (g.A.Alter.at l.fn.alter)) l.fn.spans
-      l.spans l.fn.rect l.y;
+abbrev pub invariant-loop-row : goal.invariant-loop-row
+invariant-loop-row g l = record {
+  region : l.grid.rects ≡ l.fn.grid.rects;
+  whole : length l.grid.cells ≡ pixels_of l.grid.rects;
+  done : AreDoneTo (λ x y. option_map (changed (g.A.Alter.rule l.fn.alter) (g.A.Alter.at l.fn.alter) x y)) l.fn.grid l.grid l.fn.rect (l.fn.rect.top +ℤ pos l.row);
 }
-
-abbrev pub decreases-rows : goal.decreases-rows
-decreases-rows g l = gap l.y (l.bottom +ℤ pos 1)

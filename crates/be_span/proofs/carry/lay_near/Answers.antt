@@ -1,8 +1,9 @@
 -- Rectangle by rectangle.
 use Rattle.std.proofs.Common.{ap, sym, ◌∙◌, arith, length, ◌-ℤ◌}
 use Rattle.be_region.specs.Regions.{region_has}
-use Rattle.be_span.specs.Spans.{cell_in}
-use Rattle.be_span.proofs.LaidLemmas.{rect_inside, all_more, all_laid}
+use Rattle.be_span.specs.Spans.{cell_in, laid}
+use Rattle.be_span.proofs.BlockLemmas.{all_more}
+use Rattle.be_span.proofs.LaidLemmas.{all_laid, laid_twice, rect_inside}
 use Rattle.be_span.proofs.carry.lay_near.Goals as goal
 
 pub lay_rect-requires-clause-inside : goal.lay_rect-requires-clause-inside
@@ -18,7 +19,7 @@ loop-place-preserved c =
     let same = c.region-in-loop-place.ensures.region ∙ c.loop-place.invariant.region in
     record {
       region = c.lay_rect.ensures.region ∙ c.loop-place.invariant.region;
-      cells = all_more (λ x y. cell_in c.args.from.now (x -ℤ c.args.way.x) (y -ℤ c.args.way.y)) c.args.to.now c.loop-place.to c.lay_rect.new.to c.args.to.now.rects c.loop-place.place c.unwrap-rect.result (rw (← same) there) so_far more;
+      cells = all_more (λ x y. laid (cell_in c.args.from.now (x -ℤ c.args.way.x) (y -ℤ c.args.way.y))) c.args.to.now c.loop-place.to c.lay_rect.new.to c.args.to.now.rects c.loop-place.place c.unwrap-rect.result (λ x y. laid_twice _) (rw (← same) there) so_far more;
     }
 
 pub returns-clause-cells : goal.returns-clause-cells

@@ -1,10 +1,9 @@
 -- A part altered.
-use Rattle.std.proofs.Common.{arith, cond, ℕ, pos, subst, sym, ◌+ℤ◌, ◌+◌, ◌-◌, ◌≤◌, ◌⊎◌, ◌<◌, ap, ◌∙◌, refl}
-use Rattle.std.specs.Option.{option_map}
+use Rattle.std.proofs.Common.{arith, cond, ℕ, pos, subst, sym, ◌+ℤ◌, ◌+◌, ◌-◌, refl}
 use Rattle.std.proofs.lemmas.Int.{to_z-of_z}
 use Rattle.be_span.specs.declared.Cell.{Cell}
 use Rattle.be_span.specs.Painting.{changed, AreInRange}
-use Rattle.be_span.proofs.CellLemmas.{part_sum, put_sum, put_inside, put_others, part_get, part_length}
+use Rattle.be_span.proofs.CellLemmas.{part_done, part_length, part_sum, put_sum}
 use Rattle.be_span.proofs.rows.alter_part.Goals as goal
 
 pub alter-requires-clause-range : goal.alter-requires-clause-range
@@ -24,24 +23,10 @@ alter-requires-clause-among g c =
     let all = c.requires.counted in
     omega arith
 
-pub returns-clause-inside : goal.returns-clause-inside
-returns-clause-inside g c k less =
-    let fits = c.requires.fits in
-    let long = part_length c.args.cells.now _ c.args.start c.args.count refl fits in
-    let kept = c.alter.auto.cells in
+pub returns-clause-part : goal.returns-clause-part
+returns-clause-part g c =
     let cells = simp (to_z-of_z, c.ranges.x, c.ranges.y) at c.alter.ensures.cells in
-    put_inside c.args.start (c.args.start + c.args.count - c.args.start) c.args.cells.now c.alter.new.cells k (omega arith) (omega arith)
-    ∙ cells k
-    ∙ ap (option_map (changed (g.A.Alter.rule c.args.alter.now) (g.A.Alter.at c.args.alter.now) (c.args.x +ℤ pos k) c.args.y)) (part_get c.args.cells.now _ c.args.start c.args.count k refl less)
-
-pub returns-clause-others : goal.returns-clause-others
-returns-clause-others g c q beside =
-    let fits = c.requires.fits in
-    let n = c.args.start + c.args.count - c.args.start in
-    let long = part_length c.args.cells.now _ c.args.start c.args.count refl fits in
-    let kept = c.alter.auto.cells in
-    let apart : (q < c.args.start) ⊎ (c.args.start + n ≤ q) = grind arith in
-    put_others c.args.start n c.args.cells.now c.alter.new.cells q (omega arith) (omega arith) apart
+    part_done (λ k. changed (g.A.Alter.rule c.args.alter.now) (g.A.Alter.at c.args.alter.now) (c.args.x +ℤ pos k) c.args.y) c.args.start c.args.count c.args.cells.now c.alter.new.cells c.requires.fits c.alter.auto.cells cells
 
 pub returns-clause-counted : goal.returns-clause-counted
 returns-clause-counted g c =

@@ -1,10 +1,9 @@
 -- A part painted.
-use Rattle.std.proofs.Common.{arith, cond, ℕ, pos, subst, sym, ◌+ℤ◌, ◌+◌, ◌-◌, ◌≤◌, ◌⊎◌, ◌<◌, ap, ◌∙◌, refl}
-use Rattle.std.specs.Option.{option_map}
+use Rattle.std.proofs.Common.{arith, cond, ℕ, pos, subst, sym, ◌+ℤ◌, ◌+◌, ◌-◌, refl}
 use Rattle.std.proofs.lemmas.Int.{to_z-of_z}
 use Rattle.be_span.specs.declared.Cell.{Cell}
 use Rattle.be_span.specs.Painting.{changed, AreInRange}
-use Rattle.be_span.proofs.CellLemmas.{part_sum, put_sum, put_inside, put_others, part_get, part_length}
+use Rattle.be_span.proofs.CellLemmas.{part_done, part_length, part_sum, put_sum}
 use Rattle.be_span.proofs.rows.paint_part.Goals as goal
 
 pub paint-requires-clause-range : goal.paint-requires-clause-range
@@ -19,24 +18,10 @@ paint-requires-clause-clean g c told =
     let none = c.requires.clean told in
     omega arith
 
-pub returns-clause-inside : goal.returns-clause-inside
-returns-clause-inside g c k less =
-    let fits = c.requires.fits in
-    let long = part_length c.args.cells.now _ c.args.start c.args.count refl fits in
-    let kept = c.paint.auto.cells in
+pub returns-clause-part : goal.returns-clause-part
+returns-clause-part g c =
     let cells = simp (to_z-of_z, c.ranges.x, c.ranges.y) at c.paint.ensures.cells in
-    put_inside c.args.start (c.args.start + c.args.count - c.args.start) c.args.cells.now c.paint.new.cells k (omega arith) (omega arith)
-    ∙ cells k
-    ∙ ap (option_map (changed (g.P.Paint.rule c.args.paint.now) (g.P.Paint.at c.args.paint.now) (c.args.x +ℤ pos k) c.args.y)) (part_get c.args.cells.now _ c.args.start c.args.count k refl less)
-
-pub returns-clause-others : goal.returns-clause-others
-returns-clause-others g c q beside =
-    let fits = c.requires.fits in
-    let n = c.args.start + c.args.count - c.args.start in
-    let long = part_length c.args.cells.now _ c.args.start c.args.count refl fits in
-    let kept = c.paint.auto.cells in
-    let apart : (q < c.args.start) ⊎ (c.args.start + n ≤ q) = grind arith in
-    put_others c.args.start n c.args.cells.now c.paint.new.cells q (omega arith) (omega arith) apart
+    part_done (λ k. changed (g.P.Paint.rule c.args.paint.now) (g.P.Paint.at c.args.paint.now) (c.args.x +ℤ pos k) c.args.y) c.args.start c.args.count c.args.cells.now c.paint.new.cells c.requires.fits c.paint.auto.cells cells
 
 pub returns-clause-marks : goal.returns-clause-marks
 returns-clause-marks g c =
