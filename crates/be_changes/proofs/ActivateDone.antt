@@ -18,7 +18,7 @@ use Rattle.be_parts.specs.declared.part.Part.TheVariants as kinds
 use Rattle.be_rules.specs.Places.{place_of}
 use Rattle.be_rules.specs.Slices.{Slice}
 use Rattle.be_script.specs.Script.{Declared}
-use Rattle.be_span.specs.Spans.{Spans}
+use Rattle.be_desk.specs.declared.planned.Renewed.{Renewed}
 
 module _ (d : Declared) (parts : List (ℕ × Part)) (old between : Hand Part) (o : Option Activation) (ready : IsToActivate d parts old.parts o) (m : Activation) (is : o ≡ Some m) (places : List ℕ) (same : places ≡ m.places.items) where
   known : IsToActivate d parts old.parts (Some m)
@@ -34,12 +34,12 @@ module _ (d : Declared) (parts : List (ℕ × Part)) (old between : Hand Part) (
     pub activate_desk : (k : Slice) × (part_at between.parts where_desk ≡ Some (kinds.Desk k))
     activate_desk = (known.1.0, desk_stays)
 
-    pub activate_plan : (k : Slice) (then_plan : Planned) (spans : List (Option Spans)) → then_plan ≡ record m.plan { spans = spans } → part_at between.parts where_desk ≡ Some (kinds.Desk k) → IsPlanFor then_plan k
+    pub activate_plan : (k : Slice) (then_plan : Planned) (spans : List (Option Renewed)) → then_plan ≡ record m.plan { spans = spans } → part_at between.parts where_desk ≡ Some (kinds.Desk k) → IsPlanFor then_plan k
     activate_plan k then_plan spans are at =
         subst (λ (t : Planned). IsPlanFor t k) (sym are)
         (subst (IsPlanFor m.plan) (ap meaning_of (same_Some (kinds.Desk known.1.0) (kinds.Desk k) (sym desk_stays ∙ at))) known.1.2)
 
-    pub has_activated : (k v : Slice) (then_plan : Planned) (spans : List (Option Spans)) → then_plan ≡ record m.plan { spans = spans } → places ≡ pane_places d named → part_at between.parts where_desk ≡ Some (kinds.Desk k) → IsChangedBy then_plan k v
+    pub has_activated : (k v : Slice) (then_plan : Planned) (spans : List (Option Renewed)) → then_plan ≡ record m.plan { spans = spans } → places ≡ pane_places d named → part_at between.parts where_desk ≡ Some (kinds.Desk k) → IsChangedBy then_plan k v
         → HasActivated d parts o old (hand_with between where_desk (kinds.Desk v))
     has_activated k v then_plan spans are places_are at changed =
         subst (λ (x : Option Activation). HasActivated d parts x old (hand_with between where_desk (kinds.Desk v))) (sym is) (

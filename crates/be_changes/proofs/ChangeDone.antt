@@ -43,7 +43,7 @@ use Rattle.be_rules.specs.Places.{place_of}
 use Rattle.be_rules.specs.Slices.{Slice, desk, desk_in, link, pane, port, shown_of, slice_of}
 use Rattle.be_rules.specs.Sure.{IsAmong, effect_parts, port_for, seen_in}
 use Rattle.be_script.specs.Script.{Declared}
-use Rattle.be_span.specs.Spans.{Spans}
+use Rattle.be_desk.specs.declared.planned.Renewed.{Renewed}
 use Rattle.be_rules.proofs.Far.{windows_changed}
 use Rattle.be_asking.proofs.UsesAnswered.{in_front, behind}
 use Rattle.be_steps.proofs.Making.{now, read, settled_now, then_is, there}
@@ -246,18 +246,18 @@ module _ (d : Declared) (old : Hand Part) (w : ℕ) (allowed : IsAllowed d old.p
           desk_was : (k : Slice) → part_at closed.parts where_desk ≡ Some (kinds.Desk k) → k ≡ desk planned.known
           desk_was k at_desk = ap meaning_of (same_Some (kinds.Desk k) (kinds.Desk (desk planned.known)) (sym at_desk ∙ ap (part_at closed.parts) desk_spot ∙ desk_stays))
 
-          pub plan_for : (k : Slice) (then_plan : Planned) (spans : List (Option Spans)) → then_plan ≡ record plan { spans = spans } → part_at closed.parts where_desk ≡ Some (kinds.Desk k) → IsPlanFor then_plan k
+          pub plan_for : (k : Slice) (then_plan : Planned) (spans : List (Option Renewed)) → then_plan ≡ record plan { spans = spans } → part_at closed.parts where_desk ≡ Some (kinds.Desk k) → IsPlanFor then_plan k
           plan_for k then_plan spans is at_desk =
               subst (λ (t : Planned). IsPlanFor t k) (sym is) (planned.known, desk_was k at_desk, planned.planned.on_desk)
 
-          desk_after_is : (k v : Slice) (then_plan : Planned) (spans : List (Option Spans)) → then_plan ≡ record plan { spans = spans } → k ≡ desk planned.known → IsChangedBy then_plan k v → slice_of later part.desk ≡ v
+          desk_after_is : (k v : Slice) (then_plan : Planned) (spans : List (Option Renewed)) → then_plan ≡ record plan { spans = spans } → k ≡ desk planned.known → IsChangedBy then_plan k v → slice_of later part.desk ≡ v
           desk_after_is k v then_plan spans is before changed_by =
               let x_is : changed_by.0 ≡ s.desk = same_Some changed_by.0 s.desk (ap desk_in (sym changed_by.2 ∙ before) ∙ ap (λ (x : Desk). Some x) (sym desk_is)) in
               let leads : desk_after s.desk w plan.change ≡ Ok changed_by.1 =
               ap (λ n. desk_after s.desk n plan.change) (sym window) ∙ ap (λ (x : Desk). desk_after x plan.window plan.change) (sym x_is) ∙ ap (λ (t : Planned). desk_after changed_by.0 t.window t.change) (sym is) ∙ changed_by.4 in
               desk_later ∙ ap desk (same_ok after_here.0 changed_by.1 (desk_after s.desk w plan.change) after_here.1 leads) ∙ sym changed_by.3
 
-          pub change_done : (k v : Slice) (then_plan : Planned) (spans : List (Option Spans)) → then_plan ≡ record plan { spans = spans } → places ≡ pane_places d named → part_at closed.parts where_desk ≡ Some (kinds.Desk k) → IsChangedBy then_plan k v
+          pub change_done : (k v : Slice) (then_plan : Planned) (spans : List (Option Renewed)) → then_plan ≡ record plan { spans = spans } → places ≡ pane_places d named → part_at closed.parts where_desk ≡ Some (kinds.Desk k) → IsChangedBy then_plan k v
               → IsDone d (who.Twin w) old (hand_with closed where_desk (kinds.Desk v))
           change_done k v then_plan spans is places_are at_desk changed_by =
               let the_desk_left : HasLeft d old.parts (who.Twin w) (part.desk ∷ []) closed (hand_with closed where_desk (kinds.Desk v)) = one_left d old.parts (who.Twin w) closed part.desk where_desk (kinds.Desk k) (kinds.Desk v) desk_spot desk_there.reachable.there at_desk refl (leaves_as part.desk v desk_there (desk_after_is k v then_plan spans is (desk_was k at_desk) changed_by)) in

@@ -20,7 +20,7 @@ use Rattle.be_parts.specs.declared.part.Part.TheVariants as kinds
 use Rattle.be_rules.specs.Places.{IsPart, place_of}
 use Rattle.be_rules.specs.Slices.{Slice}
 use Rattle.be_script.specs.Script.{Declared}
-use Rattle.be_span.specs.Spans.{Spans}
+use Rattle.be_desk.specs.declared.planned.Renewed.{Renewed}
 use Rattle.be_steps.specs.Steps.{LeavesAt}
 
 -- ---- lists
@@ -80,7 +80,7 @@ module _ (d : Declared) (parts : List (ℕ × Part)) (who : Activity) (first_pla
     pub once : IsEachOnce windows
     pub ready : AreToChange d parts held.parts who plan windows n
     pub left : HasLeft d parts who (map part.pane (take n windows)) old held
-    pub spans : List (Option Spans)
+    pub spans : List (Option Renewed)
     pub plan_is : plan ≡ record first_plan { spans = spans }
 
   pub none_changed : PanesAreToChange d parts old.parts who first_plan places → AreUnderWay 0 first_plan old
@@ -154,5 +154,5 @@ module _ (d : Declared) (parts : List (ℕ × Part)) (who : Activity) (first_pla
       let many : length is.windows ≤ n = subst (λ k. k ≤ n) (ap (λ (l : List ℕ). length l) is.places_are ∙ length-map is.windows _) all in
       (is.windows, is.places_are, subst (λ (l : List ℕ). HasLeft d parts who (map part.pane l) old held) (take_all is.windows n many) is.left)
 
-  pub plan_kept : (n : ℕ) (plan : Planned) (held : Hand Part) → AreUnderWay n plan held → (spans : List (Option Spans)) × (plan ≡ record first_plan { spans = spans })
+  pub plan_kept : (n : ℕ) (plan : Planned) (held : Hand Part) → AreUnderWay n plan held → (spans : List (Option Renewed)) × (plan ≡ record first_plan { spans = spans })
   plan_kept n plan held is = (is.spans, is.plan_is)

@@ -22,7 +22,7 @@ use Rattle.be_rules.proofs.ListLemmas.{there_below}
 use Rattle.be_rules.specs.Slices.{pane, shown_of}
 use Rattle.be_script.specs.Script.{Declared}
 use Rattle.be_span.specs.Cells.{desktop_cell}
-use Rattle.be_span.specs.Spans.{Spans}
+use Rattle.be_desk.specs.declared.planned.Renewed.{Renewed}
 use Rattle.be_span.specs.declared.Cell.{Cell}
 use Rattle.be_stack.specs.Owner.{is_on_screen, owner_at}
 use Rattle.be_stack.specs.Windows.{Windows}
@@ -75,7 +75,7 @@ module _ (d : Declared) (s : State) (parts : HasParts d s) (desktop : (x y : ℤ
   }
 
   -- the pane of a number, with its spans
-  pub pane_changed : (k : ℕ) (p : Pane) (these : Option Spans) → slice_get panes k ≡ Some p → slice_get plan.spans k ≡ Some these
+  pub pane_changed : (k : ℕ) (p : Pane) (these : Option Renewed) → slice_get panes k ≡ Some p → slice_get plan.spans k ≡ Some these
       → IsChanged plan.windows plan.window plan.change these (pane p.window (shown_of s p.window)) (pane p.window (shown_of (changed s plan.window plan.change) p.window))
   pane_changed k p these got got_spans =
       let same : after.0.windows ≡ plan.windows = is.on_desk.then_windows after.0 after.1 in

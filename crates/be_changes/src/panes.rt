@@ -3,7 +3,7 @@ ghost use Rattle.std.specs.Prelude.{◌≡◌, List, Option};
 ghost use Rattle.be_asking.specs.declared.want.Want.{Want};
 ghost use Rattle.be_changes.specs.Panes.{PanesAreLeft, PanesAreToChange};
 ghost use Rattle.be_script.specs.Script.{declared_by};
-ghost use Rattle.be_span.specs.Spans.{Spans};
+ghost use Rattle.be_desk.specs.declared.planned.Renewed.{Renewed};
 ghost use Rattle.be_steps.specs.Steps.{IsAllowed};
 
 use be_asking::Activity;
@@ -30,7 +30,7 @@ pub(crate) fn change_panes(
         who plan.old places.now }
     ensures panes { PanesAreLeft (declared_by script.now) before.now.value.parts who places.now
         held.old held.new }
-    ensures plan { (spans : List (Option Spans)) × (plan.new ≡ record plan.old { spans = spans }) }
+    ensures plan { (spans : List (Option Renewed)) × (plan.new ≡ record plan.old { spans = spans }) }
 {
     for number in 0..places.len() {
         let place = places[number];

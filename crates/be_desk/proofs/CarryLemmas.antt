@@ -8,7 +8,7 @@ use Rattle.be_geom.specs.declared.change.Change.{Change}
 use Rattle.be_geom.specs.declared.change.Change.TheVariants.{Show, Hide, MoveTo, MoveBy, ResizeTo, Activate, Behind, Focus, Close}
 use Rattle.be_input.specs.Pointing.{Pointing}
 use Rattle.be_pane.specs.declared.pane.Pane.{Pane}
-use Rattle.be_span.specs.Spans.{Spans}
+use Rattle.be_desk.specs.declared.planned.Renewed.{Renewed}
 use Rattle.be_stack.specs.Changes.{windows_after}
 use Rattle.be_stack.specs.Windows.{Windows}
 use Rattle.be_stack.specs.declared.fault.ChangeFault.{ChangeFault}
@@ -17,7 +17,7 @@ use Rattle.be_views.specs.Trees.{Tree}
 use Rattle.be_desk.specs.Carrying.{IsCarriedOver, IsFollowed}
 use Rattle.be_desk.specs.Changes.{Desk, desk_after, desk_unless, desk_with, with_tree}
 use Rattle.be_desk.specs.Desks.{IsPaired, IsTaken}
-use Rattle.be_desk.specs.Plans.{CarriesOver, IsCarried, IsDeskPlan, IsPaneOf, Planned, then_spans}
+use Rattle.be_desk.specs.Plans.{AreFor, CarriesOver, IsCarried, IsDeskPlan, IsPaneOf, Planned, then_spans}
 use Rattle.be_desk.proofs.DeskLemmas.{IsAfter, TreesAfter, is_after}
 use Rattle.be_desk.proofs.PairedLemmas.{other_trees, paired_after, set_there}
 use Rattle.be_desk.proofs.SpansLemmas.{pane_after}
@@ -91,7 +91,7 @@ followed (Behind front) old_trees new_trees w old new same got is = stayed old_t
 followed (Focus view) old_trees new_trees w old new same got is = stayed old_trees new_trees w old new same got is
 followed Close old_trees new_trees w old new same got is = stayed old_trees new_trees w old new same got is
 
-by_number : (b : Bool) (before after : Desk) (w : ℕ) (change : Change) (these : Option Spans) (old new : Pane) → (old.window == w) ≡ b → IsAfter before after w change → slice_get before.pointing.trees old.window ≡ Some old.tree → IsCarriedOver these after.windows w change old new → slice_get after.pointing.trees old.window ≡ Some new.tree
+by_number : (b : Bool) (before after : Desk) (w : ℕ) (change : Change) (these : Option Renewed) (old new : Pane) → (old.window == w) ≡ b → IsAfter before after w change → slice_get before.pointing.trees old.window ≡ Some old.tree → IsCarriedOver these after.windows w change old new → slice_get after.pointing.trees old.window ≡ Some new.tree
 by_number true before after w change these old new e is views over =
     let same : old.window ≡ w = eqb-true old.window w e in
     ap (slice_get after.pointing.trees) same
@@ -100,11 +100,11 @@ by_number false before after w change these old new e is views over =
     let other : old.window ≡ w → ⊥ = λ same. false≢true (sym e ∙ eq-eqb old.window w same) in
     (other_trees change before.pointing.trees after.pointing.trees w is.trees).1 old.window other ∙ views ∙ ap (λ (t : Tree). Some t) (sym (over.other_views e))
 
-pub is_carried : (before after : Desk) (w : ℕ) (change : Change) (these : Option Spans) (old new : Pane) → IsAfter before after w change → IsPaneOf before old → IsCarriedOver these after.windows w change old new → IsCarried after (then_spans these old) old new
-is_carried before after w change these old new is of_pane over = record {
+pub is_carried : (before after : Desk) (w : ℕ) (change : Change) (these : Option Renewed) (old new : Pane) → IsAfter before after w change → IsPaneOf before old → IsCarriedOver these after.windows w change old new → AreFor these old → IsCarried after (then_spans these old) old new
+is_carried before after w change these old new is of_pane over its = record {
   window = over.window;
   place = over.place;
-  spans = over.spans;
+  spans = over.spans its;
   views = by_number (old.window == w) before after w change these old new refl is of_pane.views over;
   colors = over.colors;
   states = over.states;
@@ -113,11 +113,11 @@ is_carried before after w change these old new is of_pane over = record {
 }
 
 -- a pane of the desk with the pixels that are right for it
-pub carries_over : (plan : Planned) (these : Option Spans) (old new : Pane) → IsCarriedOver these plan.windows plan.window plan.change old new → CarriesOver plan these old new
+pub carries_over : (plan : Planned) (these : Option Renewed) (old new : Pane) → IsCarriedOver these plan.windows plan.window plan.change old new → CarriesOver plan these old new
 carries_over plan these old new over before after panes paired taken same of_pane changed =
     let is = is_after before after plan.window plan.change taken in
-    let carried : IsCarried after (then_spans these old) old new = is_carried before after plan.window plan.change these old new is of_pane (subst (λ (w : Windows). IsCarriedOver these w plan.window plan.change old new) (sym same) over) in
-    let then_of : IsPaneOf after new = pane_after before after plan.window plan.change panes old new (then_spans these old) is of_pane changed carried in
+    let carried : IsCarried after (then_spans these old) old new = is_carried before after plan.window plan.change these old new is of_pane (subst (λ (w : Windows). IsCarriedOver these w plan.window plan.change old new) (sym same) over) changed.its in
+    let then_of : IsPaneOf after new = pane_after before after plan.window plan.change panes old new (then_spans these old) is of_pane changed.changed carried in
     (then_of, panes_are_whole after new (paired_after before after plan.window plan.change paired is) then_of, carried)
 
 -- and the desk

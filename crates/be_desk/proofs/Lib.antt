@@ -1,6 +1,8 @@
 pub mod StretchLemmas
 pub mod RuleLemmas
 pub mod RenewLemmas
+pub mod ShiftLemmas
+pub mod ReadyLemmas
 pub mod SizeLemmas
 pub mod SameLemmas
 pub mod OthersLemmas
@@ -11,7 +13,6 @@ pub mod DeskLemmas
 pub mod PairedLemmas
 pub mod PlanLemmas
 pub mod SpansLemmas
-pub mod FreshLemmas
 pub mod StandLemmas
 mod ShownLemmas
 pub mod CarryLemmas

@@ -1,9 +1,10 @@
 -- The new cells of a window, layer by layer.
-use Rattle.std.proofs.Common.{◌≡◌, ℕ, zero, suc, ◌+◌, ◌<◌, ℤ, ◌-ℤ◌, pos, Bool, true, false, ◌||◌, ◌⊎◌, inl, inr, List, [], ◌∷◌, length, take, get_or, Option, Some, None, slice_get, cond, refl, sym, ap, ◌∙◌, subst}
+use Rattle.std.proofs.Common.{◌≡◌, ℕ, zero, suc, ◌+◌, ◌<◌, ◌≤◌, ℤ, ◌-ℤ◌, pos, Bool, true, false, ◌||◌, ◌⊎◌, inl, inr, List, [], ◌∷◌, length, take, get_or, Option, Some, None, slice_get, cond, refl, sym, ap, ◌∙◌, subst}
 use Rattle.std.specs.Prelude.{IsSome, is_some, option_and_then}
 use Rattle.std.specs.Option.{option_map}
 use Rattle.std.specs.List.{list_any}
-use Rattle.std.proofs.lemmas.Bool.{or_left, or_right, and_parts, true≢false}
+use Rattle.std.proofs.lemmas.Bool.{or_left, or_right, and_parts, cond-false, cond-true, true≢false}
+use Rattle.std.proofs.lemmas.List.{take_all}
 use Rattle.std.proofs.lemmas.List.Elements.{All-get_or}
 use Rattle.std.proofs.lemmas.List.Folds.{list_any_more}
 use Rattle.std.proofs.lemmas.Option.{none-some, same_Some}
@@ -14,7 +15,7 @@ use Rattle.be_color.specs.declared.colors.Color.TheVariants.{Solid, Clear}
 use Rattle.be_region.specs.Regions.{region_has}
 use Rattle.be_span.specs.declared.Cell.{Cell}
 use Rattle.be_span.specs.Cells.{desktop_cell, exposed_as}
-use Rattle.be_span.specs.Spans.{cell_in, laid}
+use Rattle.be_span.specs.Spans.{Spans, cell_in, laid}
 use Rattle.be_span.proofs.CellLemmas.{cell_none}
 use Rattle.be_pane.specs.declared.pane.Pane.{Pane}
 use Rattle.be_desk.specs.Changes.{or_exposed}
@@ -33,6 +34,17 @@ exposed_twice None c = refl
 -- exposing twice is exposing once
 pub renewal_twice : (r : Renewal) (x y : ℤ) (c : Cell) → exposed_by r x y (exposed_by r x y c) ≡ exposed_by r x y c
 renewal_twice r x y c = exposed_twice (exposure r x y) c
+
+-- where all rectangles are done, all pixels are
+pub all_exposed : (r : Renewal) (old new : Spans) (m : ℕ) → length old.rects ≤ m → ((x y : ℤ) → cell_in new x y ≡ cond (region_has (take m old.rects) x y) (option_map (exposed_by r x y) (cell_in old x y)) (cell_in old x y)) → (x y : ℤ) → cell_in new x y ≡ option_map (exposed_by r x y) (cell_in old x y)
+all_exposed r old new m all h x y =
+    let then_cell : Option Cell = option_map (exposed_by r x y) (cell_in old x y) in
+    h x y
+    ∙ ap (λ l. cond (region_has l x y) then_cell (cell_in old x y)) (take_all m old.rects all)
+    ∙ elim (true_or_false (region_has old.rects x y)) [
+      | inl e ↦ cond-true (region_has old.rects x y) then_cell (cell_in old x y) e
+      | inr e ↦ cond-false (region_has old.rects x y) then_cell (cell_in old x y) e ∙ cell_none old x y e ∙ sym (ap (option_map (exposed_by r x y)) (cell_none old x y e))
+    ]
 
 -- ---- colours
 

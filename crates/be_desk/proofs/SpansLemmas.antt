@@ -23,7 +23,8 @@ use Rattle.be_stack.specs.declared.window.Window.{Window}
 use Rattle.be_views.specs.Trees.{Tree, left_top}
 use Rattle.be_desk.specs.Changes.{Desk, owns, desk_after, motion_of, or_exposed}
 use Rattle.be_desk.specs.Desks.{IsAsked, IsTaken}
-use Rattle.be_desk.specs.Plans.{IsPaneOf, ArePanesOf, AreChanged, IsPlanOf, IsCarried, then_spans}
+use Rattle.be_desk.specs.Plans.{IsPaneOf, ArePanesOf, AreChanged, AreRenewed, IsPlanOf, IsCarried}
+use Rattle.be_desk.specs.declared.planned.Renewed.{Renewed}
 use Rattle.be_desk.specs.Renewals.{AreColored, AreUnder, brought_by, color_at, is_kept_by, renewed_cell}
 use Rattle.be_desk.specs.declared.renewal.Motion.{Motion}
 use Rattle.be_desk.specs.declared.renewal.Motion.TheVariants.{Still}
@@ -137,6 +138,10 @@ kept_spans before after w change panes r region is listed renewal visible still 
           was ∙ ap (λ (c : Cell). Some c) (sym (renewed_is_changed before after w change colors r old cells x y of_pane renewal (screen.windows at.0 r.pane.now at.1) colored looks owned ∙ kept_by_still r x y (cells x y) still here was));
     }
 
+-- nothing need be made ready then
+pub unchanged : (before after : Desk) (w : ℕ) (change : Change) (panes : List Pane) (pane : Pane) → AreChanged before after w change panes pane pane.spans → AreRenewed before after w change panes pane None
+unchanged before after w change panes pane changed = record { its = tt; changed = changed }
+
 -- a window that isn't the changed one stays where it is
 still_other : (after : Desk) (w : ℕ) (change : Change) (r : Renewal) → IsRenewalIn after w change r → (r.pane.now.window ≡ w → ⊥) → r.motion ≡ Still
 still_other after w change r renewal other =
@@ -158,7 +163,7 @@ others_of before after w change panes is = others_stay before.windows after.wind
 pub no_spans : (before after : Desk) (w : ℕ) (change : Change) (panes : List Pane) → AreChangedTo before after w change panes [] 0
 no_spans before after w change panes = record { each = refl; are = λ k pane these less got then_got. absurd (omega arith) }
 
-pub one_more : (before after : Desk) (w : ℕ) (change : Change) (panes : List Pane) (spans : List (Option Spans)) (n : ℕ) (pane : Pane) (these : Option Spans) → AreChangedTo before after w change panes spans n → slice_get panes n ≡ Some pane → AreChanged before after w change panes pane (then_spans these pane) → AreChangedTo before after w change panes (spans ++ these ∷ []) (n + 1)
+pub one_more : (before after : Desk) (w : ℕ) (change : Change) (panes : List Pane) (spans : List (Option Renewed)) (n : ℕ) (pane : Pane) (these : Option Renewed) → AreChangedTo before after w change panes spans n → slice_get panes n ≡ Some pane → AreRenewed before after w change panes pane these → AreChangedTo before after w change panes (spans ++ these ∷ []) (n + 1)
 one_more before after w change panes spans n pane these listed got changed = record {
   each = let long = length_push spans these in let many = listed.each in omega arith;
   are = λ k other own less here then_here.
@@ -171,7 +176,7 @@ one_more before after w change panes spans n pane these listed got changed = rec
             let same : k ≡ n = omega arith in
             let of_pane = same_Some pane other (sym got ∙ ap (slice_get panes) (sym same) ∙ here) in
             let of_spans = same_Some these own (sym (got_last spans these k (omega arith)) ∙ then_here) in
-            subst (λ (p : Pane). AreChanged before after w change panes p (then_spans own p)) of_pane (subst (λ (l : Option Spans). AreChanged before after w change panes pane (then_spans l pane)) of_spans changed)
+            subst (λ (p : Pane). AreRenewed before after w change panes p own) of_pane (subst (AreRenewed before after w change panes pane) of_spans changed)
       ];
 }
 
@@ -202,7 +207,7 @@ same_desk a b e = cc
 taken_by : (desk after : Desk) (w : ℕ) (change : Change) → desk_after desk w change ≡ Ok after → IsTaken (desk_after desk w change)
 taken_by desk after w change e = subst (λ (r : Result Desk ChangeFault). IsTaken r) (sym e) tt
 
-pub is_plan : (desk after : Desk) (w : ℕ) (change : Change) (panes : List Pane) (spans : List (Option Spans)) → IsAsked desk w change → desk_after desk w change ≡ Ok after → ArePanesOf desk panes → AreChangedTo desk after w change panes spans (length panes) → IsPlanOf (record { window = w; change = change; windows = after.windows; spans = spans }) desk panes
+pub is_plan : (desk after : Desk) (w : ℕ) (change : Change) (panes : List Pane) (spans : List (Option Renewed)) → IsAsked desk w change → desk_after desk w change ≡ Ok after → ArePanesOf desk panes → AreChangedTo desk after w change panes spans (length panes) → IsPlanOf (record { window = w; change = change; windows = after.windows; spans = spans }) desk panes
 is_plan desk after w change panes spans asked e panes_of listed = record {
   on_desk = record {
     asked = asked;
@@ -212,5 +217,5 @@ is_plan desk after w change panes spans asked e panes_of listed = record {
   panes_of = panes_of;
   each = listed.each;
   changed = λ other then_e k pane these got got_spans.
-      subst (λ (d : Desk). AreChanged desk d w change panes pane (then_spans these pane)) (same_desk after other (sym e ∙ then_e)) (listed.are k pane these (slice_get_within panes k pane got) got got_spans);
+      subst (λ (d : Desk). AreRenewed desk d w change panes pane these) (same_desk after other (sym e ∙ then_e)) (listed.are k pane these (slice_get_within panes k pane got) got got_spans);
 }

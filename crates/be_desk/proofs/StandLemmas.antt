@@ -27,7 +27,12 @@ use Rattle.be_desk.specs.Affected.{AreAffected, OwnsTheSame}
 use Rattle.be_desk.specs.Changes as changes
 use Rattle.be_desk.specs.Changes.{Desk, owns, own_cell, cell_of, changed_cell, motion_of, exposed_at}
 use Rattle.be_desk.specs.Laws.{CarriedAsTheMachine, PlannedForEach, OthersAsTheMachine, EachPixelOnce, PanesAreWhole}
-use Rattle.be_desk.specs.Plans.{AreChanged, then_spans}
+use Rattle.be_desk.specs.Plans.{AreChanged, AreRenewed}
+use Rattle.be_desk.specs.declared.planned.Renewed.{Renewed}
+use Rattle.be_desk.specs.declared.planned.Renewed.TheVariants.{Whole, InPlace}
+use Rattle.be_facts.proofs.Truths.{true_or_false}
+use Rattle.be_span.proofs.CellLemmas.{cell_none}
+use Rattle.be_desk.proofs.ShiftLemmas.{shifted_alike}
 use Rattle.be_desk.specs.Desks.{at_origin}
 use Rattle.be_desk.proofs.DeskLemmas.{is_after}
 use Rattle.be_desk.proofs.OthersLemmas.{others_stay}
@@ -43,10 +48,10 @@ carried_as_machine plan these before after panes pane then_pane cells colors old
     record {
       number = carried.window;
       place = same_Some then_pane.place then_corner (sym carried.place ∙ then_at);
-      pixels = λ x y. ap (λ (l : Spans). region_has l.rects x y) carried.spans ∙ changed.pixels x y;
+      pixels = λ x y. ap (λ (l : Spans). region_has l.rects x y) carried.spans ∙ changed.changed.pixels x y;
       shown = λ x y owned.
           ap (λ (l : Spans). cell_in l x y) carried.spans
-          ∙ changed.cells cells colors old screen (colored ∙ ap (λ (l : List Color). Some l) (sym stands.colors)) looks x y owned;
+          ∙ changed.changed.cells cells colors old screen (colored ∙ ap (λ (l : List Color). Some l) (sym stands.colors)) looks x y owned;
       views = same_Some then_pane.tree then_tree (sym carried.views ∙ then_views);
       colors = carried.colors ∙ stands.colors;
       stacks = subst (λ (l : _). SameStacks l kept.stacks) (sym carried.states) stands.stacks;
@@ -56,16 +61,34 @@ carried_as_machine plan these before after panes pane then_pane cells colors old
 
 -- ---- another pane for the same window
 
-pub planned_alike : (before after : Desk) (w : ℕ) (change : Change) (panes : List Pane) (pane other : Pane) (these : Option Spans) → pane.window ≡ other.window → pane.colors.items ≡ other.colors.items → ((x y : ℤ) → region_has other.spans.rects x y ≡ region_has pane.spans.rects x y) → ((x y : ℤ) → region_has other.spans.rects x y ≡ true → cell_in other.spans x y ≡ cell_in pane.spans x y) → AreChanged before after w change panes pane (then_spans these pane) → AreChanged before after w change panes other (then_spans these other)
-planned_alike before after w change panes pane other (Some spans) window colors region cells changed = record {
-  pixels = λ x y. changed.pixels x y ∙ ap (λ u. owns after u x y) window;
-  cells = λ screen all old is colored looks x y owned. changed.cells screen all old is (ap (slice_get all) window ∙ colored ∙ ap (λ (l : List Color). Some l) (sym colors)) looks x y (ap (λ u. owns after u x y) window ∙ owned);
-}
-planned_alike before after w change panes pane other None window colors region cells changed = record {
+-- the pixels and cells are those of after the change for it too, where it has these spans
+alike : (before after : Desk) (w : ℕ) (change : Change) (panes : List Pane) (pane other : Pane) (spans then_other : Spans) → pane.window ≡ other.window → pane.colors.items ≡ other.colors.items → ((x y : ℤ) → region_has then_other.rects x y ≡ region_has spans.rects x y) → ((x y : ℤ) → region_has then_other.rects x y ≡ true → cell_in then_other x y ≡ cell_in spans x y) → AreChanged before after w change panes pane spans → AreChanged before after w change panes other then_other
+alike before after w change panes pane other spans then_other window colors region cells changed = record {
   pixels = λ x y. region x y ∙ changed.pixels x y ∙ ap (λ u. owns after u x y) window;
   cells = λ screen all old is colored looks x y owned.
       let its : owns after pane.window x y ≡ true = ap (λ u. owns after u x y) window ∙ owned in
       cells x y (region x y ∙ changed.pixels x y ∙ its) ∙ changed.cells screen all old is (ap (slice_get all) window ∙ colored ∙ ap (λ (l : List Color). Some l) (sym colors)) looks x y its;
+}
+
+pub planned_alike : (before after : Desk) (w : ℕ) (change : Change) (panes : List Pane) (pane other : Pane) (these : Option Renewed) → pane.window ≡ other.window → pane.colors.items ≡ other.colors.items → ((x y : ℤ) → region_has other.spans.rects x y ≡ region_has pane.spans.rects x y) → ((x y : ℤ) → region_has other.spans.rects x y ≡ true → cell_in other.spans x y ≡ cell_in pane.spans x y) → AreRenewed before after w change panes pane these → AreRenewed before after w change panes other these
+planned_alike before after w change panes pane other (Some (Whole spans)) window colors region cells renewed = record {
+  its = tt;
+  changed = alike before after w change panes pane other spans spans window colors (λ x y. refl) (λ x y has. refl) renewed.changed;
+}
+planned_alike before after w change panes pane other (Some (InPlace shift)) window colors region cells renewed = record {
+  its = λ x y. renewed.its x y ∙ sym (region x y);
+  changed = subst (AreChanged before after w change panes other) (sym (shifted_alike shift.dx shift.dy shift.next shift.fresh.items pane.spans other.spans each))
+      (alike before after w change panes pane other _ _ window colors (λ x y. refl) (λ x y has. refl) renewed.changed);
+}
+  where
+    each : (x y : ℤ) → cell_in other.spans x y ≡ cell_in pane.spans x y
+    each x y = elim (true_or_false (region_has other.spans.rects x y)) [
+      | inl h ↦ cells x y h
+      | inr h ↦ cell_none other.spans x y h ∙ sym (cell_none pane.spans x y (sym (region x y) ∙ h))
+    ]
+planned_alike before after w change panes pane other None window colors region cells renewed = record {
+  its = tt;
+  changed = alike before after w change panes pane other pane.spans other.spans window colors region cells renewed.changed;
 }
 
 pub planned_for_each : PlannedForEach

@@ -11,15 +11,16 @@ use Rattle.be_pane.specs.StandsFor.{PaneStandsFor, IsWhole}
 use Rattle.be_pane.specs.declared.pane.Pane.{Pane}
 use Rattle.be_region.specs.Regions.{region_has}
 use Rattle.be_span.specs.Cells.{Lookup, desktop_cell}
-use Rattle.be_span.specs.Spans.{Spans, pixels_of}
+use Rattle.be_span.specs.Spans.{pixels_of}
 use Rattle.be_span.specs.declared.Cell.{Cell}
 use Rattle.be_stack.specs.Owner.{owner_at}
 use Rattle.be_views.specs.Trees.{Tree}
 use Rattle.be_desk.specs.Affected.{AreAffected}
 use Rattle.be_desk.specs.Changes.{Desk, owns, desk_after, changed_cell}
 use Rattle.be_desk.specs.Desks.{IsPaired}
-use Rattle.be_desk.specs.Plans.{AreAscending, AreChanged, ArePanesOf, CarriesOver, IsPaneOf}
-use Rattle.be_desk.specs.Plans.{IsScreenOf, LooksUp, Planned, then_spans}
+use Rattle.be_desk.specs.Plans.{AreAscending, ArePanesOf, AreRenewed, CarriesOver, IsPaneOf}
+use Rattle.be_desk.specs.Plans.{IsScreenOf, LooksUp, Planned}
+use Rattle.be_desk.specs.declared.planned.Renewed.{Renewed}
 
 -- the screen's cells after a change of window w, where the windows' views have these colours
 abbrev pub changed_cells : Desk → Desk → List (List Color) → ℕ → Change → Lookup → (ℤ → ℤ → Cell)
@@ -42,13 +43,12 @@ StandsAfterChange before after colors w change old cells u kept new =
 -- window as the machine leaves it.
 abbrev pub CarriedAsTheMachine : Type 0
 CarriedAsTheMachine =
-    (plan : Planned) (these : Option Spans) (before after : Desk) (panes : List Pane)
+    (plan : Planned) (these : Option Renewed) (before after : Desk) (panes : List Pane)
     (pane then_pane : Pane) (cells : ℤ → ℤ → Cell) (colors : List (List Color)) (old : Lookup)
     (corner : Point) (kept : machine.Pane) (tree : Tree) →
     IsPaired before → desk_after before plan.window plan.change ≡ Ok after
     → after.windows ≡ plan.windows →
-    IsPaneOf before pane → AreChanged before after plan.window plan.change panes pane
-    (then_spans these pane) →
+    IsPaneOf before pane → AreRenewed before after plan.window plan.change panes pane these →
     CarriesOver plan these pane then_pane →
     IsScreenOf cells before panes → LooksUp old before plan.window cells
     → slice_get colors pane.window ≡ Some kept.colors →
@@ -60,12 +60,12 @@ CarriedAsTheMachine =
 abbrev pub PlannedForEach : Type 0
 PlannedForEach =
     (before after : Desk) (w : ℕ) (change : Change) (panes : List Pane) (pane other : Pane)
-    (these : Option Spans) (u : ℕ) (corner : Point) (kept : machine.Pane) (tree : Tree)
+    (these : Option Renewed) (u : ℕ) (corner : Point) (kept : machine.Pane) (tree : Tree)
     (owned : ℤ → ℤ → Bool) (cells : ℤ → ℤ → Cell) →
     PaneStandsFor pane u corner kept tree owned cells
     → PaneStandsFor other u corner kept tree owned cells →
-    AreChanged before after w change panes pane (then_spans these pane)
-    → AreChanged before after w change panes other (then_spans these other)
+    AreRenewed before after w change panes pane these
+    → AreRenewed before after w change panes other these
 
 -- A pane of a window that the change doesn't alter stands for its window then as it is.
 abbrev pub OthersAsTheMachine : Type 0

@@ -1,7 +1,7 @@
 -- What is made ready of a change before it is carried out, and what it leaves then (this project's
 -- own).
-use Rattle.std.specs.Prelude.{◌≡◌, ◌<◌, ℕ, ℤ, true, List, length, map, Some, None, Ok, slice_get}
-use Rattle.std.specs.Prelude.{Option}
+use Rattle.std.specs.Prelude.{◌≡◌, ◌<◌, ℕ, ℤ, true, List, length, map, Ok, slice_get}
+use Rattle.std.specs.Prelude.{Option, Some, None}
 use Rattle.std.specs.Borrow.{Bor}
 use Rattle.std.specs.List.{AllPairs}
 use Rattle.be_color.specs.declared.colors.Color.{Color}
@@ -9,13 +9,17 @@ use Rattle.be_geom.specs.declared.change.Change.{Change}
 use Rattle.be_input.specs.Pointing.{corner_of}
 use Rattle.be_pane.specs.StandsFor.{IsWhole}
 use Rattle.be_pane.specs.declared.pane.Pane.{Pane}
-use Rattle.be_region.specs.Regions.{region_has}
+use Rattle.be_geom.specs.declared.rect.Rect.{Rect}
+use Rattle.be_region.specs.Regions.{region_has, SamePixels}
 use Rattle.be_span.specs.Cells.{Lookup, desktop_cell}
 use Rattle.be_span.specs.Spans.{Spans, cell_in}
 use Rattle.be_span.specs.declared.Cell.{Cell}
 use Rattle.be_stack.specs.Owner.{owner_at}
 use Rattle.be_stack.specs.Windows.{Windows}
 use Rattle.be_desk.specs.Changes.{Desk, owns, desk_after, changed_cell}
+use Rattle.be_desk.specs.Shifts.{shifted}
+use Rattle.be_desk.specs.declared.planned.Renewed.{Renewed}
+use Rattle.be_desk.specs.declared.planned.Renewed.TheVariants.{Whole, InPlace}
 use Rattle.be_desk.specs.Desks.{IsAsked, IsPaired, IsTaken}
 
 -- ---- panes of a desk
@@ -55,18 +59,34 @@ LooksUp old desk w cells = (x y : ℤ) → owns desk w x y ≡ true → old x y 
 
 -- ---- a plan
 
--- a change of a window, the windows after it, and for each pane the pixels that its window owns
--- then, with their cells; none where they are as before
+-- a change of a window, the windows after it, and for each pane what becomes of its spans; none where
+-- they are as before
 pub record Planned : Type 0 where
   pub window : ℕ
   pub change : Change
   pub windows : Windows
-  pub spans : List (Option Spans)
+  pub spans : List (Option Renewed)
+
+-- a window's spans once they are renewed
+abbrev pub renewed_spans : Renewed → Spans → Spans
+renewed_spans (Whole spans) old = spans
+renewed_spans (InPlace shift) old =
+    shifted shift.dx shift.dy shift.next shift.fresh.items old
+
+-- it was made ready for spans of these pixels
+abbrev pub AreForPixels : Renewed → List Rect → Type 0
+AreForPixels (Whole spans) rects = Unit {0}
+AreForPixels (InPlace shift) rects = SamePixels shift.from rects
 
 -- the pane's spans afterwards
-abbrev pub then_spans : Option Spans → Pane → Spans
-then_spans (Some spans) pane = spans
+abbrev pub then_spans : Option Renewed → Pane → Spans
+then_spans (Some renewed) pane = renewed_spans renewed pane.spans
 then_spans None pane = pane.spans
+
+-- they were made ready for the pane
+abbrev pub AreFor : Option Renewed → Pane → Type 0
+AreFor (Some renewed) pane = AreForPixels renewed pane.spans.rects
+AreFor None pane = Unit {0}
 
 -- A pane's spans after a change of window w: the pixels that its window owns then, and on each
 -- screen of the panes the cells that the change rule gives.
@@ -77,6 +97,12 @@ pub record AreChanged (before after : Desk) (w : ℕ) (change : Change) (panes :
       → IsScreenOf cells before panes → slice_get colors pane.window ≡ Some pane.colors.items
       → LooksUp old before w cells → (x y : ℤ) → owns after pane.window x y ≡ true
       → cell_in spans x y ≡ Some (changed_cell before after colors w change old x y (cells x y))
+
+-- what was made ready for a pane gives it the spans of after the change
+pub record AreRenewed (before after : Desk) (w : ℕ) (change : Change) (panes : List Pane)
+    (pane : Pane) (these : Option Renewed) : Type 0 where
+  pub its : AreFor these pane
+  pub changed : AreChanged before after w change panes pane (then_spans these pane)
 
 -- a change of window w that may be asked of the desk and isn't refused, and the windows after it
 pub record LeadsTo (desk : Desk) (w : ℕ) (change : Change) (windows : Windows) : Type 0 where
@@ -94,9 +120,9 @@ pub record IsPlanOf (plan : Planned) (desk : Desk) (panes : List Pane) : Type 0 
   pub panes_of : ArePanesOf desk panes
   pub each : length plan.spans ≡ length panes
   pub changed : (after : Desk) → desk_after desk plan.window plan.change ≡ Ok after
-      → (k : ℕ) (pane : Pane) (spans : Option Spans) → slice_get panes k ≡ Some pane
-      → slice_get plan.spans k ≡ Some spans
-      → AreChanged desk after plan.window plan.change panes pane (then_spans spans pane)
+      → (k : ℕ) (pane : Pane) (these : Option Renewed) → slice_get panes k ≡ Some pane
+      → slice_get plan.spans k ≡ Some these
+      → AreRenewed desk after plan.window plan.change panes pane these
 
 -- ---- once it is carried out
 
@@ -112,11 +138,10 @@ pub record IsCarried (after : Desk) (these : Spans) (old new : Pane) : Type 0 wh
   pub notice : new.notified ≡ old.notified
 
 -- What becomes of a pane on which a plan is carried out with these spans: whatever pane of the desk
--- it is, as long as the spans are those of the pane after the change.
-abbrev pub CarriesOver : Planned → Option Spans → Pane → Pane → Type 0
+-- it is, as long as they are right for it.
+abbrev pub CarriesOver : Planned → Option Renewed → Pane → Pane → Type 0
 CarriesOver plan these old new =
     (before after : Desk) (panes : List Pane) → IsPaired before
     → desk_after before plan.window plan.change ≡ Ok after → after.windows ≡ plan.windows →
-    IsPaneOf before old → AreChanged before after plan.window plan.change panes old
-    (then_spans these old) →
+    IsPaneOf before old → AreRenewed before after plan.window plan.change panes old these →
     IsPaneOf after new × IsWhole new × IsCarried after (then_spans these old) old new

@@ -64,6 +64,11 @@ brought_by Resizing spans x y = cell_in spans x y
 abbrev pub brought_to : Renewal → ℤ → ℤ → Option Cell
 brought_to r x y = brought_by r.motion r.pane.now.spans x y
 
+-- what it keeps lay so far left and up
+pub record KeepsAt (r : Renewal) (dx dy : ℤ) : Type 0 where
+  pub kept : (x y : ℤ) → is_kept_at r x y ≡ owned r (x -ℤ dx) (y -ℤ dy)
+  pub brought : (x y : ℤ) → brought_to r x y ≡ cell_in r.pane.now.spans (x -ℤ dx) (y -ℤ dy)
+
 -- ---- new cells
 
 -- the colour of the view that is at the pixel afterwards
@@ -84,18 +89,6 @@ exposure r x y = if is_kept_at r x y then None else color_at r x y
 -- what exposing makes of a cell
 abbrev pub exposed_by : Renewal → ℤ → ℤ → Cell → Cell
 exposed_by r x y c = exposed_as (exposure r x y) c
-
--- of a region the pixels that may be newly exposed: the window keeps what it shows at all others
-pub record IsFresh (r : Renewal) (region fresh : List Rect) : Type 0 where
-  pub within : (x y : ℤ) → region_has fresh x y ≡ true → region_has region x y ≡ true
-  pub kept : (x y : ℤ) → region_has region x y ≡ true → region_has fresh x y ≡ false
-      → is_kept_at r x y ≡ true
-
--- some pixels of a region, and all of it that another one doesn't have so much further left and up
-pub record IsBesideMoved (rest region other : List Rect) (dx dy : ℤ) : Type 0 where
-  pub within : (x y : ℤ) → region_has rest x y ≡ true → region_has region x y ≡ true
-  pub beside : (x y : ℤ) → region_has region x y ≡ true → region_has rest x y ≡ false
-      → region_has other (x -ℤ dx) (y -ℤ dy) ≡ true
 
 -- ---- what is known before
 

@@ -5,12 +5,12 @@ use Rattle.be_geom.specs.declared.change.Change.{Change}
 use Rattle.be_geom.specs.declared.point.Point.{Point}
 use Rattle.be_input.specs.Pointing.{corner_of}
 use Rattle.be_pane.specs.declared.pane.Pane.{Pane}
-use Rattle.be_span.specs.Spans.{Spans}
 use Rattle.be_desk.specs.Affected.{HasAltered}
 use Rattle.be_desk.specs.Changes as machine
 use Rattle.be_desk.specs.Changes.{Desk, desk_after, motion_of}
 use Rattle.be_desk.specs.Desks.{IsPaired}
-use Rattle.be_desk.specs.Plans.{ArePanesOf, AreChanged, then_spans}
+use Rattle.be_desk.specs.Plans.{ArePanesOf, AreRenewed}
+use Rattle.be_desk.specs.declared.planned.Renewed.{Renewed}
 use Rattle.be_desk.specs.declared.renewal.Motion.{Motion}
 use Rattle.be_desk.specs.declared.renewal.Motion.TheVariants.{Still, Moving, Resizing}
 use Rattle.be_desk.specs.declared.renewal.Renewal.{Renewal}
@@ -42,8 +42,8 @@ pub record IsChange (before after : Desk) (w : ℕ) (change : Change) (panes : L
 
 -- as many spans as panes up to a place, each its pane's after the change
 pub record AreChangedTo (before after : Desk) (w : ℕ) (change : Change) (panes : List Pane)
-    (spans : List (Option Spans)) (n : ℕ) : Type 0 where
+    (spans : List (Option Renewed)) (n : ℕ) : Type 0 where
   pub each : length spans ≡ n
-  pub are : (k : ℕ) (pane : Pane) (these : Option Spans) → k < n → slice_get panes k ≡ Some pane
+  pub are : (k : ℕ) (pane : Pane) (these : Option Renewed) → k < n → slice_get panes k ≡ Some pane
       → slice_get spans k ≡ Some these
-      → AreChanged before after w change panes pane (then_spans these pane)
+      → AreRenewed before after w change panes pane these

@@ -7,26 +7,23 @@ ghost use Rattle.be_span.specs.Cells.{exposed_as};
 ghost use Rattle.be_span.specs.Spans.{cell_in};
 ghost use Rattle.be_geom.specs.Stretches.{IsCoordinate, IsStretch};
 ghost use Rattle.be_desk.specs.Exposing.{IsRuledRow};
-ghost use Rattle.be_desk.specs.Renewals.{IsFresh, IsNearBy, color_at, exposed_by, exposure};
+ghost use Rattle.be_desk.specs.Renewals.{IsNearBy, color_at, exposed_by, exposure};
 
 use crate::kept::view_run;
 use crate::renewal::Renewal;
 use be_color::Color;
 use be_geom::Rect;
-use be_region::Region;
 use be_span::SpanBuf;
 
-/// Exposes each pixel that the window doesn't keep, in the colour of the view there. All of them
-/// are in `fresh`.
-pub(crate) fn expose(spans: &mut SpanBuf, renewal: &Renewal<'_>, fresh: &Region)
+/// Exposes each pixel that the window doesn't keep, in the colour of the view there.
+pub(crate) fn expose(spans: &mut SpanBuf, renewal: &Renewal<'_>)
     requires near { IsNearBy renewal.now.motion }
-    requires fresh { IsFresh renewal.now spans.old.rects fresh.now }
     ensures region { spans.new.rects ≡ spans.old.rects }
     ensures cells { (x y : ℤ) → cell_in spans.new x y
         ≡ option_map (exposed_by renewal.now x y) (cell_in spans.old x y) }
 {
-    for place in 0..fresh.count() {
-        let rect = fresh.rect_at(place).unwrap();
+    for place in 0..spans.region().count() {
+        let rect = spans.region().rect_at(place).unwrap();
         expose_rect(spans, renewal, rect);
     }
 }

@@ -1,3 +1,4 @@
+use crate::shift::Shift;
 use be_geom::Change;
 use be_span::SpanBuf;
 use be_stack::Stack;
@@ -10,8 +11,8 @@ pub struct Plan {
     pub(crate) change: Change,
     /// The windows afterwards.
     pub(crate) stack: Stack,
-    /// For each pane its pixels afterwards. None where they are as before.
-    pub(crate) spans: Vec<Option<SpanBuf>>,
+    /// For each pane what becomes of its pixels. None where they are as before.
+    pub(crate) spans: Vec<Option<Renewed>>,
 }
 
 impl Model for Plan {
@@ -25,4 +26,13 @@ impl Model for Plan {
       windows = p.stack;
       spans = p.spans.items;
     } };
+}
+
+/// What becomes of a window's pixels.
+#[derive(Debug, Drop)]
+pub(crate) enum Renewed {
+    /// Others take their place.
+    Whole(SpanBuf),
+    /// They stay, or go with the window, and only what is newly exposed is made.
+    InPlace(Shift),
 }

@@ -1,4 +1,4 @@
-ghost use Rattle.std.specs.Prelude.{◌≡◌, ◌<◌, ◌-ℤ◌, true, List, Contains, IfOk, IfErr, Ok, Some};
+ghost use Rattle.std.specs.Prelude.{◌≡◌, ◌<◌, ◌-ℤ◌, List, Contains, IfOk, IfErr, Ok, Some};
 ghost use Rattle.std.specs.Prelude.{length, map, slice_get};
 ghost use Rattle.be_input.specs.Pointing.{corner_of};
 ghost use Rattle.be_span.specs.Laid.{IsShift};
@@ -8,8 +8,7 @@ ghost use Rattle.be_desk.specs.Affected.{HasAltered, IsZone, OthersStay};
 ghost use Rattle.be_desk.specs.Changes as machine;
 ghost use Rattle.be_desk.specs.Changes.{desk_after};
 ghost use Rattle.be_desk.specs.Desks.{desk_of, desk_with_both, trees_with, IsAsked, IsRefusedFor};
-ghost use Rattle.be_desk.specs.Plans.{AreAscending, AreChanged, ArePanesOf, IsPlanOf, lent};
-ghost use Rattle.be_desk.specs.Plans.{then_spans};
+ghost use Rattle.be_desk.specs.Plans.{AreAscending, ArePanesOf, AreRenewed, IsPlanOf, lent};
 ghost use Rattle.be_desk.specs.Renewed.{AreChangedTo, IsChange, IsRenewalIn, motion_in};
 ghost use Rattle.be_desk.specs.Renewals.{IsNearBy};
 ghost use Rattle.be_desk.specs.declared.renewal.Motion.TheVariants.{Still, Moving};
@@ -18,13 +17,13 @@ use crate::altered::has_same_pixels;
 use crate::desk::Desk;
 use crate::fault::PlanFault;
 use crate::next::{Next, next_of};
-use crate::planned::Plan;
-use crate::renewal::{Motion, Renewal, is_still, renewed};
+use crate::planned::{Plan, Renewed};
+use crate::ready::made_ready;
+use crate::renewal::{Motion, Renewal, is_still};
 use crate::zone::{is_apart, owned_after};
 use be_geom::{Change, NoMemory, Point};
 use be_pane::Pane;
 use be_region::Region;
-use be_span::SpanBuf;
 use be_stack::Stack;
 use be_views::ViewTree;
 use std::alloc::Global;
@@ -33,8 +32,8 @@ use std::alloc::Global;
 /// and more may be among them, each of another window, in order of number.
 ///
 /// It costs the rectangles of `w` before and after, those of the windows whose frames have a pixel
-/// of them, and the pixels of those that win or lose some, are moved or resized. What is in front
-/// of a window is asked only where `w` gives up pixels of its frame.
+/// of them, and the pixels that are newly exposed; where `w` is resized, all of its pixels. What is
+/// in front of a window is asked only where `w` gives up pixels of its frame.
 pub fn plan(
     alloc: Global,
     desk: &Desk,
@@ -62,8 +61,7 @@ pub fn plan(
     })
 }
 
-/// For each pane the pixels that its window owns afterwards, with their cells. None where they are
-/// as before.
+/// For each pane what becomes of its pixels. None where they are as before.
 fn all_spans(
     alloc: Global,
     desk: &Desk,
@@ -71,7 +69,7 @@ fn all_spans(
     panes: &[&Pane],
     w: u16,
     change: &Change,
-) -> Result<Vec<Option<SpanBuf>>, NoMemory>
+) -> Result<Vec<Option<Renewed>>, NoMemory>
     requires change { IsChange (desk_of desk.now)
         (desk_with_both (desk_of desk.now) w change.now next.now.stack next.now.tree)
         w change.now (lent panes.now) }
@@ -87,8 +85,7 @@ fn all_spans(
     Ok(all)
 }
 
-/// The pixels that a pane's window owns afterwards, with their cells. None where they are as
-/// before.
+/// What becomes of a pane's pixels. None where they are as before.
 fn new_spans(
     alloc: Global,
     desk: &Desk,
@@ -97,15 +94,15 @@ fn new_spans(
     pane: &Pane,
     w: u16,
     change: &Change,
-) -> Result<Option<SpanBuf>, NoMemory>
+) -> Result<Option<Renewed>, NoMemory>
     requires change { IsChange (desk_of desk.now)
         (desk_with_both (desk_of desk.now) w change.now next.now.stack next.now.tree)
         w change.now (lent panes.now) }
     requires zone { IsZone desk.now.stack next.now.stack w next.now.zone }
     requires listed { Contains (lent panes.now) pane.now }
-    ensures { IfOk result (λ spans. AreChanged (desk_of desk.now)
+    ensures { IfOk result (AreRenewed (desk_of desk.now)
         (desk_with_both (desk_of desk.now) w change.now next.now.stack next.now.tree)
-        w change.now (lent panes.now) pane.now (then_spans spans pane.now)) }
+        w change.now (lent panes.now) pane.now) }
 {
     let renewal = renewal_of(desk, next, pane, w, change);
     if is_apart(&desk.stack, &next.zone, w, pane.window) {
@@ -115,7 +112,7 @@ fn new_spans(
     if is_still(renewal.motion) && has_same_pixels(&region, pane.spans.region()) {
         return Ok(None);
     }
-    Ok(Some(renewed(alloc, &renewal, panes, region)?))
+    Ok(Some(made_ready(alloc, &renewal, panes, region)?))
 }
 
 /// What a pane's window owns afterwards.

@@ -1,16 +1,15 @@
-ghost use Rattle.std.specs.Prelude.{◌≡◌, ℤ, pos, ◌-ℤ◌, true, false, Some, Contains, IfOk, IsSome};
+ghost use Rattle.std.specs.Prelude.{◌≡◌, ℤ, true, false, Some, Contains, IfOk, IsSome};
 ghost use Rattle.std.specs.Prelude.{if◌then◌else◌};
 ghost use Rattle.std.specs.List.{list_any};
-ghost use Rattle.be_region.specs.Regions.{region_has, SamePixels};
+ghost use Rattle.be_region.specs.Regions.{region_has};
 ghost use Rattle.be_span.specs.declared.Cell.{Cell};
 ghost use Rattle.be_span.specs.Spans.{cell_in, laid};
 ghost use Rattle.be_desk.specs.Plans.{lent};
-ghost use Rattle.be_desk.specs.Renewals.{AreColored, AreShown, AreUnder, IsBackground, IsFresh};
+ghost use Rattle.be_desk.specs.Renewals.{AreColored, AreShown, AreUnder, IsBackground};
 ghost use Rattle.be_desk.specs.Renewals.{IsNearBy, brought_to, is_clear, is_in_some, renewed_cell};
 ghost use Rattle.be_desk.specs.declared.renewal.Motion.TheVariants.{Still};
 
 use crate::exposing::expose;
-use crate::fresh::fresh_of;
 use be_color::{Color, Rgb};
 use be_geom::{NoMemory, Point};
 use be_pane::Pane;
@@ -60,9 +59,9 @@ pub(crate) struct Renewal<'a> {
 /// The pixels of `region`, which the window owns afterwards, each with its cell. `panes` are all
 /// whose pixels may come to be the window's, and its own is among them.
 ///
-/// Memory is taken once, for the cells. What the window keeps is copied by runs, once where nothing
-/// is newly exposed, and what is newly exposed is found by rectangles and runs: no pixel is looked
-/// at by itself. The other panes are looked at only where a view is transparent.
+/// Memory is taken once, for the cells. What the window keeps is copied by runs, and what is newly
+/// exposed is found by runs: no pixel is looked at by itself. The other panes are looked at only
+/// where a view is transparent.
 pub(crate) fn renewed(
     alloc: Global,
     renewal: &Renewal<'_>,
@@ -72,30 +71,6 @@ pub(crate) fn renewed(
     requires listed { Contains (lent panes.now) renewal.now.pane.now }
     requires colored { AreColored renewal.now region }
     requires near { IsNearBy renewal.now.motion }
-    ensures region { IfOk result (λ spans. SamePixels spans.rects region) }
-    ensures cells { IfOk result (λ spans. (cells : ℤ → ℤ → Cell)
-        → AreUnder (lent panes.now) region cells → (x y : ℤ) → region_has region x y ≡ true
-        → cell_in spans x y ≡ Some (renewed_cell renewal.now x y (cells x y))) }
-{
-    let fresh = fresh_of(renewal, &region)?;
-    if is_still(renewal.motion) && fresh.count() == 0 {
-        return renewal.pane.spans.part(&region);
-    }
-    made_anew(alloc, renewal, panes, region, &fresh)
-}
-
-/// The same, where all that may be newly exposed is in `fresh`.
-fn made_anew(
-    alloc: Global,
-    renewal: &Renewal<'_>,
-    panes: &[&Pane],
-    region: Region,
-    fresh: &Region,
-) -> Result<SpanBuf, NoMemory>
-    requires listed { Contains (lent panes.now) renewal.now.pane.now }
-    requires colored { AreColored renewal.now region }
-    requires near { IsNearBy renewal.now.motion }
-    requires fresh { IsFresh renewal.now region fresh.now }
     ensures region { IfOk result (λ spans. spans.rects ≡ region) }
     ensures cells { IfOk result (λ spans. (cells : ℤ → ℤ → Cell)
         → AreUnder (lent panes.now) region cells → (x y : ℤ) → region_has region x y ≡ true
@@ -103,7 +78,7 @@ fn made_anew(
 {
     let mut spans = background(alloc, region, &renewal.pane.colors, panes)?;
     lay_own(&mut spans, renewal);
-    expose(&mut spans, renewal, fresh);
+    expose(&mut spans, renewal);
     Ok(spans)
 }
 

@@ -1,10 +1,10 @@
 ghost use Rattle.std.specs.Prelude.{◌≡◌, ◌↔◌, ℕ, IfOk, true, false};
+ghost use Rattle.be_region.specs.Regions.{IsDifference};
 ghost use Rattle.be_geom.specs.Rects.{AreDisjoint};
 ghost use Rattle.be_stack.specs.Visible.{IsVisible};
 ghost use Rattle.be_stack.specs.Windows.{Windows};
 ghost use Rattle.be_desk.specs.Affected.{CoversNone, IsBeside, IsZone, OthersStay, OwnsTheSame};
 
-use crate::fresh::beside;
 use be_geom::{NoMemory, Rect};
 use be_region::Region;
 use be_stack::Stack;
@@ -86,4 +86,13 @@ fn meet(one: Rect, other: Rect) -> bool
     ensures { (result ≡ false) ↔ AreDisjoint one other }
 {
     one.intersect(other).is_some()
+}
+
+/// What a region has beside another.
+pub(crate) fn beside(region: &Region, other: &Region) -> Result<Region, NoMemory>
+    ensures { IfOk result (λ rest. IsDifference rest region.now other.now) }
+{
+    let mut rest = region.copy()?;
+    rest.exclude(other)?;
+    Ok(rest)
 }

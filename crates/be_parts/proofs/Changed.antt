@@ -5,7 +5,7 @@ use Rattle.std.proofs.lemmas.Option.{same_Some}
 use Rattle.be_facts.proofs.Lists.{get_map}
 use Rattle.be_color.specs.declared.colors.Color.{Color}
 use Rattle.be_desk.specs.Changes.{Desk, owns, desk_after, changed_cell}
-use Rattle.be_desk.specs.Plans.{AreChanged, CarriesOver, IsPaneOf, LooksUp, Planned, then_spans}
+use Rattle.be_desk.specs.Plans.{AreRenewed, CarriesOver, IsPaneOf, LooksUp, Planned}
 use Rattle.be_geom.specs.declared.change.Change.{Change}
 use Rattle.be_geom.specs.declared.rect.Rect.{Rect}
 use Rattle.be_input.specs.Pointing.{corner_of}
@@ -16,6 +16,7 @@ use Rattle.be_pane.specs.declared.pane.Pane.{Pane}
 use Rattle.be_region.specs.Regions.{region_has}
 use Rattle.be_span.specs.Cells.{Lookup, desktop_cell}
 use Rattle.be_span.specs.Spans.{Spans, cell_in}
+use Rattle.be_desk.specs.declared.planned.Renewed.{Renewed}
 use Rattle.be_span.specs.declared.Cell.{Cell}
 use Rattle.be_span.specs.Screen.{cell_at, each_cell}
 use Rattle.be_views.specs.Trees.{Tree}
@@ -79,7 +80,7 @@ module _ (s : State) (w : ℕ) (change : Change) (after : Desk) (taken : desk_af
   pixel_then : (x y : ℤ) → pixel_at then_state x y ≡ option_map (rule (pixel_at s) x y) (pixel_at s x y)
   pixel_then x y = ap (λ n. cell_at n (each_cell (width_of s) rule s.screen) x y) same_width ∙ cell_by (width_of s) rule s.screen x y
 
-pub changed_shows : (plan : Planned) (these : Option Spans) (old new : Slice) (p q : Pane) → IsChanged plan.windows plan.window plan.change these old new → PaneIs old p → CarriesOver plan these p q → PaneIs new q
+pub changed_shows : (plan : Planned) (these : Option Renewed) (old new : Slice) (p q : Pane) → IsChanged plan.windows plan.window plan.change these old new → PaneIs old p → CarriesOver plan these p q → PaneIs new q
 changed_shows plan these old new p q x is carries =
     let s : State = x.state in
     let w : ℕ = x.window in
@@ -88,8 +89,8 @@ changed_shows plan these old new p q x is carries =
     let full : IsFull s w = x.full w in
     let h : PaneShows w (shown_of s w) p = subst (λ (o : Slice). PaneIs o p) x.before is in
     let of_p : IsPaneOf s.desk p = of_pane w s full x.example p x.shows h x.rooted in
-    let changed_p : AreChanged s.desk a plan.window plan.change x.panes p (then_spans these p) = planned_alike s.desk a plan.window plan.change x.panes x.example p these (same_window w s full x.example p x.shows h) (same_colors w s full x.example p x.shows h) (same_region w s full x.example p x.shows h) (same_cells w s full x.example p x.shows h) x.renewed in
-    let all = carries s.desk a x.panes x.paired x.taken x.windows_are of_p changed_p in
+    let renewed_p : AreRenewed s.desk a plan.window plan.change x.panes p these = planned_alike s.desk a plan.window plan.change x.panes x.example p these (same_window w s full x.example p x.shows h) (same_colors w s full x.example p x.shows h) (same_region w s full x.example p x.shows h) (same_cells w s full x.example p x.shows h) x.renewed in
+    let all = carries s.desk a x.panes x.paired x.taken x.windows_are of_p renewed_p in
     let then_of : IsPaneOf a q = all.0 in
     let carried = all.2 in
     let number : q.window ≡ w = carried.window ∙ h.stands.number in
@@ -111,7 +112,7 @@ changed_shows plan these old new p q x is carries =
             let mine : owns a w i j ≡ true = sym (has_owned t w full_t i j) ∙ has in
             let c = x.full_then i j mine in
             ap (λ (l : Spans). cell_in l i j) carried.spans
-            ∙ changed_p.cells (cells_in s) (view_colors s) (pixel_at s) x.screen colored looks i j (ap (λ u. owns a u i j) h.stands.number ∙ mine)
+            ∙ renewed_p.changed.cells (cells_in s) (view_colors s) (pixel_at s) x.screen colored looks i j (ap (λ u. owns a u i j) h.stands.number ∙ mine)
             ∙ ap (λ o. Some (rule s plan.window plan.change a x.taken (pixel_at s) i j (unwrap_or o desktop_cell))) c.1
             ∙ ap Some (sym (cell_owned t w i j mine ∙ ap (λ o. unwrap_or o desktop_cell) (full_t i j mine).1));
         views = refl;

@@ -3,12 +3,12 @@ use Rattle.std.specs.Prelude.{◌≡◌, ◌<◌, ℕ, ℤ, true, List, length, 
 use Rattle.std.specs.Prelude.{slice_get, slice_set, unwrap_or}
 use Rattle.be_desk.specs.Changes.{Desk, owns, desk_after}
 use Rattle.be_desk.specs.Desks.{IsPaired}
-use Rattle.be_desk.specs.Plans.{AreChanged, IsScreenOf, Planned, then_spans}
+use Rattle.be_desk.specs.Plans.{AreRenewed, IsScreenOf, Planned}
 use Rattle.be_geom.specs.declared.change.Change.{Change}
 use Rattle.be_stack.specs.Windows.{Windows}
 use Rattle.be_pane.specs.declared.pane.Pane.{Pane}
 use Rattle.be_span.specs.Cells.{desktop_cell}
-use Rattle.be_span.specs.Spans.{Spans}
+use Rattle.be_desk.specs.declared.planned.Renewed.{Renewed}
 use Rattle.be_span.specs.declared.Cell.{Cell}
 use Rattle.be_stack.specs.Limits.{is_within_limits}
 use Rattle.be_machine.specs.Pixels.{pixel_at}
@@ -25,7 +25,7 @@ cells_in s x y = unwrap_or (pixel_at s x y) desktop_cell
 -- These spans were planned for a pane that stood for the slice before: in some state whose desk
 -- takes the change, with the panes that were looked at. The slice after is that of the state after.
 pub record IsChanged
-    (windows : Windows) (w : ℕ) (change : Change) (these : Option Spans) (old new : Slice)
+    (windows : Windows) (w : ℕ) (change : Change) (these : Option Renewed) (old new : Slice)
     : Type 0 where
   pub state : State
   pub then_desk : Desk
@@ -45,17 +45,17 @@ pub record IsChanged
   pub shows : PaneShows window (shown_of state window) example
   pub rooted : 0 < length example.tree
   pub renewed :
-      AreChanged state.desk then_desk w change panes example (then_spans these example)
+      AreRenewed state.desk then_desk w change panes example these
   pub before : old ≡ pane window (shown_of state window)
   pub after_is : new ≡ pane window (shown_of (changed state w change) window)
 
 -- the plan's spans of this number were planned so
 abbrev pub HasSpansOf : Planned → ℕ → Slice → Slice → Type 0
 HasSpansOf plan number old new =
-    (these : Option Spans) × (slice_get plan.spans number ≡ Some these)
+    (these : Option Renewed) × (slice_get plan.spans number ≡ Some these)
     × IsChanged plan.windows plan.window plan.change these old new
 
 -- the plan without the spans of this number, or with others
 abbrev pub IsAsBefore : Planned → ℕ → Planned → Type 0
 IsAsBefore old number new =
-    (other : Option Spans) × (new ≡ record old { spans = slice_set old.spans number other })
+    (other : Option Renewed) × (new ≡ record old { spans = slice_set old.spans number other })

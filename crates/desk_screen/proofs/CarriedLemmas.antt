@@ -5,7 +5,7 @@ use Rattle.std.proofs.lemmas.Bool.{cases_lt}
 use Rattle.std.proofs.lemmas.Option.{same_Some, slice_get_within}
 use Rattle.be_facts.proofs.Lists.{element, set_length, set_other}
 use Rattle.be_pane.specs.declared.pane.Pane.{Pane}
-use Rattle.be_span.specs.Spans.{Spans}
+use Rattle.be_desk.specs.declared.planned.Renewed.{Renewed}
 use Rattle.be_stack.specs.Windows.{Windows}
 use Rattle.be_desk.specs.Changes.{Desk, desk_after}
 use Rattle.be_desk.specs.Desks.{IsPaired}
@@ -37,7 +37,7 @@ not_above : (k n : ℕ) → n + 1 ≤ k → k ≡ n → ⊥
 not_above k n more e = omega arith
 
 -- the pane at the place
-done_there : (before : Desk) (plan left : Planned) (old now : List Pane) (n : ℕ) (pane new : Pane) → IsScreen before old → IsPlanOf plan before old → AreCarriedTo before plan left old now n → n < length old → slice_get now n ≡ Some pane → ((these : Option Spans) → slice_get left.spans n ≡ Some these → CarriesOver left these pane new) → IsDone before plan n new
+done_there : (before : Desk) (plan left : Planned) (old now : List Pane) (n : ℕ) (pane new : Pane) → IsScreen before old → IsPlanOf plan before old → AreCarriedTo before plan left old now n → n < length old → slice_get now n ≡ Some pane → ((these : Option Renewed) → slice_get left.spans n ≡ Some these → CarriesOver left these pane new) → IsDone before plan n new
 done_there before plan left old now n pane new screen is to within got carries after taken =
     let each = is.each in
     let these = element plan.spans n (omega arith) in
@@ -46,13 +46,13 @@ done_there before plan left old now n pane new screen is to within got carries a
     let all = over before after old screen.paired taken (is.on_desk.then_windows after taken) (is.panes_of n pane was) (is.changed after taken n pane these.0 was these.1) in
     (all.0, all.2.window ∙ screen.numbered n pane was)
 
-pub one_carried : (before : Desk) (plan left next : Planned) (old now : List Pane) (n : ℕ) (pane new : Pane) (other : Option Spans) → IsScreen before old → IsPlanOf plan before old → AreCarriedTo before plan left old now n → n < length old → slice_get now n ≡ Some pane → ((these : Option Spans) → slice_get left.spans n ≡ Some these → CarriesOver left these pane new) → next ≡ record left { spans = slice_set left.spans n other } → AreCarriedTo before plan next old (slice_set now n new) (n + 1)
+pub one_carried : (before : Desk) (plan left next : Planned) (old now : List Pane) (n : ℕ) (pane new : Pane) (other : Option Renewed) → IsScreen before old → IsPlanOf plan before old → AreCarriedTo before plan left old now n → n < length old → slice_get now n ≡ Some pane → ((these : Option Renewed) → slice_get left.spans n ≡ Some these → CarriesOver left these pane new) → next ≡ record left { spans = slice_set left.spans n other } → AreCarriedTo before plan next old (slice_set now n new) (n + 1)
 one_carried before plan left next old now n pane new other screen is to within got carries e =
     let spans : next.spans ≡ slice_set left.spans n other = ap (λ (p : Planned). p.spans) e in
     record {
-      left_is = e ∙ ap (λ (p : Planned). record p { spans = slice_set left.spans n other }) to.left_is ∙ ap (λ (l : List (Option Spans)). record plan { spans = l }) (sym spans);
+      left_is = e ∙ ap (λ (p : Planned). record p { spans = slice_set left.spans n other }) to.left_is ∙ ap (λ (l : List (Option Renewed)). record plan { spans = l }) (sym spans);
       many = ap length spans ∙ set_length left.spans n other ∙ to.many;
-      spans_left = λ k more. ap (λ (l : List (Option Spans)). slice_get l k) spans ∙ set_other left.spans n k other (λ e. not_above k n more e) ∙ to.spans_left k (omega arith);
+      spans_left = λ k more. ap (λ (l : List (Option Renewed)). slice_get l k) spans ∙ set_other left.spans n k other (λ e. not_above k n more e) ∙ to.spans_left k (omega arith);
       each = set_length now n new ∙ to.each;
       done = λ k q less then_got.
           elim (cases_lt k n) [

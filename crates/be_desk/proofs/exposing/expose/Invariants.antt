@@ -8,5 +8,5 @@ use Rattle.be_desk.proofs.exposing.expose.Given as goal
 abbrev pub invariant-loop-place : goal.invariant-loop-place
 invariant-loop-place l = record {
   region : l.spans.rects ≡ l.fn.spans.rects;
-  cells : (x y : ℤ) → cell_in l.spans x y ≡ cond (region_has (take l.place l.fresh) x y) (option_map (exposed_by l.fn.renewal x y) (cell_in l.fn.spans x y)) (cell_in l.fn.spans x y);
+  cells : (x y : ℤ) → cell_in l.spans x y ≡ cond (region_has (take l.place l.fn.spans.rects) x y) (option_map (exposed_by l.fn.renewal x y) (cell_in l.fn.spans x y)) (cell_in l.fn.spans x y);
 }

@@ -1,14 +1,13 @@
 -- The background, what the window brings, and what is exposed.
-use Rattle.std.proofs.Common.{List, ap, subst, sym, ◌∙◌}
+use Rattle.std.proofs.Common.{List, ap, subst, ◌∙◌}
 use Rattle.std.specs.Option.{option_map}
 use Rattle.std.proofs.lemmas.List.Elements.{All-contains}
 use Rattle.be_color.specs.declared.colors.Color.{Color}
 use Rattle.be_span.specs.Spans.{cell_in}
 use Rattle.be_desk.specs.Plans.{lent}
-use Rattle.be_geom.specs.declared.rect.Rect.{Rect}
-use Rattle.be_desk.specs.Renewals.{IsBackground, IsFresh, IsShown, exposed_by}
+use Rattle.be_desk.specs.Renewals.{IsBackground, IsShown, exposed_by}
 use Rattle.be_desk.proofs.RenewLemmas.{renewed_is}
-use Rattle.be_desk.proofs.renewal.made_anew.Goals as goal
+use Rattle.be_desk.proofs.renewal.renewed.Goals as goal
 
 pub returns-clause-cells : goal.returns-clause-cells
 returns-clause-cells c cells under x y has =
@@ -19,7 +18,3 @@ returns-clause-cells c cells under x y has =
     (c.requires.colored x y has)
     (subst (λ (colors : List Color). IsBackground colors (cells x y) (cell_in c.in_ok-spans.spans x y)) c.deref.ensures.value (c.in_ok-spans.ensures.cells cells under x y has))
     (c.expose.ensures.cells x y ∙ ap (option_map (exposed_by r x y)) (c.lay_own.ensures.cells x y))
-
-pub expose-requires-clause-fresh : goal.expose-requires-clause-fresh
-expose-requires-clause-fresh c =
-    subst (λ (l : List Rect). IsFresh c.args.renewal.now l c.args.fresh.now) (sym (c.lay_own.ensures.region ∙ c.in_ok-spans.ensures.region)) c.requires.fresh
