@@ -252,3 +252,61 @@ run_changed rule at run old new first last x end y by start count k e order far 
         ∙ ap (λ q. option_map (changed rule at (x +ℤ pos k) y) (slice_get old q)) is
         ∙ same_changed rule at (λ z w. span_has run (z -ℤ by) && at z w) (x +ℤ pos k) y
         (slice_get old k) (ap (λ b. b && at (x +ℤ pos k) y) (sym has))
+
+-- ---- one pixel of some
+
+pub moved_between : (column x by : ℤ)
+    → between (column +ℤ by) x (column +ℤ by) ≡ between column (x -ℤ by) column
+unfolding between
+moved_between column x by = grind (arith, ints)
+
+-- none of them is in the column
+pub none_there : (rule : Rule) (at : ℤ → ℤ → Bool) (old : List Cell) (x y column : ℤ) (k : ℕ)
+    → (column <ℤ x) ⊎ ((x +ℤ pos (length old)) ≤ℤ column)
+    → slice_get old k ≡ option_map (changed rule (λ z w. between column z column && at z w)
+    (x +ℤ pos k) y) (slice_get old k)
+none_there rule at old x y column k out =
+    elim (cases_lt k (length old)) [
+      | inl h ↦
+          not_changed rule (λ z w. between column z column && at z w) (x +ℤ pos k) y
+          (slice_get old k) (ap (λ b. b && at (x +ℤ pos k) y) (apart h out))
+      | inr h ↦ let past = slice_get_past old k h in past ∙ sym (ap (option_map _) past)
+    ]
+  where
+    apart : k < length old → (column <ℤ x) ⊎ ((x +ℤ pos (length old)) ≤ℤ column)
+        → between column (x +ℤ pos k) column ≡ false
+    apart h (inl left) = is_above column (x +ℤ pos k) column (omega (arith, ints))
+    apart h (inr right) = is_below column (x +ℤ pos k) column (omega (arith, ints))
+
+-- the one in the column is painted, and the others stay
+pub one_changed : (rule : Rule) (at : ℤ → ℤ → Bool) (old new : List Cell) (x y column : ℤ)
+    (start k : ℕ) → pos start ≡ column -ℤ x
+    → ((j : ℕ) → j < 1 → slice_get new (start + j)
+    ≡ option_map (changed rule at (column +ℤ pos j) y) (slice_get old (start + j)))
+    → ((q : ℕ) → (q < start) ⊎ ((start + 1) ≤ q) → slice_get new q ≡ slice_get old q)
+    → slice_get new k ≡ option_map (changed rule (λ z w. between column z column && at z w)
+    (x +ℤ pos k) y) (slice_get old k)
+one_changed rule at old new x y column start k far inside others =
+    elim (cases_lt k start) [
+      | inl less ↦ others k (inl less) ∙ stays (is_below column (x +ℤ pos k) column (omega (arith, ints)))
+      | inr from ↦ elim (cases_lt start k) [
+        | inl past ↦ others k (inr (omega arith)) ∙ stays (is_above column (x +ℤ pos k) column (omega (arith, ints)))
+        | inr to ↦
+            let is : start + 0 ≡ k = omega arith in
+            let across : column +ℤ pos 0 ≡ x +ℤ pos k = omega (arith, ints) in
+            let has = is_between column (x +ℤ pos k) column (omega (arith, ints)) (omega (arith, ints)) in
+            ap (slice_get new) (sym is)
+            ∙ inside 0 (omega arith)
+            ∙ ap (λ z. option_map (changed rule at z y) (slice_get old (start + 0))) across
+            ∙ ap (λ q. option_map (changed rule at (x +ℤ pos k) y) (slice_get old q)) is
+            ∙ same_changed rule at (λ z w. between column z column && at z w) (x +ℤ pos k) y
+            (slice_get old k) (ap (λ b. b && at (x +ℤ pos k) y) (sym has))
+      ]
+    ]
+  where
+    stays : between column (x +ℤ pos k) column ≡ false
+        → slice_get old k ≡ option_map (changed rule (λ z w. between column z column && at z w)
+        (x +ℤ pos k) y) (slice_get old k)
+    stays out =
+        not_changed rule (λ z w. between column z column && at z w) (x +ℤ pos k) y (slice_get old k)
+        (ap (λ b. b && at (x +ℤ pos k) y) out)

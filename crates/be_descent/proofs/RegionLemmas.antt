@@ -215,11 +215,6 @@ none_boxed false h m t e = refl
 pub boxed : (p a h m t : Bool) → p ≡ (a && h) → (p && (m && t)) ≡ (a && (h && (m && t)))
 boxed p a h m t e = ap (λ b. b && (m && t)) e ∙ and_joined a h (m && t)
 
-pub image_test : (f h m : Bool) → f ≡ true → (f && (h && (m && true))) ≡ (h && m)
-image_test f true true is = ap (λ b. b && true) is
-image_test f true false is = and_false f
-image_test f false m is = and_false f
-
 pub letter_test : (a h m t : Bool) → (t ≡ true → h ≡ true)
     → (a && (h && (m && t))) ≡ (a && (t && m))
 letter_test a h true true in_it = ap (λ b. a && (b && true)) (in_it refl)

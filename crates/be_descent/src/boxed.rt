@@ -31,3 +31,17 @@ pub(crate) fn paint_boxed<L: Lay>(
         paint_reached(spans, part, reach, ink);
     }
 }
+
+/// Paints the pixels of a rectangle, which lies that way on the screen, on which a view may draw, as
+/// far as the buffer has them. Besides the descent it goes once over the rectangles of the buffer's
+/// region.
+pub fn paint_rect<L: Lay>(spans: &mut SpanBuf, rect: Rect, way: Way, reach: &Reach<'_>, ink: &L)
+    requires view { reach.now.view < length reach.now.tree.now }
+    requires corner { IsNear 64 reach.now.corner.right × IsNear 64 reach.now.corner.down }
+    ensures { IsPainted (L.rule ink.now) (λ x y. has_moved rect way x y
+        && (may_draw reach.now x y && L.at ink.now x y)) spans.old spans.new }
+{
+    if let Some(frame) = spans.region().frame() {
+        paint_boxed(spans, frame, rect, way, reach, ink);
+    }
+}

@@ -1,4 +1,4 @@
-ghost use Rattle.std.specs.Prelude.{◌≡◌, ℕ, ℤ, pos, ◌+ℤ◌, ◌-ℤ◌, ◌&&◌, true, length, slice_get};
+ghost use Rattle.std.specs.Prelude.{◌≡◌, ℕ, ℤ, pos, ◌+ℤ◌, ◌-ℤ◌, ◌&&◌, true, ⊤, length, slice_get};
 ghost use Rattle.std.specs.Prelude.{count_by};
 ghost use Rattle.std.specs.Option.{option_map};
 ghost use Rattle.be_geom.specs.Places.{IsNear};
@@ -11,9 +11,9 @@ use crate::part::common;
 use crate::way::Way;
 use be_shape::{Raster, Row, Span as Columns};
 use be_span::{Cell, Paint, paint_part};
+use std::alloc::AllocError;
 
 /// What is painted, held to a shape. It takes each row by itself.
-#[derive(Drop)]
 pub struct Held<'a, P> {
     pub raster: &'a Raster,
     /// Where the shape lies on the screen.
@@ -21,6 +21,18 @@ pub struct Held<'a, P> {
     pub paint: &'a P,
     pub ghost near: { IsNear 64 way.right × IsNear 64 way.down },
 }
+
+impl<P> Clone for Held<'_, P> {
+    ghost is_clone = { λ x y. y ≡ x };
+
+    ghost is_infallible = { λ _. ⊤ };
+
+    fn clone(&self) -> Result<Self, AllocError> {
+        Ok(*self)
+    }
+}
+
+impl<P> Copy for Held<'_, P> {}
 
 impl<P: Paint> Paint for Held<'_, P> {
     ghost rule = { λ s. P.rule s.paint.now };

@@ -6,7 +6,7 @@ ghost use Rattle.be_descent.specs.Inks.{frame_of, picture_color};
 ghost use Rattle.be_span.specs.Painting.{IsPainted};
 ghost use Rattle.be_descent.specs.Places.{has_moved};
 
-use crate::boxed::paint_boxed;
+use crate::boxed::paint_rect;
 use crate::far::around;
 use crate::ink::Ink;
 use crate::reach::Reach;
@@ -51,17 +51,8 @@ pub fn paint_image(spans: &mut SpanBuf, image: &Image<'_>, reach: &Reach<'_>)
         (λ x y. has_moved (frame_of image.now.bitmap.now) image.now.way x y
         && may_draw reach.now x y) spans.old spans.new }
 {
-    let Some(frame) = spans.region().frame() else {
-        return;
-    };
-    paint_boxed(
-        spans,
-        frame,
-        frame_of(image.bitmap),
-        image.way,
-        reach,
-        &Ink { paint: image },
-    );
+    let rect = frame_of(image.bitmap);
+    paint_rect(spans, rect, image.way, reach, &Ink { paint: *image });
 }
 
 /// The rectangle of a picture whose left top is at (0, 0).

@@ -67,6 +67,6 @@ pub fn paint_letters(spans: &mut SpanBuf, area: Rect, letters: &Letters<'_>, rea
         BITS,
         letters.way,
         reach,
-        &Ink { paint: letters },
+        &Ink { paint: *letters },
     );
 }

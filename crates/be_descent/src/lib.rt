@@ -11,11 +11,12 @@
 //! them to a shape.
 //!
 //! `Fronts::find` finds the frames in front of a view, and `paint_reached` is the descent for a
-//! view. `paint_bands` and `paint_line` are those of a shape that lies anywhere, by rectangles that
-//! have its pixels, `paint_image` is that of a picture, and `paint_letters` that of letters. Other
-//! rectangles are in screen coordinates. A stage over a region finds its rectangles by bisection
-//! where they don't follow one another; that over frames goes once over those in front, and cuts at
-//! the edges of those that are met. No call takes memory, and none but the ink looks at a pixel.
+//! view. `paint_rect` is that of a rectangle that lies anywhere, `paint_bands` and `paint_line` are
+//! those of a shape, by rectangles that have its pixels, `paint_image` is that of a picture, and
+//! `paint_letters` that of letters. Other rectangles are in screen coordinates. A stage over a
+//! region finds its rectangles by bisection where they don't follow one another; that over frames
+//! goes once over those in front, and cuts at the edges of those that are met. No call takes
+//! memory, and none but the ink looks at a pixel.
 #![tactic(auto)]
 
 mod altering;
@@ -56,6 +57,7 @@ pub use altering::Altering;
 pub use area::paint_area;
 pub use bands::paint_bands;
 pub use below::Below;
+pub use boxed::paint_rect;
 pub use clips::Clips;
 pub use coat::Coat;
 pub use fronts::Fronts;

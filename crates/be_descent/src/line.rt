@@ -27,7 +27,7 @@ const ROWS: i32 = 64;
 /// Paints the pixels of a line on which a view may draw, as far as the buffer has them. The line
 /// lies that way on the screen. There is a descent for each 64 rows, in the columns that the line
 /// has there. Besides them it goes once over the rectangles of the buffer's region.
-pub fn paint_line<P: Paint>(
+pub fn paint_line<P: Paint + Copy>(
     spans: &mut SpanBuf,
     from: Point,
     to: Point,
@@ -63,7 +63,7 @@ pub fn paint_line<P: Paint>(
 }
 
 /// Paints those in the first 64 rows of an area. The line has a pixel in each row. Gives the last.
-fn paint_part<P: Paint>(
+fn paint_part<P: Paint + Copy>(
     spans: &mut SpanBuf,
     area: Rect,
     line: &Raster,
@@ -94,7 +94,7 @@ fn paint_part<P: Paint>(
 }
 
 /// The same of all rows of an area, in the columns between those of the first and the last row.
-fn paint_cut<P: Paint>(
+fn paint_cut<P: Paint + Copy>(
     spans: &mut SpanBuf,
     area: Rect,
     line: &Raster,
@@ -125,7 +125,7 @@ fn paint_cut<P: Paint>(
 
 /// Paints the pixels of an area that a shape has and on which a view may draw. A thin line that is
 /// steep takes fewer steps a row than others.
-fn paint_held<P: Paint>(
+fn paint_held<P: Paint + Copy>(
     spans: &mut SpanBuf,
     area: Rect,
     raster: &Raster,
@@ -142,12 +142,16 @@ fn paint_held<P: Paint>(
 {
     match raster.steep() {
         Some(line) => {
-            let thin = Thin { line, way, paint };
-            paint_reached(spans, area, reach, &Ink { paint: &thin });
+            let thin = Thin {
+                line,
+                way,
+                paint: *paint,
+            };
+            paint_reached(spans, area, reach, &Ink { paint: thin });
         }
         None => {
             let held = Held { raster, way, paint };
-            paint_reached(spans, area, reach, &Ink { paint: &held });
+            paint_reached(spans, area, reach, &Ink { paint: held });
         }
     }
 }

@@ -15,7 +15,7 @@ ghost use Rattle.be_span.specs.Spans.{cell_in};
 use crate::ink::Ink;
 use crate::reach::Reach;
 use crate::texts::{Text, paint_text};
-use be_descent::{Coat, Image, Way, paint_bands, paint_image, paint_line};
+use be_descent::{Coat, Image, Way, paint_bands, paint_image, paint_line, paint_rect};
 use be_shape::Raster;
 use be_span::{Brush, Fill, Paint, SpanBuf};
 use be_state::State;
@@ -107,7 +107,7 @@ fn paint_shape(
 }
 
 /// The same with what is painted.
-fn paint_raster<P: Paint>(
+fn paint_raster<P: Paint + Copy>(
     spans: &mut SpanBuf,
     raster: &Raster,
     way: Way,
@@ -120,10 +120,10 @@ fn paint_raster<P: Paint>(
     ensures { IsPainted (P.rule paint.now) (λ x y. shape_has raster.now way x y
         && (may_draw reach.now x y && P.at paint.now x y)) spans.old spans.new }
 {
+    let ink = be_descent::Ink { paint: *paint };
     match *raster {
-        Raster::Fill(_) | Raster::Frame(_, _) => {
-            paint_bands(spans, raster, way, reach, &be_descent::Ink { paint });
-        }
+        Raster::Fill(rect) => paint_rect(spans, rect, way, reach, &ink),
+        Raster::Frame(_, _) => paint_bands(spans, raster, way, reach, &ink),
         Raster::Line(from, to, pen) => paint_line(spans, from, to, pen, way, reach, paint),
     }
 }

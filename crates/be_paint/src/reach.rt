@@ -1,4 +1,4 @@
-ghost use Rattle.std.specs.Prelude.{◌≡◌, None, IfNone, IfSome};
+ghost use Rattle.std.specs.Prelude.{◌≡◌, ◌+ℤ◌, None, IfNone, IfSome};
 ghost use Rattle.be_geom.specs.Places.{IsNear};
 ghost use Rattle.be_views.specs.Trees.{place_of};
 ghost use Rattle.be_paint.specs.Laying.{descent_of};
@@ -44,8 +44,8 @@ impl<'a> Reach<'a> {
         Some(Site {
             view: Way { right: x, down: y },
             origin: Way {
-                right: i32::from(self.window.x) + x + right,
-                down: i32::from(self.window.y) + y + down,
+                right: origin(self.window.x, x, right),
+                down: origin(self.window.y, y, down),
             },
         })
     }
@@ -68,4 +68,13 @@ impl<'a> Reach<'a> {
             session: self.session,
         }
     }
+}
+
+/// Where drawing counts from, across or down: so far from where the view lies in the window.
+fn origin(window: i16, view: i32, base: i32) -> i32
+    requires near { IsNear 32 view × IsNear 17 base }
+    ensures sum { result ≡ window +ℤ view +ℤ base }
+    ensures near { IsNear 60 result }
+{
+    i32::from(window) + view + base
 }

@@ -35,12 +35,10 @@ pub row_is : (r : Rect) (x y : ℤ) (row wide high : ℕ) → IsNotEmpty r → x
 row_is r x y row wide high some across down w h less =
     record { across = across; down = down; long = ap pos w ∙ wide_is r some.across; tall = ap pos h ∙ high_is r some.down; less = less }
 
-pub low_enough : (r : Rect) (row high : ℕ) → IsNotEmpty r → high ≡ height_of r → row < high → (r.top +ℤ pos row) ≤ℤ r.bottom
-low_enough r row high some h less = let tall = ap pos h ∙ high_is r some.down in omega (arith, ints)
-
-pub has_in_row : (r : Rect) (x y : ℤ) (row wide high k : ℕ) → IsRowOf r x y row wide high → k < wide → rect_has r (x +ℤ pos k) y ≡ true
-has_in_row r x y row wide high k is few =
-    let across = is.across in let down = is.down in let long = is.long in let tall = is.tall in let less = is.less in
+-- its pixels are the rectangle's
+pub in_row : (r : Rect) (x y : ℤ) (row wide high k : ℕ) → IsNotEmpty r → x ≡ r.left → y ≡ r.top +ℤ pos row → wide ≡ width_of r → high ≡ height_of r → row < high → k < wide → rect_has r (x +ℤ pos k) y ≡ true
+in_row r x y row wide high k some across down w h less few =
+    let long = ap pos w ∙ wide_is r some.across in let tall = ap pos h ∙ high_is r some.down in
     has_from r (x +ℤ pos k) y record { left = omega (arith, ints); right = omega (arith, ints); top = omega (arith, ints); bottom = omega (arith, ints) }
 
 -- the pixels of the rectangle's rows above one are done, and all others are as they were

@@ -1,5 +1,5 @@
 -- A rectangle for whose pixels cells are kept.
-use Rattle.std.proofs.Common.{◌≡◌, ℤ, pos, arith, true, false, List, Option, Some, None, IsNone, IfSome, ◌↔◌, refl, sym, ◌∙◌}
+use Rattle.std.proofs.Common.{◌≡◌, ℤ, pos, arith, true, List, Option, Some, None, IsNone, IfSome, ◌↔◌, refl, sym, ◌∙◌}
 use Rattle.std.specs.Option.{unwrap_or}
 use Rattle.std.proofs.lemmas.Int.{ints}
 use Rattle.std.proofs.lemmas.Bool.{true≢false}

@@ -14,6 +14,10 @@ pub record Spans : Type 0 where
   pub rects : List Rect
   pub cells : List Cell
 
+-- the pixels of one rectangle with their cells
+abbrev pub block : Rect → List Cell → Spans
+block r cells = record { rects = r ∷ []; cells = cells }
+
 -- a rectangle of a region
 pub record SpanAt : Type 0 where
   pub rect : Rect

@@ -1,14 +1,14 @@
 ghost use Rattle.std.specs.Prelude.{◌≡◌, ◌+◌, ◌<◌, ◌≤◌, ◌^◌, ℕ, ℤ, pos, ◌+ℤ◌, Bool, ◌&&◌, true};
-ghost use Rattle.std.specs.Prelude.{length, slice_get, count_by};
+ghost use Rattle.std.specs.Prelude.{[], ◌∷◌, length, slice_get, count_by};
 ghost use Rattle.std.specs.Option.{option_map};
 ghost use Rattle.be_geom.specs.Rects.{rect_has};
 ghost use Rattle.be_region.specs.Regions.{IsNotEmpty, region_has};
 ghost use Rattle.be_span.specs.declared.Cell.{Cell};
 ghost use Rattle.be_span.specs.Painting.{changed, AreInRange, IsPainted};
-ghost use Rattle.be_span.specs.Spans.{pixels_of};
+ghost use Rattle.be_span.specs.Spans.{area_of, block};
 
 use crate::Cell;
-use crate::grid::Grid;
+use crate::block::alter_in;
 use crate::places::{height_of, row_of, width_of};
 use be_geom::Rect;
 
@@ -37,22 +37,33 @@ pub trait Alter {
             ≡ dirty + count_by (λ c. c.dirty) cells.new };
 }
 
-/// Alters the pixels of a rectangle, row by row.
+/// Alters the pixels of a rectangle that are all in another, row by row, in cells that begin with
+/// those of the other. How many of all are dirty is told and given back.
 #[inline(always)]
-pub(crate) fn alter_rows<A: Alter>(grid: &mut Grid, rect: Rect, alter: &A)
+pub(crate) fn alter_rows<A: Alter>(
+    cells: &mut [Cell],
+    frame: Rect,
+    rect: Rect,
+    alter: &A,
+    dirty: usize,
+) -> usize
+    requires full { IsNotEmpty frame }
+    requires fits { area_of frame ≤ length cells.old }
     requires some { IsNotEmpty rect }
     requires inside { (x y : ℤ) → rect_has rect x y ≡ true
-        → region_has grid.old.rects x y ≡ true }
+        → region_has (frame ∷ []) x y ≡ true }
     requires known { (x y : ℤ) → rect_has rect x y ≡ true → A.knows alter.now x y ≡ true }
-    requires whole { length grid.old.cells ≡ pixels_of grid.old.rects }
+    requires counted { dirty ≡ count_by (λ c. c.dirty) cells.old }
+    ensures len { length cells.new ≡ length cells.old }
     ensures painted { IsPainted (A.rule alter.now) (λ x y. rect_has rect x y && A.at alter.now x y)
-        grid.old grid.new }
-    ensures whole { length grid.new.cells ≡ pixels_of grid.new.rects }
+        (block frame cells.old) (block frame cells.new) }
+    ensures counted { result ≡ count_by (λ c. c.dirty) cells.new }
 {
     let width = width_of(rect);
-    let height = height_of(rect);
-    for row in 0..height {
+    let mut left = dirty;
+    for row in 0..height_of(rect) {
         let first = row_of(rect, row);
-        grid.alter(first.x, first.y, width, alter);
+        left = alter_in(cells, frame, first.x, first.y, width, alter, left);
     }
+    left
 }

@@ -12,7 +12,7 @@ ghost use Rattle.be_span.specs.Seen.{IsSeen};
 ghost use Rattle.be_span.specs.Spans.{cell_in, is_dirty, black_cell, clean_cell, pixels_of};
 
 use crate::Cell;
-use crate::alter::{Alter, alter_rows};
+use crate::alter::Alter;
 use crate::expose::Expose;
 use crate::grid::Grid;
 use crate::paint::{Kept, Paint};
@@ -233,7 +233,7 @@ impl SpanBuf {
         ensures { IsPainted (A.rule alter.now) (λ x y. rect_has rect x y && A.at alter.now x y)
             self.old self.new }
     {
-        alter_rows(&mut self.grid, rect, alter);
+        self.grid.alter_rect(rect, alter);
     }
 
     /// The cells of the `count` pixels from (x, y) on to the right, all of them in this span. It

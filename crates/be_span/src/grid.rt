@@ -1,18 +1,19 @@
-ghost use Rattle.std.specs.Prelude.{◌≡◌, ◌<◌, ◌≤◌, ◌+◌, ℕ, ℤ, pos, ◌+ℤ◌, ◌-ℤ◌, true, Some, All, IfOk};
+ghost use Rattle.std.specs.Prelude.{◌≡◌, ◌<◌, ◌≤◌, ℕ, ℤ, pos, ◌+ℤ◌, ◌-ℤ◌, true, Some, All, IfOk, ◌&&◌};
 ghost use Rattle.std.specs.Prelude.{[], ◌∷◌, length, slice_get, count_by, vec_capacity};
 ghost use Rattle.std.specs.Option.{option_map};
-ghost use Rattle.be_geom.specs.Rects.{moved_rect};
+ghost use Rattle.be_geom.specs.Rects.{moved_rect, rect_has};
 ghost use Rattle.be_geom.specs.declared.rect.Rect.{Rect};
 ghost use Rattle.be_region.specs.Regions.{IsNotEmpty, region_has};
 ghost use Rattle.be_span.specs.Cells.{unmarked};
-ghost use Rattle.be_span.specs.Painting.{changed};
+ghost use Rattle.be_span.specs.Painting.{changed, IsPainted};
 ghost use Rattle.be_span.specs.Runs.{HasRun, IsBeside};
-ghost use Rattle.be_span.specs.Spans.{area_of, cell_in, clean_cell, pixels_of, place_of};
+ghost use Rattle.be_span.specs.Spans.{area_of, cell_in, clean_cell, pixels_of};
 
 use crate::Cell;
-use crate::alter::Alter;
+use crate::alter::{Alter, alter_rows};
+use crate::block::{alter_in, row_in};
 use crate::places::{area_of, start_of};
-use crate::rows::{alter_part, overwrite, unmark_all};
+use crate::rows::{overwrite, unmark_all};
 use be_color::Rgb;
 use be_geom::{NoMemory, Rect};
 use std::alloc::Global;
@@ -127,8 +128,7 @@ impl Grid {
         ensures cells { (k : ℕ) → k < count
             → cell_in self.now (x +ℤ pos k) y ≡ slice_get result.now k }
     {
-        let start = self.place_of(x, y, count);
-        &self.cells[start..start + count]
+        row_in(&self.cells, self.frame, x, y, count)
     }
 
     /// Gives the pixels from (x, y) on to the right these cells, of which `more` are dirty.
@@ -144,7 +144,7 @@ impl Grid {
         ensures others { (z w : ℤ) → IsBeside x y (length cells.now) z w
             → cell_in self.new z w ≡ cell_in self.old z w }
     {
-        let start = self.place_of(x, y, cells.len());
+        let start = start_of(self.frame, x, y, cells.len());
         self.dirty = overwrite(&mut self.cells, start, cells, more, self.dirty);
     }
 
@@ -162,21 +162,23 @@ impl Grid {
         ensures others { (z w : ℤ) → IsBeside x y count z w
             → cell_in self.new z w ≡ cell_in self.old z w }
     {
-        let start = self.place_of(x, y, count);
         let cells = &mut self.cells;
-        self.dirty = alter_part(cells, start, count, x, y, alter, self.dirty);
+        self.dirty = alter_in(cells, self.frame, x, y, count, alter, self.dirty);
     }
 
-    /// Where the cells of the `count` pixels from (x, y) on to the right stand.
+    /// Alters the pixels of a rectangle, row by row.
     #[inline(always)]
-    fn place_of(&self, x: i32, y: i32, count: usize) -> usize
-        requires some { 0 < count }
-        requires run { HasRun self.now.rects x y count }
-        ensures stand { (k : ℕ) → k < count
-            → place_of self.now.rects (x +ℤ pos k) y ≡ Some (result + k) }
-        ensures within { result + count ≤ length self.now.cells }
+    pub(crate) fn alter_rect<A: Alter>(&mut self, rect: Rect, alter: &A)
+        requires some { IsNotEmpty rect }
+        requires inside { (x y : ℤ) → rect_has rect x y ≡ true
+            → region_has self.old.rects x y ≡ true }
+        requires known { (x y : ℤ) → rect_has rect x y ≡ true → A.knows alter.now x y ≡ true }
+        ensures painted { IsPainted (A.rule alter.now)
+            (λ x y. rect_has rect x y && A.at alter.now x y) self.old self.new }
+        ensures whole { length self.new.cells ≡ pixels_of self.new.rects }
     {
-        start_of(self.frame, x, y, count)
+        let cells = &mut self.cells;
+        self.dirty = alter_rows(cells, self.frame, rect, alter, self.dirty);
     }
 }
 

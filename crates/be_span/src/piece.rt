@@ -1,55 +1,22 @@
-ghost use Rattle.std.specs.Prelude.{◌≡◌, ◌+◌, ◌<◌, ◌≤◌, ℕ, ℤ, pos, ◌+ℤ◌, Bool, Some, true, false};
+ghost use Rattle.std.specs.Prelude.{◌≡◌, ◌<◌, ◌≤◌, ℕ, ℤ, pos, ◌+ℤ◌, Some, true, false};
 ghost use Rattle.std.specs.Prelude.{[], ◌∷◌, length, slice_get, IsTrue, ◌↔◌};
-ghost use Rattle.std.specs.Option.{option_map};
 ghost use Rattle.be_geom.specs.Rects.{rect_has};
 ghost use Rattle.be_region.specs.Regions.{IsNotEmpty, region_has};
-ghost use Rattle.be_span.specs.declared.Cell.{Cell};
 ghost use Rattle.be_span.specs.Painting.{IsPainted};
-ghost use Rattle.be_span.specs.Runs.{HasRun, IsBeside};
-ghost use Rattle.be_span.specs.Spans.{area_of, cell_in, is_dirty, place_of};
+ghost use Rattle.be_span.specs.Runs.{HasRun};
+ghost use Rattle.be_span.specs.Spans.{area_of, cell_in, is_dirty};
 
 use crate::Cell;
-use crate::places::{area_of, height_of, row_of, start_of, width_of};
+use crate::block::row_in;
+use crate::places::area_of;
 use crate::rows::dirty_among;
+use crate::write::{Write, write_rows};
 use be_color::Rgb;
 use be_geom::Rect;
 use std::marker::Model;
 
 /// How many pixels a piece has at most.
 const MOST: usize = 1024;
-
-/// What is written in the place of cells.
-pub trait Write {
-    /// The new cell of a pixel.
-    ghost cell: { Self → ℤ → ℤ → Cell };
-
-    /// Of which pixels it has one: no others are handed to it.
-    ghost knows: { Self → ℤ → ℤ → Bool };
-
-    /// Writes it for pixels side by side in a row of the screen, from (x, y) on to the right.
-    fn write(&self, cells: &mut [Cell], x: i32, y: i32)
-        requires some { 0 < length cells.old }
-        requires known { (k : ℕ) → k < length cells.old → knows self.now (x +ℤ pos k) y ≡ true }
-        ensures len { length cells.new ≡ length cells.old }
-        ensures cells { (k : ℕ) → k < length cells.old
-            → slice_get cells.new k ≡ Some (cell self.now (x +ℤ pos k) y) };
-}
-
-/// The same cell for each pixel.
-#[derive(Clone, Copy, Debug, PartialEq, Eq)]
-pub struct Alike {
-    pub cell: Cell,
-}
-
-impl Write for Alike {
-    ghost cell = { λ s x y. s.cell };
-
-    ghost knows = { λ s x y. true };
-
-    fn write(&self, cells: &mut [Cell], _x: i32, _y: i32) {
-        cells.fill(self.cell);
-    }
-}
 
 /// The pixels of a rectangle with cells of their own, at most 1,024. It takes no memory.
 #[derive(Drop)]
@@ -120,29 +87,7 @@ impl Piece {
         requires known { (x y : ℤ) → rect_has part x y ≡ true → W.knows write.now x y ≡ true }
         ensures { IsPainted (λ x y c. W.cell write.now x y) (rect_has part) self.old self.new }
     {
-        let width = width_of(part);
-        let height = height_of(part);
-        for row in 0..height {
-            let first = row_of(part, row);
-            self.write_run(first.x, first.y, width, write);
-        }
-    }
-
-    /// Writes for the `count` pixels from (x, y) on to the right.
-    #[inline(always)]
-    fn write_run<W: Write>(&mut self, x: i32, y: i32, count: usize, write: &W)
-        requires some { 0 < count }
-        requires run { HasRun self.old.rects x y count }
-        requires known { (k : ℕ) → k < count → W.knows write.now (x +ℤ pos k) y ≡ true }
-        ensures region { self.new.rects ≡ self.old.rects }
-        ensures written { (k : ℕ) → k < count → cell_in self.new (x +ℤ pos k) y
-            ≡ option_map (λ c. W.cell write.now (x +ℤ pos k) y)
-            (cell_in self.old (x +ℤ pos k) y) }
-        ensures others { (z w : ℤ) → IsBeside x y count z w
-            → cell_in self.new z w ≡ cell_in self.old z w }
-    {
-        let start = self.place_of(x, y, count);
-        write.write(&mut self.cells[start..start + count], x, y);
+        write_rows(&mut self.cells, self.area, part, write);
     }
 
     /// The cells of the `count` pixels from (x, y) on to the right.
@@ -154,20 +99,7 @@ impl Piece {
         ensures cells { (k : ℕ) → k < count
             → cell_in self.now (x +ℤ pos k) y ≡ slice_get result.now k }
     {
-        let start = self.place_of(x, y, count);
-        &self.cells[start..start + count]
-    }
-
-    /// Where the cells of the `count` pixels from (x, y) on to the right stand.
-    #[inline(always)]
-    fn place_of(&self, x: i32, y: i32, count: usize) -> usize
-        requires some { 0 < count }
-        requires run { HasRun self.now.rects x y count }
-        ensures stand { (k : ℕ) → k < count
-            → place_of self.now.rects (x +ℤ pos k) y ≡ Some (result + k) }
-        ensures within { result + count ≤ 1024 }
-    {
-        start_of(self.area, x, y, count)
+        row_in(&self.cells, self.area, x, y, count)
     }
 
     /// Whether no cell is dirty.

@@ -74,7 +74,8 @@ pub(crate) struct Pixel {
 /// The first pixel of a row of the rectangle, counted from its top.
 #[inline(always)]
 pub(crate) fn row_of(rect: Rect, row: usize) -> Pixel
-    requires { (rect.top +ℤ pos row) ≤ℤ rect.bottom }
+    requires some { IsNotEmpty rect }
+    requires low { row < height_of rect }
     ensures across { result.x ≡ rect.left }
     ensures down { result.y ≡ rect.top +ℤ pos row }
 {

@@ -7,7 +7,7 @@ ghost use Rattle.be_span.specs.Seen.{IsRound};
 ghost use Rattle.be_span.specs.Spans.{cell_in, pixels_of};
 
 use crate::Cell;
-use crate::alter::{Alter, alter_rows};
+use crate::alter::Alter;
 use crate::buffer::{PIXEL, SpanBuf};
 use crate::grid::Grid;
 use crate::places::area_of;
@@ -119,7 +119,7 @@ fn unmark(grid: &mut Grid, region: &Region)
     }
     for place in 0..region.count() {
         let rect = region.rect_at(place).unwrap();
-        alter_rows(grid, rect, &Clean);
+        grid.alter_rect(rect, &Clean);
     }
 }
 

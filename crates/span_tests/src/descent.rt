@@ -149,7 +149,7 @@ fn a_root_draws_beside_its_children(rt: HostRuntime) -> Result<(), Fail> {
     let all = Raster::Fill(ALL);
     for picture in ["#######.../#........./#........./#.......--/#.......--/########--"] {
         let mut spans = pixels(rt.alloc())?;
-        paint_bands(&mut spans, &all, HERE, &reach, &Ink { paint: &FILL });
+        paint_bands(&mut spans, &all, HERE, &reach, &Ink { paint: FILL });
         check(&rt, &spans, picture);
     }
     Ok(())
@@ -166,7 +166,7 @@ fn a_child_draws_in_its_frame(rt: HostRuntime) -> Result<(), Fail> {
     let all = Raster::Fill(ALL);
     for picture in ["........../........../...##...../...##...--/........--/........--"] {
         let mut spans = pixels(rt.alloc())?;
-        paint_bands(&mut spans, &all, HERE, &reach, &Ink { paint: &FILL });
+        paint_bands(&mut spans, &all, HERE, &reach, &Ink { paint: FILL });
         check(&rt, &spans, picture);
     }
     marks_stay();
@@ -200,7 +200,7 @@ fn each_clip_holds_drawing_back(rt: HostRuntime) -> Result<(), Fail> {
     let all = Raster::Fill(ALL);
     for picture in ["........../........../..#..##.../..#..##.--/..##.##.--/........--"] {
         let mut spans = pixels(rt.alloc())?;
-        paint_bands(&mut spans, &all, HERE, &reach, &Ink { paint: &FILL });
+        paint_bands(&mut spans, &all, HERE, &reach, &Ink { paint: FILL });
         check(&rt, &spans, picture);
     }
     Ok(())
@@ -219,7 +219,7 @@ fn an_update_is_drawn_where_it_is_open(rt: HostRuntime) -> Result<(), Fail> {
     let all = Raster::Fill(ALL);
     for picture in ["........../..####..../..#..#..../..#..#..--/......##--/........--"] {
         let mut spans = pixels(rt.alloc())?;
-        paint_bands(&mut spans, &all, HERE, &reach, &Ink { paint: &FILL });
+        paint_bands(&mut spans, &all, HERE, &reach, &Ink { paint: FILL });
         check(&rt, &spans, picture);
     }
     Ok(())
@@ -246,7 +246,7 @@ fn a_pattern_begins_at_the_window(rt: HostRuntime) -> Result<(), Fail> {
     let all = Raster::Fill(ALL);
     for picture in ["........../.#o#o#o.../.o#..o#.../.#o..#o#--/.o#o#o#o--/........--"] {
         let mut spans = pixels(rt.alloc())?;
-        paint_bands(&mut spans, &all, HERE, &reach, &Ink { paint: &COAT });
+        paint_bands(&mut spans, &all, HERE, &reach, &Ink { paint: COAT });
         check(&rt, &spans, picture);
     }
     Ok(())
@@ -267,7 +267,7 @@ fn letters_are_where_bits_are(rt: HostRuntime) -> Result<(), Fail> {
         masks: &MASKS,
         way: Way { right: 4, down: 2 },
     };
-    let ink = Ink { paint: &letters };
+    let ink = Ink { paint: letters };
     for picture in ["........../..#.##..../..#......./..#..###--/........--/........--"] {
         let mut spans = pixels(rt.alloc())?;
         paint_bands(&mut spans, &all, HERE, &reach, &ink);
@@ -289,7 +289,7 @@ fn paint_as_ink(spans: &mut SpanBuf, image: &Image<'_>, reach: &Reach<'_>)
         &Raster::Fill(ALL),
         HERE,
         reach,
-        &Ink { paint: image },
+        &Ink { paint: *image },
     );
 }
 
@@ -360,7 +360,7 @@ fn shapes_are_painted_by_parts(rt: HostRuntime) -> Result<(), Fail> {
         ),
     ] {
         let mut spans = pixels(rt.alloc())?;
-        paint_bands(&mut spans, &shape, HERE, &reach, &Ink { paint: &FILL });
+        paint_bands(&mut spans, &shape, HERE, &reach, &Ink { paint: FILL });
         check(&rt, &spans, picture);
     }
     for (ends, size, picture) in &LINES {

@@ -2,21 +2,17 @@
 use Rattle.std.proofs.Common.{refl, ap, ◌∙◌, arith, pos, ◌+ℤ◌, ◌-ℤ◌}
 use Rattle.be_region.specs.Regions.{region_has}
 use Rattle.be_span.specs.Spans.{cell_in, laid}
-use Rattle.be_span.proofs.BlockLemmas.{all_done, has_in_row, low_enough, none_done, row_done, row_is}
+use Rattle.be_span.proofs.BlockLemmas.{all_done, in_row, none_done, row_done, row_is}
 use Rattle.be_span.proofs.LaidLemmas.{laid_from}
 use Rattle.be_span.proofs.carry.lay_rect.Goals as goal
 
 pub loop-row-init : goal.loop-row-init
 loop-row-init c = record { region = refl; done = none_done _ _ _ }
 
-pub row_of-target-requires : goal.row_of-target-requires
-row_of-target-requires c = low_enough c.args.rect c.loop-row.row c.height_of-height.result c.requires.some c.height_of-height.ensures c.loop-row-test.true
-
 pub lay_row-requires-clause-inside : goal.lay_row-requires-clause-inside
 lay_row-requires-clause-inside c k less =
-    let here = row_is c.args.rect _ _ _ _ _ c.requires.some c.row_of-target.ensures.across c.row_of-target.ensures.down c.width_of-width.ensures c.height_of-height.ensures c.loop-row-test.true in
     ap (λ l. region_has l (c.row_of-target.result.x +ℤ pos k) c.row_of-target.result.y) c.loop-row.invariant.region
-    ∙ c.requires.inside _ _ (has_in_row c.args.rect _ _ _ _ _ k here less)
+    ∙ c.requires.inside _ _ (in_row c.args.rect _ _ _ _ _ k c.requires.some c.row_of-target.ensures.across c.row_of-target.ensures.down c.width_of-width.ensures c.height_of-height.ensures c.loop-row-test.true less)
 
 pub loop-row-preserved : goal.loop-row-preserved
 loop-row-preserved c =

@@ -1,5 +1,5 @@
 -- Edge by edge.
-use Rattle.std.proofs.Common.{ℤ, ◌≤ℤ◌, rules, arith}
+use Rattle.std.proofs.Common.{◌≤ℤ◌, rules, arith}
 use Rattle.std.proofs.lemmas.Int.{ints, to_z-of_z}
 use Rattle.be_span.proofs.GridLemmas.{has_from, in_from}
 use Rattle.be_span.proofs.retake.moved_round.Goals as goal

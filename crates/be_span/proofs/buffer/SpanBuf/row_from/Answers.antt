@@ -1,5 +1,5 @@
 -- A row of cells, as far as its span goes.
-use Rattle.std.proofs.Common.{◌≡◌, pos, ◌+ℤ◌, true, false, length, sym, ap, ◌∙◌, arith}
+use Rattle.std.proofs.Common.{◌≡◌, pos, ◌+ℤ◌, false, length, sym, ap, ◌∙◌, arith}
 use Rattle.std.proofs.lemmas.Bool.{true≢false}
 use Rattle.std.proofs.lemmas.Int.{to_z-of_z}
 use Rattle.be_facts.proofs.Numbers.{plus_zero}

@@ -1,14 +1,15 @@
 -- A row of the rectangle.
-use Rattle.std.proofs.Common.{ap, sym, subst, refl, ◌∙◌, pos, ◌+ℤ◌}
+use Rattle.std.proofs.Common.{ap, sym, subst, ◌∙◌, pos, ◌+ℤ◌}
 use Rattle.std.proofs.lemmas.Int.{to_z-of_z}
+use Rattle.be_span.specs.Runs.{HasRun}
 use Rattle.be_span.specs.Spans.{Spans, cell_in}
-use Rattle.be_span.proofs.CellLemmas.{StandAt, part_get, stood_cell}
 use Rattle.be_span.proofs.piece.Piece.row.Goals as goal
+
+pub row_in-requires-clause-run : goal.row_in-requires-clause-run
+row_in-requires-clause-run c =
+    simp (to_z-of_z, c.ranges.x, c.ranges.y) (subst (λ (s : Spans). HasRun s.rects c.args.x c.args.y c.args.count) (sym c.self.view_is) c.requires.run)
 
 pub returns-clause-cells : goal.returns-clause-cells
 returns-clause-cells c k less =
-    let stand = simp (to_z-of_z, c.ranges.x, c.ranges.y) at c.place_of-start.ensures.stand in
-    let stands = subst (λ (s : Spans). StandAt s.rects c.place_of-start.result c.args.x c.args.y c.args.count) (sym c.self.view_is) stand in
-    let read = stood_cell _ c.self.inside.cells c.place_of-start.result c.args.count c.args.x c.args.y k stands less in
-    ap (λ s. cell_in s (c.args.x +ℤ pos k) c.args.y) (sym c.self.view_is) ∙ read
-    ∙ sym (part_get c.self.inside.cells _ c.place_of-start.result c.args.count k refl less)
+    let cells = simp (to_z-of_z, c.ranges.x, c.ranges.y) at c.row_in.ensures.cells in
+    ap (λ s. cell_in s (c.args.x +ℤ pos k) c.args.y) (sym c.self.view_is) ∙ cells k less
